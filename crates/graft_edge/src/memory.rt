@@ -1,0 +1,42 @@
+//! Want of memory.
+
+ghost use Rattle.std.specs.Prelude.{◌≡◌, IfOk};
+
+use std::alloc::{AllocError, AllocFailed};
+use thiserror::Error;
+
+/// No memory was found. A call that answers this has changed nothing, unless it says otherwise.
+#[derive(Clone, Copy, Debug, PartialEq, Eq, Hash, Error)]
+#[error("no memory")]
+pub struct NoMemory;
+
+impl From<AllocError> for NoMemory {
+    fn from(_error: AllocError) -> NoMemory {
+        NoMemory
+    }
+}
+
+impl<T: Drop> From<AllocFailed<T>> for NoMemory {
+    fn from(_error: AllocFailed<T>) -> NoMemory {
+        NoMemory
+    }
+}
+
+/// What can be copied, where memory is found.
+pub trait TryCopy: Drop + Sized {
+    /// A value equal to its source, in memory of its own.
+    fn copy(&self) -> Result<Self, NoMemory>
+        ensures { IfOk result (λ copy. copy ≡ self.now) };
+}
+
+impl TryCopy for u8 {
+    fn copy(&self) -> Result<u8, NoMemory> {
+        Ok(*self)
+    }
+}
+
+impl TryCopy for u32 {
+    fn copy(&self) -> Result<u32, NoMemory> {
+        Ok(*self)
+    }
+}

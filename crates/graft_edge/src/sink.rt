@@ -1,0 +1,172 @@
+//! Where bytes go to.
+
+ghost use Rattle.std.specs.Prelude.{◌≡◌, ◌↔◌, ◌⊎◌, ◌<◌, ◌≤◌, ℕ, ◌+◌, ◌-◌, List, Option, Some, None, [], length, take, drop, min, IsTrue, IsErr, IfOk, OnOk, OnErr, ◌++◌, Ok, Err, is_err, if◌then◌else◌};
+ghost use Rattle.graft_edge.specs.Outside.{FaultRose, Appended, AppendedFront};
+
+use crate::calls::{Calls, next_count};
+use crate::memory::NoMemory;
+use crate::source::Failed;
+use std::alloc::Global;
+use std::io::Write;
+use std::marker::Model;
+
+/// Where bytes go to.
+pub trait Sink {
+    /// The bytes that were written, where the sink tells them.
+    ghost written: { Self → Option (List ℕ) };
+
+    /// How often it failed. It never falls.
+    ghost faults: { Self → ℕ };
+
+    /// Appends a front of the bytes, and answers its length, which is 0 for no bytes alone.
+    fn write(&mut self, bytes: &[u8]) -> Result<usize, Failed>
+        ensures steady { faults self.old ≤ faults self.new }
+        ensures within { IfOk result (λ n. n ≤ length bytes.now) }
+        ensures some { result ≡ Ok 0 → bytes.now ≡ [] }
+        ensures appended { IfOk result (λ n. Appended (written self.old) (written self.new) (take n bytes.now)) }
+
+        // A write fails only where the count of faults shows it, and then it appended nothing.
+        ensures failed { OnErr result (FaultRose (faults self.old) (faults self.new)) }
+        ensures unwritten { OnErr result (written self.new ≡ written self.old) };
+}
+
+/// Room in memory, which takes at most `step` bytes at a time.
+#[derive(Debug, Drop)]
+pub struct MemSink {
+    bytes: Vec<u8>,
+    taken: usize,
+    calls: Calls,
+}
+
+impl Model for MemSink {
+    ghost use Rattle.std.specs.Prelude.{take, length, ◌≤◌, ◌<◌};
+    ghost use Rattle.graft_edge.specs.Tapes.{SinkTape};
+
+    ghost Value = { SinkTape };
+
+    ghost view = { λ s. record { written = take s.taken s.bytes.items; room = length s.bytes.items; calls = s.calls } };
+
+    ghost invariant = { λ s. (s.taken ≤ length s.bytes.items) × (0 < s.calls.step) };
+}
+
+impl MemSink {
+    /// A sink with this much room, all of it taken here, that takes at most `step` bytes in one call,
+    /// and fails at the calls of these numbers, counted from 1.
+    pub fn new(alloc: Global, room: usize, step: usize, fails: &[u32]) -> Result<MemSink, NoMemory>
+        requires { 0 < step }
+        ensures { IfOk result (λ sink. sink
+            ≡ record { written = []; room = room; calls = record { next = 1; fails = fails.now; faults = 0; step = step } }) }
+    {
+        Ok(MemSink {
+            bytes: vec![in alloc; 0; room]?,
+            taken: 0,
+            calls: Calls::new(alloc, step, fails)?,
+        })
+    }
+
+    /// The bytes that were written.
+    pub fn written(&self) -> &[u8]
+        ensures { result.now ≡ self.now.written }
+    {
+        &self.bytes.as_slice()[..self.taken]
+    }
+}
+
+/// Copies a front of the bytes into the buffer from a place on, as many as fit, at most `step`, and
+/// answers how many.
+fn copy_into(bytes: &[u8], step: usize, buf: &mut [u8], at: usize) -> usize
+    requires { at ≤ length buf.old }
+    ensures count { result ≡ min step (min (length buf.new - at) (length bytes.now)) }
+    ensures written { take (at + result) buf.new ≡ take at buf.old ++ take result bytes.now }
+{
+    let n = step.min((buf.len() - at).min(bytes.len()));
+    buf[at..at + n].copy_from_slice(&bytes[..n]);
+    n
+}
+
+impl Sink for MemSink {
+    ghost use Rattle.graft_edge.specs.Tapes.{fails_next, faulted, called};
+
+    ghost written = { λ s. Some s.written };
+
+    ghost faults = { λ s. s.calls.faults };
+
+    fn write(&mut self, bytes: &[u8]) -> Result<usize, Failed>
+        ensures steady { self.old.calls.faults ≤ self.new.calls.faults }
+        ensures within { IfOk result (λ n. n ≤ length bytes.now) }
+        ensures some { result ≡ Ok 0 → bytes.now ≡ [] }
+        ensures appended { IfOk result (λ n. Appended (Some self.old.written) (Some self.new.written) (take n bytes.now)) }
+        ensures failed { OnErr result (FaultRose self.old.calls.faults self.new.calls.faults) }
+        ensures unwritten { OnErr result (◌≡◌ {A = Option (List ℕ)} (Some self.new.written) (Some self.old.written)) }
+
+        // It fails exactly at the calls that are to fail, and at bytes for which there is no room, and else takes all that it may.
+        ensures fails { IsErr result ↔ (IsTrue (fails_next self.old.calls)
+            ⊎ ((self.old.room ≡ length self.old.written) × (0 < length bytes.now))) }
+        ensures takes { IfOk result (λ n. n
+            ≡ min self.old.calls.step (min (self.old.room - length self.old.written) (length bytes.now))) }
+        ensures room { self.new.room ≡ self.old.room }
+        ensures counted { self.new.calls ≡ (if is_err result then faulted (called self.old.calls) else called self.old.calls) }
+    {
+        if !self.calls.begin() {
+            return Err(Failed);
+        }
+        if self.taken == self.bytes.len() && !bytes.is_empty() {
+            self.calls.fault();
+            return Err(Failed);
+        }
+        let n = copy_into(
+            bytes,
+            self.calls.step,
+            self.bytes.as_mut_slice(),
+            self.taken,
+        );
+        self.taken += n;
+        Ok(n)
+    }
+}
+
+/// A writer of std's as a sink. It tells nothing of what was written.
+#[derive(Debug, Drop)]
+pub struct StdSink<W> {
+    writer: W,
+    faults: u64,
+}
+
+impl<W: Write> StdSink<W> {
+    pub fn new(writer: W) -> StdSink<W> {
+        StdSink { writer, faults: 0 }
+    }
+}
+
+impl<W: Write> Sink for StdSink<W> {
+    ghost written = { λ _. None };
+
+    ghost faults = { λ s. s.faults };
+
+    /// A writer that takes nothing of some bytes has failed.
+    fn write(&mut self, bytes: &[u8]) -> Result<usize, Failed> {
+        match self.writer.write(bytes) {
+            Ok(n) if n > 0 || bytes.is_empty() => Ok(n),
+            _ => {
+                self.faults = next_count(self.faults);
+                Err(Failed)
+            }
+        }
+    }
+}
+
+/// Writes all of the bytes, in as many calls as it takes.
+pub fn write_all<K: Sink>(sink: &mut K, bytes: &[u8]) -> Result<(), Failed>
+    ensures steady { K.faults sink.old ≤ K.faults sink.new }
+    ensures ok { OnOk result (Appended (K.written sink.old) (K.written sink.new) bytes.now) }
+
+    // It fails only where a write did, and then a front of the bytes was appended.
+    ensures failed { OnErr result (FaultRose (K.faults sink.old) (K.faults sink.new)) }
+    ensures front { OnErr result (AppendedFront (K.written sink.old) (K.written sink.new) bytes.now) }
+{
+    let mut at = 0;
+    while at < bytes.len() {
+        at += sink.write(&bytes[at..])?;
+    }
+    Ok(())
+}

@@ -1,0 +1,194 @@
+//! Where bytes come from.
+
+ghost use Rattle.std.specs.Prelude.{◌≡◌, ◌↔◌, ◌<◌, ◌≤◌, ℕ, ◌+◌, List, Option, Some, None, [], length, take, drop, min, IsTrue, IsErr, IfOk, IfErr, OnErr, ◌≢◌, Ok, Err, if◌then◌else◌};
+ghost use Rattle.graft_edge.specs.Outside.{FaultRose, Took, IsAtEnd, TookSome};
+
+use crate::calls::{Calls, next_count};
+use crate::items::{Items, Octets};
+use crate::memory::NoMemory;
+use std::alloc::Global;
+use std::io::Read;
+use std::marker::Model;
+use thiserror::Error;
+
+/// A read or a write failed.
+#[derive(Clone, Copy, Debug, PartialEq, Eq, Hash, Error)]
+#[error("input or output failed")]
+pub struct Failed;
+
+/// Where bytes come from.
+pub trait Source {
+    /// The bytes that weren't read yet, where the source tells them.
+    ghost left: { Self → Option (List ℕ) };
+
+    /// How often it failed. It never falls.
+    ghost faults: { Self → ℕ };
+
+    /// Fills the front of the buffer, and answers how many bytes it gave. 0 is the end of input,
+    /// where the buffer isn't empty.
+    fn read(&mut self, buf: &mut [u8]) -> Result<usize, Failed>
+        ensures steady { faults self.old ≤ faults self.new }
+
+        // The bytes that are given were the first of those that were left.
+        ensures within { IfOk result (λ n. n ≤ length buf.new) }
+        ensures took { IfOk result (λ n. Took (left self.old) (left self.new) (take n buf.new)) }
+        ensures end { result ≡ Ok 0 → 0 < length buf.new → IsAtEnd (left self.new) }
+
+        // A read fails only where the count of faults shows it, and then it took nothing.
+        ensures failed { OnErr result (FaultRose (faults self.old) (faults self.new)) }
+        ensures unread { OnErr result (left self.new ≡ left self.old) };
+}
+
+/// Bytes in memory, which are given at most `step` at a time.
+#[derive(Debug, Drop)]
+pub struct MemSource {
+    bytes: Octets,
+    at: usize,
+    calls: Calls,
+}
+
+impl Model for MemSource {
+    ghost use Rattle.std.specs.Prelude.{drop, length, ◌≤◌, ◌<◌};
+    ghost use Rattle.graft_edge.specs.Tapes.{SourceTape};
+
+    ghost Value = { SourceTape };
+
+    ghost view = { λ s. record { left = drop s.at s.bytes; calls = s.calls } };
+
+    ghost invariant = { λ s. (s.at ≤ length s.bytes) × (0 < s.calls.step) };
+}
+
+impl MemSource {
+    ghost use Rattle.std.specs.Prelude.{◌≡◌, ◌<◌, IfOk};
+
+    /// A source of these bytes that gives at most `step` of them in one call, and fails at the calls
+    /// of these numbers, counted from 1.
+    pub fn new(
+        alloc: Global,
+        bytes: &[u8],
+        step: usize,
+        fails: &[u32],
+    ) -> Result<MemSource, NoMemory>
+        requires { 0 < step }
+        ensures { IfOk result (λ source. source
+            ≡ record { left = bytes.now; calls = record { next = 1; fails = fails.now; faults = 0; step = step } }) }
+    {
+        Ok(MemSource {
+            bytes: Items::from_slice(alloc, bytes)?,
+            at: 0,
+            calls: Calls::new(alloc, step, fails)?,
+        })
+    }
+}
+
+/// Copies bytes to the front of a buffer, as many as fit, at most `step`, and answers how many.
+fn copy_front(bytes: &[u8], step: usize, buf: &mut [u8]) -> usize
+    ensures count { result ≡ min step (min (length buf.new) (length bytes.now)) }
+    ensures front { take result buf.new ≡ take result bytes.now }
+{
+    let n = step.min(buf.len().min(bytes.len()));
+    buf[..n].copy_from_slice(&bytes[..n]);
+    n
+}
+
+impl Source for MemSource {
+    ghost use Rattle.graft_edge.specs.Tapes.{fails_next, faulted, called};
+
+    ghost left = { λ s. Some s.left };
+
+    ghost faults = { λ s. s.calls.faults };
+
+    fn read(&mut self, buf: &mut [u8]) -> Result<usize, Failed>
+        ensures steady { self.old.calls.faults ≤ self.new.calls.faults }
+        ensures within { IfOk result (λ n. n ≤ length buf.new) }
+        ensures took { IfOk result (λ n. Took (Some self.old.left) (Some self.new.left) (take n buf.new)) }
+        ensures end { result ≡ Ok 0 → 0 < length buf.new → IsAtEnd (Some self.new.left) }
+        ensures failed { OnErr result (FaultRose self.old.calls.faults self.new.calls.faults) }
+        ensures unread { OnErr result (◌≡◌ {A = Option (List ℕ)} (Some self.new.left) (Some self.old.left)) }
+
+        // It fails exactly at the calls that are to fail, and else gives all that it may.
+        ensures fails { IsErr result ↔ IsTrue (fails_next self.old.calls) }
+        ensures gives { IfOk result (λ n. n ≡ min self.old.calls.step (min (length buf.new) (length self.old.left))) }
+        ensures counted { self.new.calls
+            ≡ (if fails_next self.old.calls then faulted (called self.old.calls) else called self.old.calls) }
+    {
+        if !self.calls.begin() {
+            return Err(Failed);
+        }
+        let n = copy_front(&self.bytes.as_slice()[self.at..], self.calls.step, buf);
+        self.at += n;
+        Ok(n)
+    }
+}
+
+/// A reader of std's as a source. It tells nothing of what it gives.
+#[derive(Debug, Drop)]
+pub struct StdSource<R> {
+    reader: R,
+    faults: u64,
+}
+
+impl<R: Read> StdSource<R> {
+    pub fn new(reader: R) -> StdSource<R> {
+        StdSource { reader, faults: 0 }
+    }
+}
+
+impl<R: Read> Source for StdSource<R> {
+    ghost left = { λ _. None };
+
+    ghost faults = { λ s. s.faults };
+
+    fn read(&mut self, buf: &mut [u8]) -> Result<usize, Failed> {
+        match self.reader.read(buf) {
+            Ok(n) => Ok(n),
+            Err(_) => {
+                self.faults = next_count(self.faults);
+                Err(Failed)
+            }
+        }
+    }
+}
+
+/// Why not all of a source was read.
+#[derive(Clone, Copy, Debug, PartialEq, Eq, Hash, Error)]
+pub enum ReadStop {
+    #[error("a read failed")]
+    Failed,
+    #[error("the input is too long")]
+    TooLong,
+    #[error("no memory")]
+    NoMemory,
+}
+
+/// Reads a source to its end, at most so many bytes of it. It reads at most `most + 2` times.
+pub fn read_all<S: Source>(alloc: Global, source: &mut S, most: usize) -> Result<Octets, ReadStop>
+    ensures steady { S.faults source.old ≤ S.faults source.new }
+
+    // All bytes that were taken are given, and none is left.
+    ensures whole { IfOk result (λ bytes. Took (S.left source.old) (S.left source.new) bytes) }
+    ensures end { IfOk result (λ bytes. (length bytes ≤ most) × IsAtEnd (S.left source.new)) }
+    ensures failed { result ≡ Err ReadStop.Failed → FaultRose (S.faults source.old) (S.faults source.new) }
+
+    // More bytes than that were taken exactly where it is so answered.
+    ensures too_long { result ≡ Err ReadStop.TooLong → TookSome (S.left source.old) (S.left source.new) (λ n. most < n) }
+    ensures stopped { IfErr result (λ stop. stop ≢ ReadStop.TooLong → TookSome (S.left source.old) (S.left source.new) (λ n. n ≤ most)) }
+{
+    let mut bytes = Octets::new(alloc);
+    let mut buf = [0u8; 4096];
+    loop {
+        let n = match source.read(&mut buf) {
+            Ok(n) => n,
+            Err(_) => return Err(ReadStop::Failed),
+        };
+        if n == 0 {
+            return Ok(bytes);
+        }
+        if n > most - bytes.len() {
+            return Err(ReadStop::TooLong);
+        }
+        if bytes.extend(&buf[..n]).is_err() {
+            return Err(ReadStop::NoMemory);
+        }
+    }
+}

@@ -1,0 +1,66 @@
+//! The words of a command.
+
+ghost use Rattle.std.specs.Prelude.{◌≡◌, ◌<◌, ◌↔◌, ◌++◌, ◌∷◌, [], length, IsTrue, OnOk, OnErr, slice_get, Some};
+
+use crate::items::Items;
+use crate::memory::NoMemory;
+use crate::name::Name;
+use std::alloc::Global;
+use std::marker::Model;
+
+/// The words of a command, in order. Contracts see the list of their bytes.
+#[derive(Debug, Drop)]
+pub struct Words {
+    words: Items<Name>,
+    alloc: Global,
+}
+
+impl Model for Words {
+    ghost use Rattle.std.specs.Prelude.{ℕ, List};
+
+    ghost Value = { List (List ℕ) };
+
+    ghost view = { λ words. words.words };
+}
+
+impl Words {
+    /// No words yet.
+    pub fn new(alloc: Global) -> Words
+        ensures { result ≡ [] }
+    {
+        Words {
+            words: Items::new(alloc),
+            alloc,
+        }
+    }
+
+    /// Adds a word at the end.
+    pub fn push(&mut self, word: &str) -> Result<(), NoMemory>
+        ensures ok { OnOk result (self.new ≡ self.old ++ word.now ∷ []) }
+        ensures err { OnErr result (self.new ≡ self.old) }
+    {
+        let word = Name::from_text(self.alloc, word)?;
+        self.words.push(word)
+    }
+
+    /// How many words there are.
+    pub fn len(&self) -> usize
+        ensures { result ≡ length self.now }
+    {
+        self.words.len()
+    }
+
+    pub fn is_empty(&self) -> bool
+        ensures { IsTrue result ↔ (self.now ≡ []) }
+    {
+        self.words.is_empty()
+    }
+
+    /// The word at a place, counted from 0.
+    pub fn get(&self, k: usize) -> &str
+        requires { k < length self.now }
+        ensures { slice_get self.now k ≡ Some result.now }
+    {
+        self.words.as_slice()[k].as_str()
+    }
+}
