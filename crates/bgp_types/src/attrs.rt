@@ -1,0 +1,83 @@
+//! Path attributes and routes (RFC 4271, sections 4.3 and 5).
+
+use crate::path::AsPath;
+use graft_edge::{Items, NoMemory, Octets, TryCopy};
+
+/// How a route came into BGP.
+#[derive(Clone, Copy, Debug, PartialEq, Eq, PartialOrd, Ord, Hash)]
+pub enum Origin {
+    Igp,
+    Egp,
+    Incomplete,
+}
+
+/// The speaker that formed an aggregate.
+#[derive(Clone, Copy, Debug, PartialEq, Eq, Hash)]
+pub struct Aggregator {
+    pub as_number: u32,
+    pub address: u32,
+    pub partial: bool,
+}
+
+/// An optional transitive attribute of a type that isn't known here, which passes on.
+#[derive(Debug, Drop)]
+pub struct RawAttr {
+    pub kind: u8,
+    pub partial: bool,
+    pub bytes: Octets,
+}
+
+/// Attributes of unknown types, in rising type.
+pub type RawAttrs = Items<RawAttr>;
+
+/// The attributes of a route as BGP tells it.
+#[derive(Debug, Drop)]
+pub struct Attrs {
+    pub origin: Origin,
+    pub path: AsPath,
+    pub next_hop: u32,
+    pub med: Option<u32>,
+    pub atomic: bool,
+    pub aggregator: Option<Aggregator>,
+    pub unknown: RawAttrs,
+}
+
+/// A route to a prefix, with its degree of preference.
+#[derive(Debug, Drop)]
+pub struct Route {
+    pub attrs: Attrs,
+    pub pref: u32,
+}
+
+impl TryCopy for RawAttr {
+    fn copy(&self) -> Result<RawAttr, NoMemory> {
+        Ok(RawAttr {
+            kind: self.kind,
+            partial: self.partial,
+            bytes: self.bytes.copy()?,
+        })
+    }
+}
+
+impl TryCopy for Attrs {
+    fn copy(&self) -> Result<Attrs, NoMemory> {
+        Ok(Attrs {
+            origin: self.origin,
+            path: self.path.copy()?,
+            next_hop: self.next_hop,
+            med: self.med,
+            atomic: self.atomic,
+            aggregator: self.aggregator,
+            unknown: self.unknown.copy()?,
+        })
+    }
+}
+
+impl TryCopy for Route {
+    fn copy(&self) -> Result<Route, NoMemory> {
+        Ok(Route {
+            attrs: self.attrs.copy()?,
+            pref: self.pref,
+        })
+    }
+}

@@ -1,0 +1,16 @@
+//! The values of BGP that the whole laboratory speaks of: prefixes, paths, attributes, routes and
+//! messages (RFC 4271, section 4).
+#![tactic(auto)]
+
+mod attrs;
+mod message;
+mod path;
+mod prefix;
+mod rank;
+
+pub use attrs::{Aggregator, Attrs, Origin, RawAttr, RawAttrs, Route};
+pub use graft_edge::{Items, Name, NoMemory, Octets, PeeringId, RouterId, TryCopy};
+pub use message::{Cap, Caps, Message, Notice, OpenMsg, SessionState, Update};
+pub use path::{AsList, AsPath, PathPart, holds_as, neighbour, path_len};
+pub use prefix::{Prefix, PrefixList};
+pub use rank::{From, Rank};

@@ -1,0 +1,84 @@
+//! AS paths (RFC 4271, section 4.3).
+
+ghost use Rattle.std.specs.Prelude.{◌≡◌, ◌↔◌, ◌-◌, ◌^◌, min, IsTrue, Contains};
+ghost use Rattle.bgp_types.specs.Paths.{part_count, path_count, neighbour_of, ases_of, HoldsAs};
+
+use graft_edge::{Items, NoMemory, TryCopy};
+
+/// A list of AS numbers.
+pub type AsList = Items<u32>;
+
+/// A part of a path: ASes in no order, or in the order in which a route passed them, the last one
+/// first. A part has 1 to 255 ASes.
+#[derive(Debug, Drop)]
+pub enum PathPart {
+    Set(AsList),
+    Sequence(AsList),
+}
+
+/// The path of a route: its parts, the last one that it passed first.
+pub type AsPath = Items<PathPart>;
+
+impl TryCopy for PathPart {
+    fn copy(&self) -> Result<PathPart, NoMemory> {
+        match self {
+            PathPart::Set(ases) => Ok(PathPart::Set(ases.copy()?)),
+            PathPart::Sequence(ases) => Ok(PathPart::Sequence(ases.copy()?)),
+        }
+    }
+}
+
+/// How many ASes a part counts as.
+fn part_len(part: &PathPart) -> u32
+    ensures { result ≡ min (part_count part.now) (2 ^ 32 - 1) }
+{
+    match part {
+        PathPart::Set(_) => 1,
+        PathPart::Sequence(ases) => u32::try_from(ases.len()).unwrap_or(u32::MAX),
+    }
+}
+
+/// How many ASes a path counts as: each of a sequence, and one for a set (RFC 4271, section
+/// 9.1.2.2). A count above 2^32 - 1 is given as that number.
+pub fn path_len(path: &AsPath) -> u32
+    ensures { result ≡ min (path_count path.now) (2 ^ 32 - 1) }
+{
+    let parts = path.as_slice();
+    let mut count = 0u32;
+    for part in parts {
+        count = count.saturating_add(part_len(part));
+    }
+    count
+}
+
+/// The neighbour AS of a route with this path: the first AS of a leading sequence, else the home AS.
+pub fn neighbour(path: &AsPath, home_as: u32) -> u32
+    ensures { result ≡ neighbour_of path.now home_as }
+{
+    match path.as_slice() {
+        [PathPart::Sequence(ases), ..] => match ases.as_slice() {
+            [as_number, ..] => *as_number,
+            [] => home_as,
+        },
+        _ => home_as,
+    }
+}
+
+/// Whether a part has an AS.
+fn part_holds(part: &PathPart, as_number: u32) -> bool
+    ensures { IsTrue result ↔ Contains (ases_of part.now) as_number }
+{
+    match part {
+        PathPart::Set(ases) => ases.as_slice().contains(&as_number),
+        PathPart::Sequence(ases) => ases.as_slice().contains(&as_number),
+    }
+}
+
+/// Whether an AS stands in a path.
+pub fn holds_as(path: &AsPath, as_number: u32) -> bool
+    ensures { IsTrue result ↔ HoldsAs path.now as_number }
+{
+    path.as_slice()
+        .iter()
+        .any(|part| part_holds(part, as_number))
+}
