@@ -7,6 +7,7 @@ mod message;
 mod path;
 mod prefix;
 mod rank;
+mod text;
 
 pub use attrs::{Aggregator, Attrs, Origin, RawAttr, RawAttrs, Route};
 pub use graft_edge::{Items, Name, NoMemory, Octets, PeeringId, RouterId, TryCopy};
@@ -14,3 +15,4 @@ pub use message::{Cap, Caps, Message, Notice, OpenMsg, SessionState, Update};
 pub use path::{AsList, AsPath, PathPart, holds_as, neighbour, path_len};
 pub use prefix::{Prefix, PrefixList};
 pub use rank::{From, Rank};
+pub use text::{is_host, read_address, read_prefix};

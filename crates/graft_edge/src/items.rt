@@ -68,6 +68,15 @@ impl<T> Items<T> {
 }
 
 impl<T: Drop> Items<T> {
+    /// The list of one value.
+    pub fn one(alloc: Global, value: T) -> Result<Items<T>, NoMemory>
+        ensures { IfOk result (λ list. list ≡ value ∷ []) }
+    {
+        let mut list = Items::new(alloc);
+        list.push(value)?;
+        Ok(list)
+    }
+
     /// Adds a value at the end.
     pub fn push(&mut self, value: T) -> Result<(), NoMemory>
         ensures ok { OnOk result (self.new ≡ self.old ++ value ∷ []) }

@@ -1,0 +1,74 @@
+//! Addresses and prefixes as texts.
+
+ghost use Rattle.std.specs.Prelude.{◌≡◌, ◌↔◌, IsTrue, Some, MatchOption};
+ghost use Rattle.bgp_types.specs.Finds.{Finds};
+ghost use Rattle.bgp_types.specs.Prefixes.{IsPrefix};
+ghost use Rattle.bgp_types.specs.Texts.{IsAddressText, IsPrefixText, IsLengthText, IsHost, BeginsPlainly, prefix_text};
+
+use crate::prefix::Prefix;
+use std::fmt;
+use std::net::Ipv4Addr;
+
+/// Reads an address: four decimals of 0 to 255 without leading zeros, joined by dots.
+pub fn read_address(text: &str) -> Option<u32>
+    ensures { Finds (IsAddressText text.now) result }
+{
+    match text.parse::<Ipv4Addr>() {
+        Ok(address) => Some(address.to_bits()),
+        Err(_) => None,
+    }
+}
+
+/// Whether a host may have the address: it isn't 0.0.0.0, and its first octet is below 224.
+pub fn is_host(address: u32) -> bool
+    ensures { IsTrue result ↔ IsHost address }
+{
+    address != 0 && address < 0xE000_0000
+}
+
+/// Whether a text begins as a decimal without a sign or leading zeros does.
+fn begins_plainly(text: &str) -> bool
+    ensures { IsTrue result ↔ BeginsPlainly text.now }
+{
+    match text.as_bytes() {
+        [b'0'] => true,
+        [first, ..] => (b'1'..=b'9').contains(first),
+        [] => false,
+    }
+}
+
+/// Reads the length of a prefix: a decimal of 0 to 32 without a sign or leading zeros.
+fn read_length(text: &str) -> Option<u8>
+    ensures { Finds (IsLengthText text.now) result }
+{
+    match text.parse::<u8>() {
+        Ok(len) if len <= 32 && begins_plainly(text) => Some(len),
+        _ => None,
+    }
+}
+
+/// Reads a prefix: an address, a slash and a length. The address' bits past the length are cleared.
+pub fn read_prefix(text: &str) -> Option<Prefix>
+    ensures { Finds (IsPrefixText text.now) result }
+{
+    let Some((address, len)) = text.split_once('/') else {
+        return None;
+    };
+    let Some(address) = read_address(address) else {
+        return None;
+    };
+    let Some(len) = read_length(len) else {
+        return None;
+    };
+    Prefix::new(address, len)
+}
+
+impl fmt::Display for Prefix {
+    ghost output = { λ p. Some (prefix_text p) };
+
+    fn fmt<W: fmt::Write>(&self, f: &mut fmt::Formatter<W>) -> fmt::Result {
+        let address = Ipv4Addr::from_bits(self.address());
+        let len = self.len();
+        write!(f, "{address}/{len}")
+    }
+}

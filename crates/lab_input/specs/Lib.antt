@@ -1,0 +1,4 @@
+pub mod Documents
+pub mod Fields
+pub mod Labs
+pub mod Tables

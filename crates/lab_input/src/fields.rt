@@ -1,0 +1,104 @@
+//! What stands at a key of a table.
+
+ghost use Rattle.std.specs.Prelude.{◌≡◌, ◌≤◌, ◌<◌, ◌^◌, ◌↔◌, [], ◌∷◌, ℕ, List, Some, not, option_map, IsTrue, IsNone, map, string_bytes};
+ghost use Rattle.std.specs.List.{list_any, list_all};
+ghost use Rattle.std.specs.BTreeMap.{keys};
+ghost use Rattle.toml.specs.Data.{get_member, array, item, no_items, table as data_table};
+ghost use Rattle.toml.specs.View.{view, table_view};
+ghost use Rattle.bgp_types.specs.Finds.{Finds};
+ghost use Rattle.lab_input.specs.Fields.{TextAt, NumberAt, NameAt, HostAt, NamedAt, PrefixesAt, TableAt, HasOnly, IsName, is_name_char as is_name_char_lem};
+
+use bgp_types::{Prefix, is_host, read_address, read_prefix};
+use toml::{Table, Value};
+
+fn is_name_char(c: u8) -> bool
+    ensures { result ≡ is_name_char_lem c }
+{
+    c.is_ascii_lowercase() || c.is_ascii_digit() || c == b'-'
+}
+
+/// Whether a text is a name.
+pub(crate) fn is_name(text: &str) -> bool
+    ensures { IsTrue result ↔ IsName text.now }
+{
+    let bytes = text.as_bytes();
+    match bytes {
+        [first, ..] => {
+            bytes.len() <= 16
+                && first.is_ascii_lowercase()
+                && bytes.iter().all(|c| is_name_char(*c))
+        }
+        [] => false,
+    }
+}
+
+/// The value at a key.
+fn value_at<'a>(table: &'a Table, key: &str) -> Option<&'a Value>
+    ensures { option_map (λ v. view v.now) result ≡ get_member key.now (table_view table.now) }
+{
+    table.get(key)
+}
+
+/// The text at a key.
+pub(crate) fn text_at<'a>(table: &'a Table, key: &str) -> Option<&'a str>
+    ensures { Finds (TextAt (table_view table.now) key.now) (option_map (λ text. text.now) result) }
+{
+    value_at(table, key)?.as_str()
+}
+
+/// The number from low to high at a key.
+pub(crate) fn number_at(table: &Table, key: &str, low: u32, high: u32) -> Option<u32>
+    ensures { Finds (NumberAt (table_view table.now) key.now low high) result }
+{
+    match value_at(table, key) {
+        Some(Value::Integer(n)) if i64::from(low) <= *n && *n <= i64::from(high) => Some(*n as u32),
+        _ => None,
+    }
+}
+
+/// The name at a key.
+pub(crate) fn name_at<'a>(table: &'a Table, key: &str) -> Option<&'a str>
+    ensures { Finds (NameAt (table_view table.now) key.now) (option_map (λ text. text.now) result) }
+{
+    let text = text_at(table, key)?;
+    if is_name(text) { Some(text) } else { None }
+}
+
+/// The address of a host at a key.
+pub(crate) fn host_at(table: &Table, key: &str) -> Option<u32>
+    ensures { Finds (HostAt (table_view table.now) key.now) result }
+{
+    let address = read_address(text_at(table, key)?)?;
+    if is_host(address) { Some(address) } else { None }
+}
+
+/// Whether the text at a key is this name.
+pub(crate) fn is_named_at(table: &Table, key: &str, name: &str) -> bool
+    ensures { IsTrue result ↔ NamedAt (table_view table.now) key.now (name.now ∷ []) 0 }
+{
+    match text_at(table, key) {
+        Some(text) => text == name,
+        None => false,
+    }
+}
+
+/// The one prefix of the array at a key.
+pub(crate) fn prefix_at(table: &Table, key: &str) -> Option<Prefix>
+    ensures { Finds (λ p. PrefixesAt (table_view table.now) key.now (p ∷ [])) result }
+{
+    match value_at(table, key)?.as_array()?.as_slice() {
+        [value] => read_prefix(value.as_str()?),
+        _ => None,
+    }
+}
+
+/// The one table of the array at a key.
+pub(crate) fn table_at<'a>(table: &'a Table, key: &str) -> Option<&'a Table>
+    ensures { Finds (λ t. get_member key.now (table_view table.now) ≡ Some (array (item (data_table t) no_items)))
+        (option_map (λ t. table_view t.now) result) }
+{
+    match value_at(table, key)?.as_array()?.as_slice() {
+        [value] => value.as_table(),
+        _ => None,
+    }
+}
