@@ -1,4 +1,10 @@
 pub mod Finds
+pub mod Lengths
+pub mod PathOctets
 pub mod Paths
 pub mod Prefixes
+pub mod Rising
+pub mod Spelling
 pub mod Texts
+pub mod WireAttrs
+pub mod Writable

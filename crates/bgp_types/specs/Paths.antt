@@ -1,5 +1,5 @@
 -- AS paths (RFC 4271, section 4.3).
-use Rattle.std.specs.Prelude.{ℕ, ◌+◌, List, [], ◌∷◌, length, sum_by, Any, Contains}
+use Rattle.std.specs.Prelude.{ℕ, List, ◌∷◌, length, sum_by, Any, Contains}
 use Rattle.bgp_types.specs.declared.path.PathPart.{PathPart}
 use Rattle.bgp_types.specs.declared.path.PathPart.TheVariants.{Set, Sequence}
 

@@ -1,5 +1,6 @@
 -- Prefixes of addresses (RFC 4271, section 4.3).
-use Rattle.std.specs.Prelude.{◌≡◌, ℕ, ◌-◌, ◌*◌, ◌/◌, ◌^◌, ◌<◌, ◌≤◌}
+use Rattle.std.specs.Prelude.{◌≡◌, ℕ, ◌+◌, ◌-◌, ◌*◌, ◌/◌, ◌^◌, ◌<◌, ◌≤◌, List, ◌∷◌, take}
+use Rattle.std.specs.Int.{w32, to_be_bytes}
 
 -- a prefix as contracts see it: its first address, and how many leading bits its addresses share
 pub record PrefixValue : Type 0 where
@@ -24,3 +25,11 @@ pub record IsPrefix (p : PrefixValue) : Type 0 where
 pub record Covers (p q : PrefixValue) : Type 0 where
   pub shorter : p.len ≤ q.len
   pub front : cleared p.len q.address ≡ p.address
+
+-- how many octets hold so many bits
+abbrev pub octets_for : ℕ → ℕ
+octets_for len = (len + 7) / 8
+
+-- a prefix as it is written: its length, and the fewest octets that hold so many bits
+abbrev pub prefix_octets : PrefixValue → List ℕ
+prefix_octets p = p.len ∷ take (octets_for p.len) (to_be_bytes w32 p.address)

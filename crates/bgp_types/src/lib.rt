@@ -3,6 +3,7 @@
 #![tactic(auto)]
 
 mod attrs;
+mod length;
 mod message;
 mod path;
 mod prefix;
@@ -11,8 +12,12 @@ mod text;
 
 pub use attrs::{Aggregator, Attrs, Origin, RawAttr, RawAttrs, Route};
 pub use graft_edge::{Items, Name, NoMemory, Octets, PeeringId, RouterId, TryCopy};
+pub use length::message_len;
 pub use message::{Cap, Caps, Message, Notice, OpenMsg, SessionState, Update};
 pub use path::{AsList, AsPath, PathPart, holds_as, neighbour, path_len};
 pub use prefix::{Prefix, PrefixList};
 pub use rank::{From, Rank};
 pub use text::{is_host, read_address, read_prefix};
+
+#[cfg(test)]
+mod tests;

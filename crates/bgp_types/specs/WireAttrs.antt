@@ -1,0 +1,24 @@
+-- An attribute as it stands in its field: flags, type, a length of one octet or of two, and so many
+-- octets (RFC 4271, section 4.3).
+use Rattle.std.specs.Prelude.{ℕ, ◌+◌, ◌==◌, List, ◌∷◌, ◌++◌, length, bit_and, nat_lt, if◌then◌else◌}
+use Rattle.std.specs.Int.{Width, w8, w16, to_be_bytes}
+
+pub record WireAttr : Type 0 where
+  pub flags : ℕ
+  pub kind : ℕ
+  pub value : List ℕ
+
+abbrev pub wire_kind : WireAttr → ℕ
+wire_kind a = a.kind
+
+-- the flag 10 (hexadecimal), extended length, makes the length two octets
+abbrev pub size_width : ℕ → Width
+size_width flags = if bit_and flags 16 == 0 then w8 else w16
+
+-- the octets of the attribute
+abbrev pub attr_octets : WireAttr → List ℕ
+attr_octets a = a.flags ∷ a.kind ∷ to_be_bytes (size_width a.flags) (length a.value) ++ a.value
+
+-- as it is written: extended length only where the value has more than 255 octets
+abbrev pub written : ℕ → ℕ → List ℕ → WireAttr
+written flags kind value = record { flags = if nat_lt 255 (length value) then flags + 16 else flags; kind = kind; value = value }

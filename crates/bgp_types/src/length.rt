@@ -1,0 +1,234 @@
+//! How many octets a message is written in (RFC 4271, section 4; RFC 6793, section 4).
+
+ghost use Rattle.std.specs.Prelude.{◌≡◌, ◌+◌, ◌-◌, ◌*◌, ◌^◌, length, min, sum_by, if◌then◌else◌};
+ghost use Rattle.std.specs.List.{list_any};
+ghost use Rattle.bgp_types.specs.Lengths.{prefix_size, part_size, cap_size, attr_size_of, attrs_size};
+ghost use Rattle.bgp_types.specs.PathOctets.{has_long_as, is_long_as};
+ghost use Rattle.bgp_types.specs.Paths.{ases_of};
+ghost use Rattle.bgp_types.specs.Spelling.{med_written, atomic_written, aggregator_written, as4_path_written, as4_aggregator_written, spell, spell_attrs, spell_some_attrs, spell_update};
+
+use crate::attrs::{Aggregator, Attrs, RawAttr};
+use crate::message::{Cap, Message, Update};
+use crate::path::PathPart;
+use crate::prefix::Prefix;
+
+/// The octets of a header.
+const HEADER: usize = 19;
+
+/// The octets of an OPEN from its version to the length of its parameters.
+const OPEN_FIELDS: usize = 10;
+
+/// The octets of an ORIGIN and of a NEXT_HOP.
+const ORIGIN_AND_NEXT_HOP: usize = 11;
+
+/// The octets of a MULTI_EXIT_DISC.
+const MED: usize = 7;
+
+/// The octets of an ATOMIC_AGGREGATE.
+const ATOMIC: usize = 3;
+
+/// The octets of an AGGREGATOR with an AS of four octets, and of an AS4_AGGREGATOR.
+const LONG_AGGREGATOR: usize = 11;
+
+/// The octets of an AGGREGATOR with an AS of two octets.
+const SHORT_AGGREGATOR: usize = 9;
+
+/// The greatest AS that two octets hold.
+const LAST_SHORT_AS: u32 = 65535;
+
+fn prefix_len(prefix: &Prefix) -> usize
+    ensures { result ≡ prefix_size prefix.now }
+{
+    let bits = prefix.len();
+    1 + usize::from(bits).div_ceil(8)
+}
+
+fn prefixes_len(prefixes: &[Prefix]) -> usize
+    ensures { result ≡ min (sum_by prefix_size prefixes.now) (2 ^ 64 - 1) }
+{
+    let mut octets = 0usize;
+    for prefix in prefixes {
+        octets = octets.saturating_add(prefix_len(prefix));
+    }
+    octets
+}
+
+/// How many ASes a part has.
+fn ases_in(part: &PathPart) -> usize
+    ensures { result ≡ length (ases_of part.now) }
+{
+    match part {
+        PathPart::Set(ases) => ases.len(),
+        PathPart::Sequence(ases) => ases.len(),
+    }
+}
+
+/// The octets of an AS.
+fn as_width(wide: bool) -> usize
+    ensures { result ≡ (if wide then 4 else 2) }
+{
+    if wide { 4 } else { 2 }
+}
+
+/// A part of a path: its kind, its count, and its ASes.
+#[tactic(auto, using(crate::proofs::Lengths::part_size_is))]
+fn part_len(part: &PathPart, wide: bool) -> usize
+    ensures { result ≡ min (part_size wide part.now) (2 ^ 64 - 1) }
+{
+    ases_in(part)
+        .saturating_mul(as_width(wide))
+        .saturating_add(2)
+}
+
+fn parts_len(parts: &[PathPart], wide: bool) -> usize
+    ensures { result ≡ min (sum_by (part_size wide) parts.now) (2 ^ 64 - 1) }
+{
+    let mut octets = 0usize;
+    for part in parts {
+        octets = octets.saturating_add(part_len(part, wide));
+    }
+    octets
+}
+
+/// An attribute whose value has so many octets: flags, type, and a length of one octet, or of two
+/// above 255.
+fn attr_len(value: usize) -> usize
+    ensures { result ≡ min (attr_size_of value) (2 ^ 64 - 1) }
+{
+    value.saturating_add(if value > 255 { 4 } else { 3 })
+}
+
+/// An attribute whose value is a path.
+fn path_len(parts: &[PathPart], wide: bool) -> usize
+    ensures { result ≡ min (attr_size_of (sum_by (part_size wide) parts.now)) (2 ^ 64 - 1) }
+{
+    attr_len(parts_len(parts, wide))
+}
+
+/// Whether two octets don't hold the AS.
+fn is_long(as_number: u32) -> bool
+    ensures { result ≡ is_long_as as_number }
+{
+    as_number > LAST_SHORT_AS
+}
+
+fn part_is_long(part: &PathPart) -> bool
+    ensures { result ≡ list_any is_long_as (ases_of part.now) }
+{
+    match part {
+        PathPart::Set(ases) => ases.as_slice().iter().any(|number| is_long(*number)),
+        PathPart::Sequence(ases) => ases.as_slice().iter().any(|number| is_long(*number)),
+    }
+}
+
+/// Whether some AS of a path needs four octets.
+fn path_is_long(parts: &[PathPart]) -> bool
+    ensures { result ≡ has_long_as parts.now }
+{
+    parts.iter().any(part_is_long)
+}
+
+#[tactic(auto, using(crate::proofs::Lengths::as4_path_size))]
+fn as4_path_len(parts: &[PathPart], wide: bool) -> usize
+    ensures { result ≡ min (attrs_size (as4_path_written wide parts.now)) (2 ^ 64 - 1) }
+{
+    if wide || !path_is_long(parts) {
+        return 0;
+    }
+    path_len(parts, true)
+}
+
+fn aggregator_len(aggregator: &Option<Aggregator>, wide: bool) -> usize
+    ensures { result ≡ attrs_size (aggregator_written wide aggregator.now) + attrs_size (as4_aggregator_written wide aggregator.now) }
+{
+    match aggregator {
+        None => 0,
+        Some(_) if wide => LONG_AGGREGATOR,
+        Some(aggregator) if is_long(aggregator.as_number) => SHORT_AGGREGATOR + LONG_AGGREGATOR,
+        Some(_) => SHORT_AGGREGATOR,
+    }
+}
+
+fn others_len(others: &[RawAttr]) -> usize
+    ensures { result ≡ min (sum_by (λ other. attr_size_of (length other.bytes)) others.now) (2 ^ 64 - 1) }
+{
+    let mut octets = 0usize;
+    for other in others {
+        octets = octets.saturating_add(attr_len(other.bytes.len()));
+    }
+    octets
+}
+
+fn med_len(med: Option<u32>) -> usize
+    ensures { result ≡ attrs_size (med_written med) }
+{
+    match med {
+        Some(_) => MED,
+        None => 0,
+    }
+}
+
+fn atomic_len(atomic: bool) -> usize
+    ensures { result ≡ attrs_size (atomic_written atomic) }
+{
+    if atomic { ATOMIC } else { 0 }
+}
+
+/// The attributes of an announcement.
+#[tactic(auto, using(crate::proofs::Lengths::spelled_attrs_size))]
+fn attrs_len(attrs: &Attrs, wide: bool) -> usize
+    ensures { result ≡ min (length (spell_attrs wide attrs.now)) (2 ^ 64 - 1) }
+{
+    let path = attrs.path.as_slice();
+    let others = attrs.unknown.as_slice();
+    (ORIGIN_AND_NEXT_HOP + med_len(attrs.med) + atomic_len(attrs.atomic))
+        .saturating_add(aggregator_len(&attrs.aggregator, wide))
+        .saturating_add(path_len(path, wide))
+        .saturating_add(as4_path_len(path, wide))
+        .saturating_add(others_len(others))
+}
+
+fn caps_len(caps: &[Cap]) -> usize
+    ensures { result ≡ min (sum_by cap_size caps.now) (2 ^ 64 - 1) }
+{
+    let mut octets = 0usize;
+    for cap in caps {
+        octets = octets.saturating_add(cap.bytes.len().saturating_add(4));
+    }
+    octets
+}
+
+fn some_attrs_len(attrs: &Option<Attrs>, wide: bool) -> usize
+    ensures { result ≡ min (length (spell_some_attrs wide attrs.now)) (2 ^ 64 - 1) }
+{
+    match attrs {
+        Some(attrs) => attrs_len(attrs, wide),
+        None => 0,
+    }
+}
+
+#[tactic(auto, using(crate::proofs::Lengths::update_size))]
+fn update_len(update: &Update, wide: bool) -> usize
+    ensures { result ≡ min (length (spell_update wide update.now)) (2 ^ 64 - 1) }
+{
+    prefixes_len(update.withdrawn.as_slice())
+        .saturating_add(some_attrs_len(&update.attrs, wide))
+        .saturating_add(prefixes_len(update.nlri.as_slice()))
+        .saturating_add(4)
+}
+
+/// How many octets the written form of a message has, in the given width of AS numbers. A field
+/// counts its octets even where its number doesn't fit; a length above the greatest `usize` is given
+/// as that number. It takes no memory.
+#[tactic(auto, using(crate::proofs::Lengths::caps_size, crate::proofs::Lengths::framed_size), unfolding(crate::specs::Spelling::spell))]
+pub fn message_len(message: &Message, wide: bool) -> usize
+    ensures { result ≡ min (length (spell message.now wide)) (2 ^ 64 - 1) }
+{
+    let body = match message {
+        Message::OpenMsg(open) => caps_len(open.caps.as_slice()).saturating_add(OPEN_FIELDS),
+        Message::UpdateMsg(update) => update_len(update, wide),
+        Message::NoticeMsg(notice) => notice.info.len().saturating_add(2),
+        Message::KeepaliveMsg => 0,
+    };
+    body.saturating_add(HEADER)
+}
