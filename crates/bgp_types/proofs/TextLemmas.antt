@@ -13,7 +13,9 @@ use Rattle.std.specs.Net.Text.{dotted_text, ipv4_text}
 use Rattle.std.specs.Net.Grammar.{IsDotted}
 use Rattle.std.proofs.lemmas.Str.Parse.{IsNumeralModel, parse_plain}
 use Rattle.std.proofs.lemmas.Fmt.{decimal_digit, decimal_step, decimal_by_steps, decimal-digits_value, parse-decimal}
-use Rattle.std.proofs.lemmas.Nat.{be_bytes_4}
+use Rattle.std.proofs.lemmas.Nat.{be_bytes_4, from_be_bytes-to_be_bytes_4}
+use Rattle.std.specs.Net.Addr.{ipv4_octets}
+use Rattle.std.proofs.NetLemmas.Theorems.{IsIpv4Text_unique}
 use Rattle.std.proofs.lemmas.Bool.{false≢true}
 use Rattle.std.proofs.lemmas.Bool.Decides.{nat_tests}
 use Rattle.std.proofs.NetLemmas.Texts.{IsDotted-ipv4_text}
@@ -81,6 +83,12 @@ IsDotted-address text address is =
     let octets = to_be_bytes w32 address in
     let bytes = bytes_4 (address / 16777216 % 256) (address / 65536 % 256) (address / 256 % 256) (address % 256) (omega arith) (omega arith) (omega arith) (omega arith) in
     subst (λ t. IsDotted t octets) (sym is.text) (IsDotted-ipv4_text octets refl bytes)
+
+-- a text writes one address at most
+pub IsAddressText_unique : (text : List ℕ) (a b : ℕ) → IsAddressText text a → IsAddressText text b → a ≡ b
+IsAddressText_unique text a b first second =
+    let same = IsIpv4Text_unique text (record { octets = to_be_bytes w32 a }) (record { octets = to_be_bytes w32 b }) (IsDotted-address text a first) (IsDotted-address text b second) in
+    sym (from_be_bytes-to_be_bytes_4 a first.fits) ∙ ap (λ x. from_be_bytes w32 (ipv4_octets x)) same ∙ from_be_bytes-to_be_bytes_4 b second.fits
 
 -- ---- the slash
 

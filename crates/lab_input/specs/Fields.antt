@@ -1,6 +1,7 @@
 -- What stands at a key of a table, by the kind of the field.
 use Rattle.std.specs.Prelude.{◌≡◌, ℕ, ◌<◌, ◌≤◌, ◌==◌, pos, Bool, ◌&&◌, ◌||◌, nat_le, List, [], ◌∷◌, length, Option, Some, None, slice_get, slice_index, IsTrue, if◌then◌else◌}
-use Rattle.std.specs.List.{list_all}
+use Rattle.std.specs.List.{list_all, list_any}
+use Rattle.std.specs.Str.{bytes_eq}
 use Rattle.toml.specs.Data.{Data, string, integer, array, table, Items, no_items, item, Members, no_members, member, get_member}
 use Rattle.bgp_types.specs.Prefixes.{PrefixValue}
 use Rattle.bgp_types.specs.Texts.{IsAddressText, IsPrefixText, IsHost}
@@ -60,11 +61,15 @@ pub record TableAt {A : Type 0} (t : Members) (key : List ℕ) (Gives : Members 
   pub gives : Gives inner value
   pub one : values ≡ value ∷ []
 
+-- the key is one of these
+abbrev pub is_one_of : List (List ℕ) → List ℕ → Bool
+is_one_of known key = list_any (λ k. bytes_eq key k) known
+
 -- the first key that isn't known
 abbrev pub stray_in : (List ℕ → Bool) → Members → Option (List ℕ)
 stray_in known no_members = None
 stray_in known (member key d ms) = if known key then stray_in known ms else Some key
 
--- every key of the table is known
-abbrev pub HasOnly : (List ℕ → Bool) → Members → Type 0
-HasOnly known t = stray_in known t ≡ None
+-- every key of the table is one of these
+abbrev pub HasOnly : List (List ℕ) → Members → Type 0
+HasOnly known t = stray_in (is_one_of known) t ≡ None

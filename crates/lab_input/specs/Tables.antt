@@ -1,6 +1,5 @@
 -- What the tables of an input give, a field each in the order in which they are read.
-use Rattle.std.specs.Prelude.{◌≡◌, ◌≢◌, ℕ, Bool, ◌||◌, List, [], ◌∷◌, map, codes}
-use Rattle.std.specs.Str.{bytes_eq}
+use Rattle.std.specs.Prelude.{◌≡◌, ◌≢◌, ℕ, List, [], ◌∷◌, map, codes}
 use Rattle.toml.specs.Data.{Members}
 use Rattle.lab_input.specs.declared.input.RouterInput.{RouterInput}
 use Rattle.lab_input.specs.declared.input.PeeringInput.{PeeringInput}
@@ -10,19 +9,18 @@ use Rattle.lab_input.specs.declared.input.LabInput.{LabInput}
 use Rattle.bgp_types.specs.Prefixes.{PrefixValue}
 use Rattle.lab_input.specs.Fields.{NumberAt, NameAt, HostAt, NamedAt, PrefixesAt, TextAt, TableAt, HasOnly}
 
-abbrev pub is_router_key : List ℕ → Bool
-is_router_key key = bytes_eq key (codes "name") || bytes_eq key (codes "id") || bytes_eq key (codes "sessions")
+abbrev pub router_keys : List (List ℕ)
+router_keys = codes "name" ∷ codes "id" ∷ codes "sessions" ∷ []
 
 -- a router: its name, its BGP Identifier, and its session places
 pub record GivesRouter (t : Members) (r : RouterInput) : Type 0 where
   pub name : NameAt t (codes "name") r.name
   pub id : HostAt t (codes "id") r.id
   pub sessions : NumberAt t (codes "sessions") 1 32 r.sessions
-  pub known : HasOnly is_router_key t
+  pub known : HasOnly router_keys t
 
-abbrev pub is_peering_key : List ℕ → Bool
-is_peering_key key = bytes_eq key (codes "name") || bytes_eq key (codes "at") || bytes_eq key (codes "remote_as")
-    || bytes_eq key (codes "remote_address") || bytes_eq key (codes "local_address")
+abbrev pub peering_keys : List (List ℕ)
+peering_keys = codes "name" ∷ codes "at" ∷ codes "remote_as" ∷ codes "remote_address" ∷ codes "local_address" ∷ []
 
 -- a peering with a remote of another AS, at one of these routers
 pub record GivesPeering (home_as : ℕ) (routers : List RouterInput) (t : Members) (p : PeeringInput) : Type 0 where
@@ -32,23 +30,23 @@ pub record GivesPeering (home_as : ℕ) (routers : List RouterInput) (t : Member
   pub external : p.remote_as ≢ home_as
   pub remote_address : HostAt t (codes "remote_address") p.remote_address
   pub local_address : HostAt t (codes "local_address") p.local_address
-  pub known : HasOnly is_peering_key t
+  pub known : HasOnly peering_keys t
 
-abbrev pub is_announce_key : List ℕ → Bool
-is_announce_key key = bytes_eq key (codes "do") || bytes_eq key (codes "peering") || bytes_eq key (codes "prefixes")
+abbrev pub announce_keys : List (List ℕ)
+announce_keys = codes "do" ∷ codes "peering" ∷ codes "prefixes" ∷ []
 
 -- a step that announces prefixes on one of these peerings
 pub record GivesAnnounce (peerings : List PeeringInput) (t : Members) (place : ℕ) (values : List PrefixValue) : Type 0 where
-  pub does : TextAt t (codes "do") (codes "announce")
+  pub announces : TextAt t (codes "do") (codes "announce")
   pub peering : NamedAt t (codes "peering") (map (λ p. p.name) peerings) place
   pub prefixes : PrefixesAt t (codes "prefixes") values
-  pub known : HasOnly is_announce_key t
+  pub known : HasOnly announce_keys t
 
 abbrev pub GivesStep : List PeeringInput → Members → Step → Type 0
 GivesStep peerings t (Announce peering prefixes) = GivesAnnounce peerings t peering.0 prefixes
 
-abbrev pub is_lab_key : List ℕ → Bool
-is_lab_key key = bytes_eq key (codes "home_as") || bytes_eq key (codes "router") || bytes_eq key (codes "peering") || bytes_eq key (codes "step")
+abbrev pub lab_keys : List (List ℕ)
+lab_keys = codes "home_as" ∷ codes "router" ∷ codes "peering" ∷ codes "step" ∷ []
 
 -- a document of one router, one peering and one step
 pub record GivesLab (doc : Members) (input : LabInput) : Type 0 where
@@ -56,4 +54,4 @@ pub record GivesLab (doc : Members) (input : LabInput) : Type 0 where
   pub router : TableAt doc (codes "router") GivesRouter input.routers
   pub peering : TableAt doc (codes "peering") (GivesPeering input.home_as input.routers) input.peerings
   pub step : TableAt doc (codes "step") (GivesStep input.peerings) input.steps
-  pub known : HasOnly is_lab_key doc
+  pub known : HasOnly lab_keys doc

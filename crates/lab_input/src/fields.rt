@@ -1,12 +1,13 @@
 //! What stands at a key of a table.
 
-ghost use Rattle.std.specs.Prelude.{◌≡◌, ◌≤◌, ◌<◌, ◌^◌, ◌↔◌, [], ◌∷◌, ℕ, List, Some, not, option_map, IsTrue, IsNone, map, string_bytes};
+ghost use Rattle.std.specs.Prelude.{◌≡◌, ◌≤◌, ◌<◌, ◌^◌, ◌↔◌, [], ◌∷◌, ℕ, List, Some, not, option_map, IsTrue, IsNone, map, string_bytes, is_some};
 ghost use Rattle.std.specs.List.{list_any, list_all};
+ghost use Rattle.std.specs.Str.{bytes_eq};
 ghost use Rattle.std.specs.BTreeMap.{keys};
 ghost use Rattle.toml.specs.Data.{get_member, array, item, no_items, table as data_table};
 ghost use Rattle.toml.specs.View.{view, table_view};
 ghost use Rattle.bgp_types.specs.Finds.{Finds};
-ghost use Rattle.lab_input.specs.Fields.{TextAt, NumberAt, NameAt, HostAt, NamedAt, PrefixesAt, TableAt, HasOnly, IsName, is_name_char as is_name_char_lem};
+ghost use Rattle.lab_input.specs.Fields.{TextAt, NumberAt, NameAt, HostAt, NamedAt, PrefixesAt, TableAt, IsName, is_name_char as is_name_char_lem, is_one_of as is_one_of_lem, stray_in};
 
 use bgp_types::{Prefix, is_host, read_address, read_prefix};
 use toml::{Table, Value};
@@ -17,19 +18,21 @@ fn is_name_char(c: u8) -> bool
     c.is_ascii_lowercase() || c.is_ascii_digit() || c == b'-'
 }
 
+fn are_name_chars(bytes: &[u8]) -> bool
+    ensures { result ≡ list_all is_name_char_lem bytes.now }
+{
+    bytes.iter().all(|c| is_name_char(*c))
+}
+
 /// Whether a text is a name.
 pub(crate) fn is_name(text: &str) -> bool
     ensures { IsTrue result ↔ IsName text.now }
 {
     let bytes = text.as_bytes();
-    match bytes {
-        [first, ..] => {
-            bytes.len() <= 16
-                && first.is_ascii_lowercase()
-                && bytes.iter().all(|c| is_name_char(*c))
-        }
-        [] => false,
+    if bytes.is_empty() || bytes.len() > 16 {
+        return false;
     }
+    bytes[0].is_ascii_lowercase() && are_name_chars(bytes)
 }
 
 /// The value at a key.
@@ -69,7 +72,11 @@ pub(crate) fn host_at(table: &Table, key: &str) -> Option<u32>
     ensures { Finds (HostAt (table_view table.now) key.now) result }
 {
     let address = read_address(text_at(table, key)?)?;
-    if is_host(address) { Some(address) } else { None }
+    if is_host(address) {
+        Some(address)
+    } else {
+        None
+    }
 }
 
 /// Whether the text at a key is this name.
@@ -82,14 +89,36 @@ pub(crate) fn is_named_at(table: &Table, key: &str, name: &str) -> bool
     }
 }
 
+/// The one value of the array at a key.
+fn item_at<'a>(table: &'a Table, key: &str) -> Option<&'a Value>
+    ensures { Finds (λ d. get_member key.now (table_view table.now) ≡ Some (array (item d no_items)))
+        (option_map (λ v. view v.now) result) }
+{
+    let Some(value) = value_at(table, key) else {
+        return None;
+    };
+    let Some(array) = value.as_array() else {
+        return None;
+    };
+    let values = array.as_slice();
+    if values.len() == 1 {
+        Some(&values[0])
+    } else {
+        None
+    }
+}
+
 /// The one prefix of the array at a key.
 pub(crate) fn prefix_at(table: &Table, key: &str) -> Option<Prefix>
     ensures { Finds (λ p. PrefixesAt (table_view table.now) key.now (p ∷ [])) result }
 {
-    match value_at(table, key)?.as_array()?.as_slice() {
-        [value] => read_prefix(value.as_str()?),
-        _ => None,
-    }
+    let Some(value) = item_at(table, key) else {
+        return None;
+    };
+    let Some(text) = value.as_str() else {
+        return None;
+    };
+    read_prefix(text)
 }
 
 /// The one table of the array at a key.
@@ -97,8 +126,28 @@ pub(crate) fn table_at<'a>(table: &'a Table, key: &str) -> Option<&'a Table>
     ensures { Finds (λ t. get_member key.now (table_view table.now) ≡ Some (array (item (data_table t) no_items)))
         (option_map (λ t. table_view t.now) result) }
 {
-    match value_at(table, key)?.as_array()?.as_slice() {
-        [value] => value.as_table(),
-        _ => None,
-    }
+    let Some(value) = item_at(table, key) else {
+        return None;
+    };
+    value.as_table()
+}
+
+/// Whether a text is one of these keys.
+fn is_one_of(key: &str, known: &[&str]) -> bool
+    ensures { result ≡ list_any (λ k. bytes_eq key.now k.now) known.now }
+{
+    known.iter().any(|k| key == *k)
+}
+
+fn any_stray(table: &Table, known: &[&str]) -> bool
+    ensures { result ≡ list_any (λ k. not (list_any (λ w. bytes_eq (string_bytes k) w.now) known.now)) (keys table.now) }
+{
+    table.keys().any(|key| !is_one_of(key.as_str(), known))
+}
+
+/// Whether a table has a key beside these.
+pub(crate) fn has_stray(table: &Table, known: &[&str]) -> bool
+    ensures { result ≡ is_some (stray_in (is_one_of_lem (map (λ k. k.now) known.now)) (table_view table.now)) }
+{
+    any_stray(table, known)
 }

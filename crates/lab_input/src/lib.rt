@@ -6,6 +6,7 @@ mod input;
 mod read;
 
 pub use input::{
-    BadInput, LabInput, LabStop, PeeringInput, PeeringInputs, RouterInput, RouterInputs, Step, Steps,
+    BadInput, LabInput, LabStop, PeeringInput, PeeringInputs, RouterInput, RouterInputs, Step,
+    Steps,
 };
 pub use read::{MOST_BYTES, read_lab};

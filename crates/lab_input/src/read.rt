@@ -1,16 +1,14 @@
 //! Reading an input.
 
-ghost use Rattle.std.specs.Prelude.{◌≡◌, ◌<◌, ◌^◌, Some, not, map, string_bytes, IsTrue, ◌↔◌, [], ◌∷◌};
-ghost use Rattle.std.specs.List.{list_any};
-ghost use Rattle.std.specs.BTreeMap.{keys};
+ghost use Rattle.std.specs.Prelude.{◌≡◌, ◌∷◌, [], IfOk, is_some};
 ghost use Rattle.toml.specs.View.{table_view};
 ghost use Rattle.lab_input.specs.Labs.{InputOf, Answers};
-ghost use Rattle.lab_input.specs.Fields.{HasOnly};
-ghost use Rattle.lab_input.specs.Tables.{GivesRouter, GivesPeering, GivesStep, GivesLab, is_router_key as is_router_key_lem, is_peering_key as is_peering_key_lem, is_announce_key as is_announce_key_lem, is_lab_key as is_lab_key_lem};
+ghost use Rattle.lab_input.specs.Fields.{is_one_of, stray_in};
+ghost use Rattle.lab_input.specs.Tables.{GivesRouter, GivesPeering, GivesStep, GivesLab, peering_keys};
 
-use crate::fields::{host_at, is_named_at, name_at, number_at, prefix_at, table_at, text_at};
+use crate::fields::{has_stray, host_at, is_named_at, name_at, number_at, prefix_at, table_at};
 use crate::input::{BadInput, LabInput, LabStop, PeeringInput, RouterInput, Step};
-use bgp_types::{Items, Name, PeeringId, RouterId};
+use bgp_types::{Items, Name, NoMemory, PeeringId, RouterId};
 use std::alloc::Global;
 use toml::Table;
 
@@ -19,48 +17,33 @@ pub const MOST_BYTES: usize = 4_194_304;
 
 const NOT_BUILT: LabStop = LabStop::Bad(BadInput::NotBuilt);
 
-fn is_router_key(key: &str) -> bool
-    ensures { result ≡ is_router_key_lem key.now }
-{
-    key == "name" || key == "id" || key == "sessions"
-}
-
-fn is_peering_key(key: &str) -> bool
-    ensures { result ≡ is_peering_key_lem key.now }
-{
-    key == "name"
-        || key == "at"
-        || key == "remote_as"
-        || key == "remote_address"
-        || key == "local_address"
-}
-
-fn is_announce_key(key: &str) -> bool
-    ensures { result ≡ is_announce_key_lem key.now }
-{
-    key == "do" || key == "peering" || key == "prefixes"
-}
-
-fn is_lab_key(key: &str) -> bool
-    ensures { result ≡ is_lab_key_lem key.now }
-{
-    key == "home_as" || key == "router" || key == "peering" || key == "step"
-}
-
 fn read_router(alloc: Global, table: &Table) -> Result<RouterInput, LabStop>
     ensures { Answers (GivesRouter (table_view table.now)) result }
 {
-    let name = name_at(table, "name").ok_or(NOT_BUILT)?;
-    let id = host_at(table, "id").ok_or(NOT_BUILT)?;
-    let sessions = number_at(table, "sessions", 1, 32).ok_or(NOT_BUILT)?;
-    if table.keys().any(|key| !is_router_key(key.as_str())) {
+    let Some(name) = name_at(table, "name") else {
+        return Err(NOT_BUILT);
+    };
+    let Some(id) = host_at(table, "id") else {
+        return Err(NOT_BUILT);
+    };
+    let Some(sessions) = number_at(table, "sessions", 1, 32) else {
+        return Err(NOT_BUILT);
+    };
+    if has_stray(table, &["name", "id", "sessions"]) {
         return Err(NOT_BUILT);
     }
-    Ok(RouterInput {
-        name: Name::from_text(alloc, name)?,
-        id,
-        sessions,
-    })
+    match Name::from_text(alloc, name) {
+        Ok(name) => Ok(RouterInput { name, id, sessions }),
+        Err(_) => Err(LabStop::NoMemory),
+    }
+}
+
+/// Whether a table has a key beside those of a peering.
+fn has_stray_of_peering(table: &Table) -> bool
+    ensures { result ≡ is_some (stray_in (is_one_of peering_keys) (table_view table.now)) }
+{
+    let known = ["name", "at", "remote_as", "remote_address", "local_address"];
+    has_stray(table, &known)
 }
 
 /// A peering at the one router.
@@ -72,45 +55,79 @@ fn read_peering(
 ) -> Result<PeeringInput, LabStop>
     ensures { Answers (GivesPeering home_as (router.now ∷ []) (table_view table.now)) result }
 {
-    let name = name_at(table, "name").ok_or(NOT_BUILT)?;
+    let Some(name) = name_at(table, "name") else {
+        return Err(NOT_BUILT);
+    };
     if !is_named_at(table, "at", router.name.as_str()) {
         return Err(NOT_BUILT);
     }
-    let remote_as = number_at(table, "remote_as", 1, 65535).ok_or(NOT_BUILT)?;
+    let Some(remote_as) = number_at(table, "remote_as", 1, 65535) else {
+        return Err(NOT_BUILT);
+    };
     if remote_as == home_as {
         return Err(NOT_BUILT);
     }
-    let remote_address = host_at(table, "remote_address").ok_or(NOT_BUILT)?;
-    let local_address = host_at(table, "local_address").ok_or(NOT_BUILT)?;
-    if table.keys().any(|key| !is_peering_key(key.as_str())) {
+    let Some(remote_address) = host_at(table, "remote_address") else {
+        return Err(NOT_BUILT);
+    };
+    let Some(local_address) = host_at(table, "local_address") else {
+        return Err(NOT_BUILT);
+    };
+    if has_stray_of_peering(table) {
         return Err(NOT_BUILT);
     }
-    Ok(PeeringInput {
-        name: Name::from_text(alloc, name)?,
-        at: RouterId(0),
-        remote_as,
-        remote_address,
-        local_address,
-    })
+    match Name::from_text(alloc, name) {
+        Ok(name) => Ok(PeeringInput {
+            name,
+            at: RouterId(0),
+            remote_as,
+            remote_address,
+            local_address,
+        }),
+        Err(_) => Err(LabStop::NoMemory),
+    }
 }
 
 /// A step of the one peering.
 fn read_step(alloc: Global, table: &Table, peering: &PeeringInput) -> Result<Step, LabStop>
     ensures { Answers (GivesStep (peering.now ∷ []) (table_view table.now)) result }
 {
-    if text_at(table, "do").ok_or(NOT_BUILT)? != "announce" {
+    if !is_named_at(table, "do", "announce") {
         return Err(NOT_BUILT);
     }
     if !is_named_at(table, "peering", peering.name.as_str()) {
         return Err(NOT_BUILT);
     }
-    let prefix = prefix_at(table, "prefixes").ok_or(NOT_BUILT)?;
-    if table.keys().any(|key| !is_announce_key(key.as_str())) {
+    let Some(prefix) = prefix_at(table, "prefixes") else {
+        return Err(NOT_BUILT);
+    };
+    if has_stray(table, &["do", "peering", "prefixes"]) {
         return Err(NOT_BUILT);
     }
-    Ok(Step::Announce {
-        peering: PeeringId(0),
-        prefixes: Items::from_slice(alloc, &[prefix])?,
+    match Items::one(alloc, prefix) {
+        Ok(prefixes) => Ok(Step::Announce {
+            peering: PeeringId(0),
+            prefixes,
+        }),
+        Err(_) => Err(LabStop::NoMemory),
+    }
+}
+
+/// The input with one router, one peering and one step.
+fn input_of_one(
+    alloc: Global,
+    home_as: u32,
+    router: RouterInput,
+    peering: PeeringInput,
+    step: Step,
+) -> Result<LabInput, NoMemory>
+    ensures { IfOk result (λ input. input ≡ record { home_as = home_as; routers = router ∷ []; peerings = peering ∷ []; steps = step ∷ [] }) }
+{
+    Ok(LabInput {
+        home_as,
+        routers: Items::one(alloc, router)?,
+        peerings: Items::one(alloc, peering)?,
+        steps: Items::one(alloc, step)?,
     })
 }
 
@@ -118,20 +135,37 @@ fn read_step(alloc: Global, table: &Table, peering: &PeeringInput) -> Result<Ste
 fn read_document(alloc: Global, doc: &Table) -> Result<LabInput, LabStop>
     ensures { Answers (GivesLab (table_view doc.now)) result }
 {
-    let home_as = number_at(doc, "home_as", 1, 65535).ok_or(NOT_BUILT)?;
-    let router = read_router(alloc, table_at(doc, "router").ok_or(NOT_BUILT)?)?;
-    let peering = table_at(doc, "peering").ok_or(NOT_BUILT)?;
-    let peering = read_peering(alloc, peering, home_as, &router)?;
-    let step = read_step(alloc, table_at(doc, "step").ok_or(NOT_BUILT)?, &peering)?;
-    if doc.keys().any(|key| !is_lab_key(key.as_str())) {
+    let Some(home_as) = number_at(doc, "home_as", 1, 65535) else {
+        return Err(NOT_BUILT);
+    };
+    let Some(router) = table_at(doc, "router") else {
+        return Err(NOT_BUILT);
+    };
+    let router = match read_router(alloc, router) {
+        Ok(router) => router,
+        Err(stop) => return Err(stop),
+    };
+    let Some(peering) = table_at(doc, "peering") else {
+        return Err(NOT_BUILT);
+    };
+    let peering = match read_peering(alloc, peering, home_as, &router) {
+        Ok(peering) => peering,
+        Err(stop) => return Err(stop),
+    };
+    let Some(step) = table_at(doc, "step") else {
+        return Err(NOT_BUILT);
+    };
+    let step = match read_step(alloc, step, &peering) {
+        Ok(step) => step,
+        Err(stop) => return Err(stop),
+    };
+    if has_stray(doc, &["home_as", "router", "peering", "step"]) {
         return Err(NOT_BUILT);
     }
-    Ok(LabInput {
-        home_as,
-        routers: Items::one(alloc, router)?,
-        peerings: Items::one(alloc, peering)?,
-        steps: Items::one(alloc, step)?,
-    })
+    match input_of_one(alloc, home_as, router, peering, step) {
+        Ok(input) => Ok(input),
+        Err(_) => Err(LabStop::NoMemory),
+    }
 }
 
 /// Reads the input that the bytes are.

@@ -1,0 +1,14 @@
+use Rattle.std.proofs.Common.{◌≡◌, ◌∙◌, sym, ap, length, arith}
+use Rattle.std.specs.Prelude.{Some}
+use Rattle.toml.specs.Data.{item, no_items}
+use Rattle.toml.specs.View.{items_view}
+use Rattle.lab_input.proofs.Found.{one_item, array_items}
+use Rattle.lab_input.proofs.fields.item_at.Goals as goal
+
+pub returns-else-values-eq1 : goal.returns-else-values-eq1
+returns-else-values-eq1 c = λ d is.
+    let values = c.in-Some-as_array.array.now.items in
+    let seen : items_view values ≡ item d no_items = array_items _ _ _ c.in-Some-as_array.ensures (c.in-Some.ensures ∙ is) in
+    let one : length values ≡ 1 = one_item values d seen in
+    let same : length c.as_slice-values.result.now ≡ length values = ap length c.as_slice-values.ensures.value in
+    omega arith
