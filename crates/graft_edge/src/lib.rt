@@ -21,3 +21,6 @@ pub use name::Name;
 pub use sink::{MemSink, Sink, StdSink, write_all};
 pub use source::{Failed, MemSource, ReadStop, Source, StdSource, read_all};
 pub use words::Words;
+
+#[cfg(test)]
+mod tests;

@@ -10,3 +10,6 @@ pub use input::{
     Steps,
 };
 pub use read::{MOST_BYTES, read_lab};
+
+#[cfg(test)]
+mod tests;

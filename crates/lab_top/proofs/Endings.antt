@@ -1,0 +1,23 @@
+-- How the program ends.
+use Rattle.std.proofs.Common.{◌≡◌, ℕ, List, ◌⊎◌, inl, inr, subst, arith}
+use Rattle.std.specs.Prelude.{Option, Err}
+use Rattle.graft_edge.specs.Outside.{Appended}
+use Rattle.lab_input.specs.declared.input.BadInput.{BadInput}
+use Rattle.lab_input.specs.declared.input.LabInput.{LabInput}
+use Rattle.lab_input.specs.declared.input.LabStop.{LabStop}
+use Rattle.lab_input.specs.declared.input.LabStop.TheVariants.{Bad}
+use Rattle.lab_input.specs.Labs.{InputOf, Answers}
+use Rattle.lab_top.specs.Ends.{Writes}
+
+-- under its own status a text was appended whole
+pub Appended-under : (text : List ℕ) (planned faults_before faults_after : ℕ) (before after : Option (List ℕ)) (status : ℕ)
+    → Writes text planned faults_before faults_after before after status → status ≡ 2 → planned ≡ 2 → Appended before after text
+Appended-under text planned faults_before faults_after before after status (inl whole) two same = whole.1
+Appended-under text planned faults_before faults_after before after status (inr front) two same = absurd (omega (arith, front.0))
+
+-- a refusal of the bytes says that they are no input
+pub no_input : (bytes read : List ℕ) (stop : LabStop) (bad : BadInput) → read ≡ bytes → stop ≡ Bad bad → Answers (InputOf read) (Err stop) → (input : LabInput) → ¬ (InputOf bytes input)
+no_input bytes read stop bad same is answers input found =
+    let refused : Answers (InputOf read) (Err (Bad bad)) = subst (λ s. Answers (InputOf read) (Err s)) is answers in
+    let none : Answers (InputOf bytes) (Err (Bad bad)) = subst (λ bs. Answers (InputOf bs) (Err (Bad bad))) same refused in
+    none input found
