@@ -1,0 +1,79 @@
+//! The segments that a link holds.
+
+ghost use Rattle.std.specs.Prelude.{◌≡◌, ◌<◌, ◌↔◌, ◌++◌, ◌∷◌, [], length, IsTrue, Some, OnOk, IfOk, OnErr, IfErr, slice_get};
+ghost use Rattle.std.specs.List.{remove};
+
+use graft_edge::{NoMemory, TryCopy};
+use std::alloc::Global;
+use std::marker::Model;
+use tcp_seq::Segment;
+
+/// The segments that a link holds, in the order in which they were put. Contracts see their list.
+#[derive(Debug, Drop)]
+pub struct Bag {
+    segments: Vec<Segment>,
+}
+
+impl Model for Bag {
+    ghost use Rattle.std.specs.Prelude.{List};
+    ghost use Rattle.tcp_seq.specs.declared.segment.Segment.{Segment};
+
+    ghost Value = { List Segment };
+
+    ghost view = { λ bag. bag.segments.items };
+}
+
+impl Bag {
+    /// No segments.
+    pub fn new(alloc: Global) -> Bag
+        ensures { result ≡ [] }
+    {
+        Bag {
+            segments: Vec::new(alloc),
+        }
+    }
+
+    /// How many segments there are.
+    pub fn len(&self) -> usize
+        ensures { result ≡ length self.now }
+    {
+        self.segments.len()
+    }
+
+    pub fn is_empty(&self) -> bool
+        ensures { IsTrue result ↔ (self.now ≡ []) }
+    {
+        self.segments.is_empty()
+    }
+
+    /// Puts a segment behind the others. For want of memory, and only then, it comes back, and the bag
+    /// is as before.
+    pub fn put(&mut self, segment: Segment) -> Result<(), Segment>
+        ensures ok { OnOk result (self.new ≡ self.old ++ segment ∷ []) }
+        ensures back { IfErr result (λ refused. refused ≡ segment) }
+        ensures err { OnErr result (self.new ≡ self.old) }
+    {
+        match self.segments.push(segment) {
+            Ok(()) => Ok(()),
+            Err(refused) => Err(refused.value),
+        }
+    }
+
+    /// A copy of the segment at a place, counted from 0. The bag keeps its own.
+    pub fn deliver(&mut self, place: usize) -> Result<Segment, NoMemory>
+        requires { place < length self.old }
+        ensures copy { IfOk result (λ segment. slice_get self.old place ≡ Some segment) }
+        ensures kept { self.new ≡ self.old }
+    {
+        self.segments[place].copy()
+    }
+
+    /// Takes out the segment at a place, counted from 0. The others keep their order.
+    pub fn remove(&mut self, place: usize) -> Segment
+        requires { place < length self.old }
+        ensures segment { slice_get self.old place ≡ Some result }
+        ensures others { self.new ≡ remove self.old place }
+    {
+        self.segments.remove(place)
+    }
+}

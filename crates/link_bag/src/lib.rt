@@ -1,0 +1,11 @@
+//! A link between two sides of a connection: the segments that it holds, and the plan of what happens
+//! to which segment.
+#![tactic(auto)]
+
+mod bag;
+mod plan;
+#[cfg(test)]
+mod tests;
+
+pub use bag::Bag;
+pub use plan::{Fate, Fault, FaultKind, Plan};

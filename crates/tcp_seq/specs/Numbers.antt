@@ -1,0 +1,14 @@
+-- Sequence numbers, which go round modulo 2^32 (RFC 9293, section 3.4).
+use Rattle.std.specs.Prelude.{ℕ, ◌+◌, ◌-◌, ◌%◌, ◌^◌}
+
+-- the number n further on
+abbrev pub plus : ℕ → ℕ → ℕ
+plus number n = (number + n) % 2 ^ 32
+
+-- how far on from `first` a number is
+abbrev pub offset_from : ℕ → ℕ → ℕ
+offset_from number first = (number + (2 ^ 32 - first)) % 2 ^ 32
+
+-- the number of the byte at a place of a stream whose byte at place 0 has the number `first`
+abbrev pub number : ℕ → ℕ → ℕ
+number first place = plus first place

@@ -1,0 +1,48 @@
+-- Acceptable segments and acknowledgements, by numbers and by places of a stream (RFC 9293, section 3.4).
+use Rattle.std.specs.Prelude.{ℕ, ◌≡◌, ◌⊎◌, ◌<◌, ◌≤◌, ◌+◌, ◌-◌, ◌^◌}
+use Rattle.tcp_seq.specs.declared.rules.AckKind.{AckKind}
+use Rattle.tcp_seq.specs.declared.rules.AckKind.TheVariants.{New, Old, Beyond}
+use Rattle.tcp_seq.specs.Numbers.{plus, offset_from}
+
+-- a number in the window that begins at the number expected next
+abbrev pub IsInWindow : ℕ → ℕ → ℕ → Type 0
+IsInWindow next window seq = offset_from seq next < window
+
+-- A segment of `len` bytes at `seq` is acceptable in three of the four cases:
+-- without bytes and at a closed window, where it stands at the number expected next
+-- without bytes and at an open window, where it stands in the window
+-- with bytes and at a closed window, never
+-- with bytes and at an open window, where its first or its last byte stands in the window
+abbrev pub Acceptable : ℕ → ℕ → ℕ → ℕ → Type 0
+Acceptable next window seq len =
+    ((len ≡ 0) × (window ≡ 0) × (seq ≡ next))
+    ⊎ ((len ≡ 0) × (0 < window) × IsInWindow next window seq)
+    ⊎ ((0 < len) × (0 < window) × (IsInWindow next window seq ⊎ IsInWindow next window (plus seq (len - 1))))
+
+-- An acknowledgement to a sender whose oldest unacknowledged number is `una` and that sends `nxt` next. Offsets from 2^31 on are
+-- those of numbers behind.
+abbrev pub IsAck : AckKind → ℕ → ℕ → ℕ → Type 0
+IsAck New una nxt ack = (0 < offset_from ack una) × (offset_from ack una ≤ offset_from nxt una)
+IsAck Old una nxt ack = (offset_from ack una ≡ 0) ⊎ (2 ^ 31 ≤ offset_from ack una)
+IsAck Beyond una nxt ack = (offset_from nxt una < offset_from ack una) × (offset_from ack una < 2 ^ 31)
+
+-- The same without any modulus, on places of a stream
+
+-- a place in the window that begins at the place expected next
+abbrev pub IsPlaceInWindow : ℕ → ℕ → ℕ → Type 0
+IsPlaceInWindow next window place = (next ≤ place) × (place < next + window)
+
+abbrev pub AcceptablePlace : ℕ → ℕ → ℕ → ℕ → Type 0
+AcceptablePlace next window place len =
+    ((len ≡ 0) × (window ≡ 0) × (place ≡ next))
+    ⊎ ((len ≡ 0) × (0 < window) × IsPlaceInWindow next window place)
+    ⊎ ((0 < len) × (0 < window) × (IsPlaceInWindow next window place ⊎ IsPlaceInWindow next window (place + len - 1)))
+
+abbrev pub IsPlaceAck : AckKind → ℕ → ℕ → ℕ → Type 0
+IsPlaceAck New acked emitted ack = (acked < ack) × (ack ≤ emitted)
+IsPlaceAck Old acked emitted ack = ack ≤ acked
+IsPlaceAck Beyond acked emitted ack = emitted < ack
+
+-- a place of a stream of at most 1 MiB, or one in a window at its end
+abbrev pub IsInStream : ℕ → Type 0
+IsInStream place = place ≤ 2 ^ 20 + 2 ^ 16

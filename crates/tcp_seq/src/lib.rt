@@ -1,0 +1,17 @@
+//! TCP's sequence numbers and acceptance rules, the segment that links carry, and, for contracts, the
+//! endpoint over whole numbers that the 32-bit rules stand for (RFC 9293, section 3.4).
+#![tactic(auto)]
+
+mod laws;
+mod rules;
+mod segment;
+mod seq;
+#[cfg(test)]
+mod tests;
+
+pub use laws::{
+    acceptance_by_places, acknowledgement_by_places, numbers_by_places, received_is_greatest,
+};
+pub use rules::{AckKind, acceptable, ack_kind};
+pub use segment::{Segment, Way};
+pub use seq::Seq;

@@ -1,0 +1,25 @@
+//! Sequence numbers.
+
+ghost use Rattle.std.specs.Prelude.{◌≡◌, ◌<◌, ◌^◌};
+ghost use Rattle.tcp_seq.specs.Numbers.{plus as plus_lem, offset_from as offset_from_lem};
+
+/// The number of a byte in a stream. Numbers go round modulo 2^32, so they have no order of their own:
+/// they are compared by their offset from a third one (RFC 9293, section 3.4).
+#[derive(Clone, Copy, Debug, PartialEq, Eq, Hash)]
+pub struct Seq(pub u32);
+
+impl Seq {
+    /// The number `n` further on.
+    pub fn plus(self, n: u32) -> Seq
+        ensures { result.0 ≡ plus_lem self.0 n }
+    {
+        Seq(self.0.wrapping_add(n))
+    }
+
+    /// How far on from `first` this number is.
+    pub fn offset_from(self, first: Seq) -> u32
+        ensures { result ≡ offset_from_lem self.0 first.0 }
+    {
+        self.0.wrapping_sub(first.0)
+    }
+}
