@@ -1,0 +1,20 @@
+-- Pieces of a stream, whose places are counted from the one expected next.
+use Rattle.std.specs.Prelude.{ℕ, ◌<◌, ◌≤◌, ◌+◌, ◌-◌, nat_lt, if◌then◌else◌, List, [], ◌∷◌, length, Option, None, slice_get}
+use Rattle.std.specs.Option.{option_or}
+use Rattle.tcp_reasm.specs.declared.piece.Piece.{Piece}
+
+-- the byte at a place, of bytes that stand from a place on
+abbrev pub byte_from : ℕ → List ℕ → ℕ → Option ℕ
+byte_from place bytes k = if nat_lt k place then None else slice_get bytes (k - place)
+
+-- the byte that a list of pieces has at a place, that of the first piece that has one
+abbrev pub held : List Piece → ℕ → Option ℕ
+held [] k = None
+held (p ∷ ps) k = option_or (byte_from p.place p.bytes k) (held ps k)
+
+-- The pieces are the runs of bytes without a gap, in rising order: none is empty, each begins at `low` or above, above the end of
+-- the one before it, and ends in a window of 16,384.
+abbrev pub AreRuns : ℕ → List Piece → Type 0
+AreRuns low [] = Unit {0}
+AreRuns low (p ∷ ps) =
+    (low ≤ p.place) × (0 < length p.bytes) × (p.place + length p.bytes ≤ 16384) × AreRuns (p.place + length p.bytes + 1) ps

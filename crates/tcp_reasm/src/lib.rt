@@ -1,0 +1,12 @@
+//! The bytes of a stream put in order from segments that come in any order, overlap and repeat.
+#![tactic(auto)]
+
+mod laws;
+mod piece;
+mod reasm;
+#[cfg(test)]
+mod tests;
+
+pub use laws::{bytes_stand_at_their_places, same_places_same_bytes};
+pub use piece::{Piece, Pieces, WINDOW};
+pub use reasm::Reasm;

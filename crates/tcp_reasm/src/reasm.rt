@@ -1,0 +1,128 @@
+//! Reassembly.
+
+ghost use Rattle.std.specs.Prelude.{ℕ, ◌≡◌, ◌<◌, ◌≤◌, ◌+◌, ◌^◌, [], length, IfOk, OnOk, OnErr};
+ghost use Rattle.tcp_reasm.specs.Runs.{AreRuns, byte_from};
+ghost use Rattle.tcp_reasm.specs.Reassembly.{Puts, TakesReady, brought};
+
+use crate::piece::{Piece, Pieces, WINDOW, begins_now, insert, take_first};
+use graft_edge::{Items, NoMemory, Octets};
+use std::alloc::Global;
+use std::marker::Model;
+use tcp_seq::Seq;
+
+/// The bytes of a stream that arrived and weren't given out yet, at most 16,384 places from the one
+/// expected next on. Contracts see the number expected next and the pieces that stand ahead of it,
+/// each with its place counted from there: rising, apart from one another, none empty.
+#[derive(Debug, Drop)]
+pub struct Reasm {
+    next: Seq,
+    pieces: Vec<Piece>,
+}
+
+impl Model for Reasm {
+    ghost use Rattle.tcp_reasm.specs.Reassembly.{Reassembly};
+    ghost use Rattle.tcp_reasm.specs.Runs.{AreRuns};
+
+    ghost Value = { Reassembly };
+
+    ghost view = { λ r. record { next = r.next.0; pieces = r.pieces.items } };
+
+    ghost invariant = { λ r. AreRuns 0 r.pieces.items };
+}
+
+/// The part of bytes from a sequence number on that stands in the window, with its place there.
+fn in_window(next: Seq, seq: Seq, bytes: &[u8]) -> (u32, &[u8])
+    requires { length bytes.now < 2 ^ 16 }
+    ensures within { result.0 + length result.1.now ≤ 16384 }
+    ensures bytes { (k : ℕ) → byte_from result.0 result.1.now k ≡ brought next.0 seq.0 bytes.now k }
+{
+    let ahead = seq.offset_from(next);
+    if ahead < WINDOW {
+        let room = (WINDOW - ahead) as usize;
+        return (ahead, &bytes[..bytes.len().min(room)]);
+    }
+    let behind = (next.offset_from(seq) as usize).min(bytes.len());
+    let rest = &bytes[behind..];
+    (0, &rest[..rest.len().min(WINDOW as usize)])
+}
+
+impl Reasm {
+    /// Nothing arrived yet. `first` is the number of the stream's first byte.
+    pub fn new(alloc: Global, first: Seq) -> Reasm
+        ensures { result ≡ record { next = first.0; pieces = [] } }
+    {
+        Reasm {
+            next: first,
+            pieces: Vec::new(alloc),
+        }
+    }
+
+    /// The sequence number expected next.
+    pub fn next(&self) -> Seq
+        ensures { result.0 ≡ self.now.next }
+    {
+        self.next
+    }
+
+    /// Keeps those of the bytes from a sequence number on whose place is from the one expected next up
+    /// to, and not with, the 16,384th after it. A place that has a byte keeps it. At most 65,535 bytes
+    /// are put at a time. For want of memory nothing is put.
+    pub fn put(&mut self, seq: Seq, bytes: &[u8]) -> Result<(), NoMemory>
+        requires { length bytes.now < 2 ^ 16 }
+        ensures ok { OnOk result (Puts self.old self.new seq.0 bytes.now) }
+        ensures err { OnErr result (self.new ≡ self.old) }
+        ensures runs { AreRuns 0 self.new.pieces }
+    {
+        let (place, kept) = in_window(self.next, seq, bytes);
+        if kept.is_empty() {
+            return Ok(());
+        }
+        insert(&mut self.pieces, place, kept)
+    }
+
+    /// Appends all bytes that stand in order from the number expected next, and expects the one after
+    /// them. Answers how many there were. For want of memory nothing is given.
+    pub fn take_ready(&mut self, out: &mut Octets) -> Result<usize, NoMemory>
+        ensures ok { IfOk result (λ n. TakesReady self.old self.new out.old out.new n) }
+        ensures err { OnErr result (self.new ≡ self.old) }
+        ensures none { OnErr result (out.new ≡ out.old) }
+        ensures runs { AreRuns 0 self.new.pieces }
+    {
+        if !begins_now(self.pieces.as_slice()) {
+            return Ok(0);
+        }
+        out.extend(self.pieces[0].bytes.as_slice())?;
+        let count = take_first(&mut self.pieces).bytes.len();
+        self.next = self.next.plus(count as u32);
+        Ok(count)
+    }
+
+    /// The pieces that stand ahead of the number expected next, each with its place counted from there.
+    pub fn pieces(&self) -> &[Piece]
+        ensures pieces { result.now ≡ self.now.pieces }
+        ensures runs { AreRuns 0 result.now }
+    {
+        self.pieces.as_slice()
+    }
+
+    /// The same pieces, taken out. It takes no memory.
+    pub fn into_pieces(self) -> Pieces
+        ensures pieces { result ≡ self.pieces }
+        ensures runs { AreRuns 0 result }
+    {
+        let Reasm { next: _, pieces } = self;
+        Items::from_vec(pieces)
+    }
+
+    /// A reassembly that expects this number next and has these pieces ahead of it, each with its place
+    /// counted from there. It takes no memory.
+    pub fn from_pieces(next: Seq, pieces: Pieces) -> Reasm
+        requires { AreRuns 0 pieces }
+        ensures { result ≡ record { next = next.0; pieces = pieces } }
+    {
+        Reasm {
+            next,
+            pieces: pieces.into_vec(),
+        }
+    }
+}
