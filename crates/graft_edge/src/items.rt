@@ -107,8 +107,8 @@ impl<T: Copy> Items<T> {
 
 impl<T: TryCopy> TryCopy for Items<T> {
     fn copy(&self) -> Result<Items<T>, NoMemory> {
-        let mut copy = Items::new(*self.vec.allocator());
         let values = self.as_slice();
+        let mut copy = Items::from_vec(Vec::with_capacity(*self.vec.allocator(), values.len())?);
         for value in values {
             copy.push(value.copy()?)?;
         }

@@ -1,4 +1,4 @@
-use Rattle.std.proofs.Common.{◌≡◌, take, drop, arith, length-drop}
+use Rattle.std.proofs.Common.{take, drop, arith, length-drop}
 use Rattle.std.proofs.lemmas.Grind.{common_steps}
 use Rattle.graft_edge.specs.Outside.{Appended}
 use Rattle.graft_edge.proofs.Pieces.{Appended-take}

@@ -1,4 +1,4 @@
-use Rattle.std.proofs.Common.{◌≡◌, ◌-◌, length, take, drop, ap, arith, length-drop}
+use Rattle.std.proofs.Common.{◌≡◌, take, drop, ap, arith, length-drop}
 use Rattle.std.specs.Prelude.{Some}
 use Rattle.std.proofs.lemmas.Grind.{common_steps}
 use Rattle.graft_edge.proofs.Pieces.{front_joined}
