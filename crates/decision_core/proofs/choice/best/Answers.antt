@@ -1,0 +1,22 @@
+use Rattle.std.proofs.Common.{◌∙◌, sym}
+use Rattle.decision_core.proofs.NineRules.{nearest_more, no_rank, chosen, passed_over, empty_exactly, choice-no_leader, choice-all}
+use Rattle.decision_core.proofs.choice.best.Goals as goal
+use Rattle.decision_core.proofs.choice.best.Goals.{then-is_next, else-is_next}
+
+pub loop-place-preserved : goal.loop-place-preserved
+loop-place-preserved c = elim c.if-is_next.branch [
+  | then-is_next w ↦ nearest_more c.in_ok-leader.leader c.args.list.now c.loop-place.place no_rank _ _ c.loop-place-test.true c.loop-place.invariant (chosen _ _ _ _ (sym c.is_next.ensures ∙ w.if-is_next.true) w.nearest-is)
+  | else-is_next w ↦ nearest_more c.in_ok-leader.leader c.args.list.now c.loop-place.place no_rank _ _ c.loop-place-test.true c.loop-place.invariant (passed_over _ _ _ _ (sym c.is_next.ensures ∙ w.if-is_next.false) w.nearest-is)
+]
+
+pub returns-clause-choice : goal.returns-clause-choice
+returns-clause-choice c = c.place_of.ensures ∙ choice-all _ c.in_ok-leader.leader _ _ (sym c.in_ok-leader.ensures) c.loop-place-test.false c.loop-place.invariant
+
+pub returns-clause-empty : goal.returns-clause-empty
+returns-clause-empty c = empty_exactly _ _ (c.place_of.ensures ∙ choice-all _ c.in_ok-leader.leader _ _ (sym c.in_ok-leader.ensures) c.loop-place-test.false c.loop-place.invariant)
+
+pub returns-in_err-leader-clause-choice : goal.returns-in_err-leader-clause-choice
+returns-in_err-leader-clause-choice c = choice-no_leader _ _ c.from_residual.ensures (sym c.in_err-leader.ensures)
+
+pub returns-in_err-leader-clause-empty : goal.returns-in_err-leader-clause-empty
+returns-in_err-leader-clause-empty c = empty_exactly _ _ (choice-no_leader _ _ c.from_residual.ensures (sym c.in_err-leader.ensures))
