@@ -1,0 +1,5 @@
+pub mod Rules
+pub mod Paths
+pub mod Policies
+pub mod Candidates
+pub mod Telling

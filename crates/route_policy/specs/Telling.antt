@@ -1,0 +1,72 @@
+-- What a home router tells of its best route (RFC 4271, sections 5.1 and 9.1.3).
+use Rattle.std.specs.Prelude.{ℕ, ◌==◌, nat_lt, Bool, true, false, ◌||◌, List, [], map, Option, Some, None, unwrap_or, if◌then◌else◌}
+use Rattle.graft_edge.specs.declared.ids.PeeringId.{PeeringId}
+use Rattle.bgp_types.specs.Prefixes.{PrefixValue}
+use Rattle.bgp_types.specs.declared.attrs.Attrs.{Attrs}
+use Rattle.bgp_types.specs.declared.attrs.RawAttr.{RawAttr}
+use Rattle.bgp_types.specs.declared.attrs.Route.{Route}
+use Rattle.bgp_types.specs.declared.rank.From.{From}
+use Rattle.bgp_types.specs.declared.rank.From.TheVariants.{Own, Peering, Router}
+use Rattle.route_policy.specs.Paths.{prepend}
+use Rattle.route_policy.specs.Policies.{policy}
+use Rattle.route_policy.specs.declared.rule.Rule.{Rule}
+
+-- ---- to another home router: the best, where it is own or external
+
+abbrev pub tell_in : Option (From × Route) → Option Route
+tell_in None = None
+tell_in (Some (Own, route)) = Some route
+tell_in (Some (Peering peering, route)) = Some route
+tell_in (Some (Router router, route)) = None
+
+-- ---- on a session
+
+-- the session's peering, its local address and its export policy
+pub record OutSide : Type 0 where
+  pub peering : PeeringId
+  pub local_address : ℕ
+  pub export_rules : Option (List Rule)
+
+abbrev pub comes_from : From → PeeringId → Bool
+comes_from Own peering = false
+comes_from (Peering other) peering = other.0 == peering.0
+comes_from (Router router) peering = false
+
+-- unknown transitive attributes pass on with Partial set (section 5)
+abbrev pub made_partial : RawAttr → RawAttr
+made_partial raw = record raw { partial = true }
+
+-- The told attributes of a route after the export policy: the home AS in front of the path, the local
+-- address as next hop (sections 5.1.2 and 5.1.3).
+abbrev pub told_attrs : ℕ → OutSide → Route → Attrs
+told_attrs home_as out route = record route.attrs {
+  path = prepend home_as route.attrs.path;
+  next_hop = out.local_address;
+  unknown = map made_partial route.attrs.unknown;
+}
+
+-- MED isn't passed on from another AS (section 5.1.4), so the policy begins with none, and one is
+-- there only where the policy sets it.
+abbrev pub without_med : Route → Route
+without_med route = record route { attrs = record route.attrs { med = None } }
+
+abbrev pub exported : ℕ → OutSide → PrefixValue → Route → Option Route
+exported home_as out prefix route = policy (unwrap_or out.export_rules []) prefix home_as (without_med route)
+
+-- `update_len attrs prefix wide` is how many octets the UPDATE has that announces this prefix alone
+-- with these attributes, spelled wide or narrow (RFC 6793). A message has at most 4,096.
+abbrev pub is_too_long : (Attrs → PrefixValue → Bool → ℕ) → PrefixValue → Attrs → Bool
+is_too_long update_len prefix attrs = nat_lt 4096 (update_len attrs prefix false) || nat_lt 4096 (update_len attrs prefix true)
+
+abbrev pub told_where_it_fits : (Attrs → PrefixValue → Bool → ℕ) → ℕ → OutSide → PrefixValue → Option Route → Option Attrs
+told_where_it_fits update_len home_as out prefix None = None
+told_where_it_fits update_len home_as out prefix (Some route) =
+    if is_too_long update_len prefix (told_attrs home_as out route) then None else Some (told_attrs home_as out route)
+
+-- Nothing is told where there is no best, where it came from this peering, where the export policy
+-- denies it, or where its UPDATE would be too long in either width.
+abbrev pub tell_out : (Attrs → PrefixValue → Bool → ℕ) → ℕ → OutSide → PrefixValue → Option (From × Route) → Option Attrs
+tell_out update_len home_as out prefix None = None
+tell_out update_len home_as out prefix (Some (from, route)) =
+    if comes_from from out.peering then None
+    else told_where_it_fits update_len home_as out prefix (exported home_as out prefix route)

@@ -1,0 +1,112 @@
+//! ASes put in front of paths (RFC 4271, section 5.1.2).
+
+ghost use Rattle.std.specs.Prelude.{◌≡◌, IfOk};
+ghost use Rattle.route_policy.specs.Paths.{has_room as has_room_lem, with_as, prepend as prepend_lem, prepend_times as prepend_times_lem};
+
+use bgp_types::{AsPath, Items, NoMemory, PathPart};
+
+/// How many ASes a part of a path has at most.
+const PART_LIMIT: usize = 255;
+
+/// Whether a path begins with a sequence to which an AS can be added.
+fn has_room(parts: &[PathPart]) -> bool
+    ensures { result ≡ has_room_lem parts.now }
+{
+    match parts {
+        [PathPart::Sequence(ases), ..] => ases.len() < PART_LIMIT,
+        _ => false,
+    }
+}
+
+/// A part with one more AS in front.
+fn add_in_front(part: PathPart, as_number: u32) -> Result<PathPart, NoMemory>
+    ensures { IfOk result (λ longer. longer ≡ with_as as_number part) }
+{
+    match part {
+        PathPart::Sequence(ases) => {
+            let mut ases = ases.into_vec();
+            ases.insert(0, as_number)?;
+            Ok(PathPart::Sequence(Items::from_vec(ases)))
+        }
+        PathPart::Set(ases) => {
+            let mut ases = ases.into_vec();
+            ases.insert(0, as_number)?;
+            Ok(PathPart::Set(Items::from_vec(ases)))
+        }
+    }
+}
+
+/// Puts an AS in front of a path: into its leading sequence where that has room, since a part has at
+/// most 255 ASes, else into a new sequence.
+pub fn prepend(path: AsPath, as_number: u32) -> Result<AsPath, NoMemory>
+    ensures { IfOk result (λ longer. longer ≡ prepend_lem as_number path) }
+{
+    let mut parts = path.into_vec();
+    let part = if has_room(&parts) {
+        add_in_front(parts.remove(0), as_number)?
+    } else {
+        let mut ases = Items::new(*parts.allocator());
+        ases.push(as_number)?;
+        PathPart::Sequence(ases)
+    };
+    parts.insert(0, part)?;
+    Ok(Items::from_vec(parts))
+}
+
+/// Puts an AS in front of a path several times.
+pub(crate) fn prepend_times(path: AsPath, as_number: u32, times: u8) -> Result<AsPath, NoMemory>
+    ensures { IfOk result (λ longer. longer ≡ prepend_times_lem times as_number path) }
+{
+    let mut path = path;
+    for _n in 0..times {
+        path = prepend(path, as_number)?;
+    }
+    Ok(path)
+}
+
+#[cfg(test)]
+mod tests {
+    use super::*;
+    use std::alloc::Global;
+    use std::test::Fail;
+
+    fn ases(alloc: Global, count: u32) -> Result<Items<u32>, NoMemory> {
+        let mut ases = Items::new(alloc);
+        for n in 0..count {
+            ases.push(n)?;
+        }
+        Ok(ases)
+    }
+
+    #[test]
+    fn an_as_goes_into_a_leading_sequence_with_room(rt: HostRuntime) -> Result<(), Fail> {
+        let alloc = rt.alloc();
+        // how many ASes lead, whether in a sequence, and then: how many lead, in how many parts
+        let rows = [
+            (1, true, 2, 1),
+            (254, true, 255, 1),
+            (255, true, 1, 2),
+            (1, false, 1, 2),
+        ];
+        for (count, in_order, leading, parts) in rows {
+            let mut path = Items::new(alloc);
+            let list = ases(alloc, count)?;
+            if in_order {
+                path.push(PathPart::Sequence(list))?;
+            } else {
+                path.push(PathPart::Set(list))?;
+            }
+            let longer = prepend(path, 65000)?;
+            assert_eq!(rt; longer.len(), parts, "{count}");
+            assert_eq!(rt; bgp_types::neighbour(&longer, 1), 65000, "{count}");
+            match longer.as_slice() {
+                [PathPart::Sequence(first), ..] => {
+                    assert_eq!(rt; first.len(), leading, "{count}");
+                }
+                _ => return Err("no sequence leads")?,
+            }
+        }
+        assert_eq!(rt; prepend_times(Items::new(alloc), 65000, 8)?.len(), 1);
+        Ok(())
+    }
+}
