@@ -119,15 +119,12 @@ mod tests {
         prepend: 0,
     };
 
-    fn sequence(alloc: Global, ases: &[u32]) -> Result<AsPath, NoMemory> {
-        let mut path = Items::new(alloc);
-        path.push(PathPart::Sequence(Items::from_slice(alloc, ases)?))?;
-        Ok(path)
-    }
-
-    fn route(alloc: Global, path: AsPath) -> Route {
+    /// A route with ORIGIN EGP and MED 7, over 65001 and 65002.
+    fn route(alloc: Global) -> Result<Route, NoMemory> {
+        let mut path: AsPath = Items::new(alloc);
+        path.push(PathPart::Sequence(Items::from_slice(alloc, &[65001, 65002])?))?;
         let unknown: RawAttrs = Items::new(alloc);
-        Route {
+        Ok(Route {
             attrs: Attrs {
                 origin: Origin::Egp,
                 path,
@@ -138,92 +135,88 @@ mod tests {
                 unknown,
             },
             pref: 100,
-        }
+        })
     }
 
     fn policy(alloc: Global, rules: &[Rule]) -> Result<Policy, NoMemory> {
         Ok(Policy::new(Items::from_slice(alloc, rules)?))
     }
 
-    /// The prefix 10.64.0.0 of a length of at least 10.
-    fn prefix(len: u8) -> Result<Prefix, &'static str> {
-        Prefix::new(0x0A40_0000, len).ok_or("a length above 32")
+    /// The rule for the prefixes of 10.0.0.0/8 of these lengths.
+    fn range(ge: u8, le: u8) -> Rule {
+        Rule {
+            within: Prefix::new(0x0A00_0000, 8).map(|prefix| PrefixRange { prefix, ge, le }),
+            ..ANY
+        }
     }
 
-    fn range(ge: u8, le: u8) -> Result<Rule, &'static str> {
-        let prefix = Prefix::new(0x0A00_0000, 8).ok_or("a length above 32")?;
-        Ok(Rule {
-            within: Some(PrefixRange { prefix, ge, le }),
-            ..ANY
-        })
+    /// The place of the rule that matches the prefix of this address and length.
+    fn place(
+        alloc: Global,
+        rules: &[Rule],
+        address: u32,
+        len: u8,
+    ) -> Result<Option<usize>, NoMemory> {
+        let Some(prefix) = Prefix::new(address, len) else {
+            return Ok(None);
+        };
+        Ok(policy(alloc, rules)?.matching(prefix, &route(alloc)?))
+    }
+
+    /// What becomes of the route to 10.64.0.0/10.
+    fn applied(alloc: Global, rules: &[Rule]) -> Result<Option<Route>, NoMemory> {
+        let Some(prefix) = Prefix::new(0x0A40_0000, 10) else {
+            return Ok(None);
+        };
+        policy(alloc, rules)?.apply(prefix, route(alloc)?, 65001)
     }
 
     #[test]
     fn the_first_rule_whose_parts_all_match(rt: HostRuntime) -> Result<(), Fail> {
-        let alloc = rt.alloc();
-        let other = Rule {
-            has_as: Some(65009),
-            ..ANY
-        };
         let mine = Rule {
             has_as: Some(65002),
             origin: Some(Origin::Egp),
             ..ANY
         };
-        let wrong_origin = Rule {
-            origin: Some(Origin::Igp),
-            ..mine
-        };
-        let route = route(alloc, sequence(alloc, &[65001, 65002])?);
         let rules = [
-            other,
-            wrong_origin,
-            range(11, 24)?,
-            range(10, 10)?,
+            Rule {
+                has_as: Some(65009),
+                ..ANY
+            },
+            Rule {
+                origin: Some(Origin::Igp),
+                ..mine
+            },
+            range(11, 24),
+            range(10, 10),
             mine,
             ANY,
         ];
-        for (len, place) in [(10, 3), (11, 2), (24, 2), (25, 4), (32, 4)] {
-            let found = policy(alloc, &rules)?.matching(prefix(len)?, &route);
-            assert_eq!(rt; found, Some(place), "length {len}");
+        for (len, wanted) in [(10, 3), (11, 2), (24, 2), (25, 4), (32, 4)] {
+            let found = place(rt.alloc(), &rules, 0x0A40_0000, len)?;
+            assert_eq!(rt; found, Some(wanted), "length {len}");
         }
-        let outside = Prefix::new(0x0B00_0000, 12).ok_or("a length above 32")?;
-        assert_eq!(rt;
-            policy(alloc, &[range(8, 32)?])?.matching(outside, &route),
-            None
-        );
-        assert_eq!(rt; policy(alloc, &[])?.copy()?.matching(outside, &route), None);
+        assert_eq!(rt; place(rt.alloc(), &[range(8, 32)], 0x0B00_0000, 12)?, None);
         Ok(())
     }
 
     #[test]
     fn a_rule_that_matches_sets_what_it_has(rt: HostRuntime) -> Result<(), Fail> {
-        let alloc = rt.alloc();
         let raises = Rule {
             pref: Some(200),
+            med: Some(0),
             prepend: 2,
             ..ANY
         };
         let denies = Rule { deny: true, ..ANY };
-        let start = route(alloc, sequence(alloc, &[65001])?);
-        let answer = policy(alloc, &[raises, denies])?.apply(prefix(10)?, start, 65001)?;
-        let changed = answer.ok_or("denied")?;
-        assert_eq!(rt; changed.pref, 200);
-        assert_eq!(rt; changed.attrs.med, Some(7));
+        let changed = applied(rt.alloc(), &[range(11, 11), raises, denies])?.ok_or("denied")?;
+        assert_eq!(rt; (changed.pref, changed.attrs.med), (200, Some(0)));
         assert_eq!(rt; changed.attrs.next_hop, 0xC000_0201);
-        assert_eq!(rt; bgp_types::path_len(&changed.attrs.path), 3);
-        assert_eq!(rt; changed.attrs.path.len(), 1);
-        let denied = policy(alloc, &[denies, raises])?.apply(prefix(10)?, changed, 65001)?;
+        assert_eq!(rt; bgp_types::path_len(&changed.attrs.path), 4);
+        let denied = applied(rt.alloc(), &[denies, raises])?;
         assert_eq!(rt; denied.is_none(), true);
-        let sets_med = Rule {
-            med: Some(0),
-            ..ANY
-        };
-        let start = route(alloc, sequence(alloc, &[65001])?);
-        let kept = policy(alloc, &[range(11, 11)?, sets_med])?
-            .apply(prefix(10)?, start, 65001)?
-            .ok_or("denied")?;
-        assert_eq!(rt; (kept.pref, kept.attrs.med), (100, Some(0)));
+        let kept = applied(rt.alloc(), &[range(11, 11)])?.ok_or("denied")?;
+        assert_eq!(rt; (kept.pref, kept.attrs.med), (100, Some(7)));
         Ok(())
     }
 }
