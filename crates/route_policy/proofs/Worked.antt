@@ -1,12 +1,13 @@
 -- Worked values of what a router decides between and tells.
-use Rattle.std.proofs.Common.{◌≡◌, ℕ, Bool, true, false, List, [], ◌∷◌, Option, Some, None, refl}
-use Rattle.std.specs.Prelude.{map}
+use Rattle.std.proofs.Common.{◌≡◌, ℕ, true, false, [], ◌∷◌, Some, None, refl}
+use Rattle.std.specs.Prelude.{map, is_some, replicate}
 use Rattle.bgp_types.specs.Prefixes.{PrefixValue}
+use Rattle.bgp_types.specs.PathOctets.{path_octets}
+use Rattle.bgp_types.specs.Spelling.{spell, spell_attrs, attrs_written}
 use Rattle.bgp_types.specs.declared.attrs.Attrs.{Attrs}
-use Rattle.bgp_types.specs.declared.attrs.Origin.TheVariants.{Igp, Egp}
-use Rattle.bgp_types.specs.declared.attrs.RawAttr.{RawAttr}
+use Rattle.bgp_types.specs.declared.attrs.Origin.TheVariants.{Igp}
 use Rattle.bgp_types.specs.declared.attrs.Route.{Route}
-use Rattle.bgp_types.specs.declared.path.PathPart.TheVariants.{Set, Sequence}
+use Rattle.bgp_types.specs.declared.path.PathPart.TheVariants.{Sequence}
 use Rattle.bgp_types.specs.declared.rank.From.{From}
 use Rattle.bgp_types.specs.declared.rank.From.TheVariants.{Own, Peering, Router}
 use Rattle.route_policy.specs.declared.rule.Rule.{Rule}
@@ -49,30 +50,37 @@ ranks = refl
 abbrev out : OutSide
 out = record { peering = record { 0 = 2 }; local_address = 3221225990; export_rules = Some (record raises { med = Some 50 } ∷ []) }
 
-abbrev length_of : ℕ → Attrs → PrefixValue → Bool → ℕ
-length_of narrow attrs p true = 45
-length_of narrow attrs p false = narrow
-
 abbrev best : From × Route
 best = (Peering (record { 0 = 3 }), record { attrs = heard; pref = 200 })
 
 -- the home AS once more than the policy says, the local address, the policy's MED, Partial set
-told : tell_out (length_of 4096) 65000 out prefix (Some best)
+told : tell_out 65000 out prefix (Some best)
     ≡ Some (record { origin = Igp; path = Sequence (65000 ∷ (65000 ∷ (65001 ∷ []))) ∷ []; next_hop = 3221225990; med = Some 50; atomic = true; aggregator = None; unknown = record { kind = 200; partial = true; bytes = 1 ∷ [] } ∷ [] })
+unfolding spell spell_attrs attrs_written path_octets
 told = refl
 
 -- with no export policy no MED is told
-told-without_med : tell_out (length_of 48) 65000 (record out { export_rules = None }) prefix (Some best)
+told-without_med : tell_out 65000 (record out { export_rules = None }) prefix (Some best)
     ≡ Some (record { origin = Igp; path = Sequence (65000 ∷ (65001 ∷ [])) ∷ []; next_hop = 3221225990; med = None; atomic = true; aggregator = None; unknown = record { kind = 200; partial = true; bytes = 1 ∷ [] } ∷ [] })
+unfolding spell spell_attrs attrs_written path_octets
 told-without_med = refl
 
-told-too_long : tell_out (length_of 4097) 65000 out prefix (Some best) ≡ None
+-- with an unknown attribute of so many octets the UPDATE has 4,096, and with one more it is too long
+abbrev grown : ℕ → From × Route
+grown n = (Peering (record { 0 = 3 }), record { attrs = record heard { unknown = record { kind = 200; partial = false; bytes = replicate n 1 } ∷ [] }; pref = 200 })
+
+told-longest : is_some (tell_out 65000 out prefix (Some (grown 4029))) ≡ true
+unfolding spell spell_attrs attrs_written path_octets
+told-longest = refl
+
+told-too_long : tell_out 65000 out prefix (Some (grown 4030)) ≡ None
+unfolding spell spell_attrs attrs_written path_octets
 told-too_long = refl
 
-told-back : tell_out (length_of 48) 65000 (record out { peering = record { 0 = 3 } }) prefix (Some best) ≡ None
+told-back : tell_out 65000 (record out { peering = record { 0 = 3 } }) prefix (Some best) ≡ None
 told-back = refl
 
-told-denied : tell_out (length_of 48) 65000 (record out { export_rules = Some (record raises { deny = true } ∷ []) }) prefix (Some best) ≡ None
+told-denied : tell_out 65000 (record out { export_rules = Some (record raises { deny = true } ∷ []) }) prefix (Some best) ≡ None
 told-denied = refl
 
 -- a route that another home router told isn't told on inside

@@ -11,7 +11,8 @@ use Rattle.bgp_types.specs.declared.attrs.Route.{Route}
 use Rattle.bgp_types.specs.declared.rank.From.{From}
 use Rattle.bgp_types.specs.declared.rank.From.TheVariants.{Own, Peering, Router}
 use Rattle.bgp_types.specs.declared.rank.Rank.{Rank}
-use Rattle.route_policy.specs.Rules.{holds_as, origin_number}
+use Rattle.bgp_types.specs.Spelling.{origin_number}
+use Rattle.route_policy.specs.Rules.{holds_as}
 use Rattle.route_policy.specs.Policies.{policy}
 use Rattle.route_policy.specs.declared.rule.Rule.{Rule}
 

@@ -1,10 +1,10 @@
 -- Which routes a rule of a policy matches.
-use Rattle.std.specs.Prelude.{ℕ, ◌==◌, nat_le, Bool, true, false, ◌&&◌, List, Option, Some, None}
+use Rattle.std.specs.Prelude.{ℕ, ◌==◌, nat_le, Bool, true, ◌&&◌, List, Option, Some, None}
 use Rattle.std.specs.List.{list_any}
 use Rattle.bgp_types.specs.Prefixes.{PrefixValue, cleared}
 use Rattle.bgp_types.specs.Paths.{ases_of}
+use Rattle.bgp_types.specs.Spelling.{origin_number}
 use Rattle.bgp_types.specs.declared.attrs.Origin.{Origin}
-use Rattle.bgp_types.specs.declared.attrs.Origin.TheVariants.{Igp, Egp, Incomplete}
 use Rattle.bgp_types.specs.declared.attrs.Route.{Route}
 use Rattle.bgp_types.specs.declared.path.PathPart.{PathPart}
 use Rattle.route_policy.specs.declared.rule.PrefixRange.{PrefixRange}
@@ -21,12 +21,6 @@ is_in_range range prefix = covers range.prefix prefix && nat_le range.ge prefix.
 -- the AS stands in some part of the path
 abbrev pub holds_as : List PathPart → ℕ → Bool
 holds_as path as_number = list_any (λ part. list_any (λ other. other == as_number) (ases_of part)) path
-
--- the number by which an ORIGIN is written and compared (RFC 4271, section 5.1.1)
-abbrev pub origin_number : Origin → ℕ
-origin_number Igp = 0
-origin_number Egp = 1
-origin_number Incomplete = 2
 
 -- ---- the parts of a rule: one that is absent matches every route
 

@@ -1,10 +1,13 @@
 -- What a home router tells of its best route (RFC 4271, sections 5.1 and 9.1.3).
-use Rattle.std.specs.Prelude.{ℕ, ◌==◌, nat_lt, Bool, true, false, ◌||◌, List, [], map, Option, Some, None, unwrap_or, if◌then◌else◌}
+use Rattle.std.specs.Prelude.{ℕ, ◌==◌, nat_lt, Bool, true, false, ◌||◌, List, [], ◌∷◌, length, map, Option, Some, None, unwrap_or, if◌then◌else◌}
 use Rattle.graft_edge.specs.declared.ids.PeeringId.{PeeringId}
 use Rattle.bgp_types.specs.Prefixes.{PrefixValue}
+use Rattle.bgp_types.specs.Spelling.{spell}
 use Rattle.bgp_types.specs.declared.attrs.Attrs.{Attrs}
 use Rattle.bgp_types.specs.declared.attrs.RawAttr.{RawAttr}
 use Rattle.bgp_types.specs.declared.attrs.Route.{Route}
+use Rattle.bgp_types.specs.declared.message.Message.{Message}
+use Rattle.bgp_types.specs.declared.message.Message.TheVariants.{UpdateMsg}
 use Rattle.bgp_types.specs.declared.rank.From.{From}
 use Rattle.bgp_types.specs.declared.rank.From.TheVariants.{Own, Peering, Router}
 use Rattle.route_policy.specs.Paths.{prepend}
@@ -53,20 +56,24 @@ without_med route = record route { attrs = record route.attrs { med = None } }
 abbrev pub exported : ℕ → OutSide → PrefixValue → Route → Option Route
 exported home_as out prefix route = policy (unwrap_or out.export_rules []) prefix home_as (without_med route)
 
--- `update_len attrs prefix wide` is how many octets the UPDATE has that announces this prefix alone
--- with these attributes, spelled wide or narrow (RFC 6793). A message has at most 4,096.
-abbrev pub is_too_long : (Attrs → PrefixValue → Bool → ℕ) → PrefixValue → Attrs → Bool
-is_too_long update_len prefix attrs = nat_lt 4096 (update_len attrs prefix false) || nat_lt 4096 (update_len attrs prefix true)
+-- the UPDATE that announces one prefix alone
+abbrev pub announcement : PrefixValue → Attrs → Message
+announcement prefix attrs = UpdateMsg (record { withdrawn = []; attrs = Some attrs; nlri = prefix ∷ [] })
 
-abbrev pub told_where_it_fits : (Attrs → PrefixValue → Bool → ℕ) → ℕ → OutSide → PrefixValue → Option Route → Option Attrs
-told_where_it_fits update_len home_as out prefix None = None
-told_where_it_fits update_len home_as out prefix (Some route) =
-    if is_too_long update_len prefix (told_attrs home_as out route) then None else Some (told_attrs home_as out route)
+-- A message has at most 4,096 octets (section 4), whether it is spelled narrow or wide (RFC 6793).
+abbrev pub is_too_long : PrefixValue → Attrs → Bool
+is_too_long prefix attrs =
+    nat_lt 4096 (length (spell (announcement prefix attrs) false)) || nat_lt 4096 (length (spell (announcement prefix attrs) true))
+
+abbrev pub told_where_it_fits : ℕ → OutSide → PrefixValue → Option Route → Option Attrs
+told_where_it_fits home_as out prefix None = None
+told_where_it_fits home_as out prefix (Some route) =
+    if is_too_long prefix (told_attrs home_as out route) then None else Some (told_attrs home_as out route)
 
 -- Nothing is told where there is no best, where it came from this peering, where the export policy
 -- denies it, or where its UPDATE would be too long in either width.
-abbrev pub tell_out : (Attrs → PrefixValue → Bool → ℕ) → ℕ → OutSide → PrefixValue → Option (From × Route) → Option Attrs
-tell_out update_len home_as out prefix None = None
-tell_out update_len home_as out prefix (Some (from, route)) =
+abbrev pub tell_out : ℕ → OutSide → PrefixValue → Option (From × Route) → Option Attrs
+tell_out home_as out prefix None = None
+tell_out home_as out prefix (Some (from, route)) =
     if comes_from from out.peering then None
-    else told_where_it_fits update_len home_as out prefix (exported home_as out prefix route)
+    else told_where_it_fits home_as out prefix (exported home_as out prefix route)
