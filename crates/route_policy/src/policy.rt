@@ -160,7 +160,11 @@ mod tests {
         let Some(prefix) = Prefix::new(address, len) else {
             return Ok(None);
         };
-        Ok(policy(alloc, rules)?.matching(prefix, &route(alloc)?))
+        Ok(
+            policy(alloc, rules)?
+                .copy()?
+                .matching(prefix, &route(alloc)?),
+        )
     }
 
     /// What becomes of the route to 10.64.0.0/10.
