@@ -1,10 +1,11 @@
 -- The octets of AS numbers and of paths: two octets for an AS, or four in a wide message
 -- (RFC 4271, section 4.3; RFC 6793, section 4.1).
-use Rattle.std.specs.Prelude.{ℕ, List, ◌∷◌, length, map, Bool, nat_lt, if◌then◌else◌}
+use Rattle.std.specs.Prelude.{zero, suc, ◌*◌, ◌==◌, ◌||◌, [], take, drop, Option, Some, None, ℕ, List, ◌∷◌, length, map, Bool, nat_lt, if◌then◌else◌}
 use Rattle.std.specs.List.{flat_map, list_any}
-use Rattle.std.specs.Int.{Width, w16, w32, to_be_bytes}
+use Rattle.std.specs.Int.{Width, w16, w32, byte_len, from_be_bytes, to_be_bytes}
 use Rattle.bgp_types.specs.declared.path.PathPart.{PathPart}
 use Rattle.bgp_types.specs.declared.path.PathPart.TheVariants.{Set, Sequence}
+use Rattle.bgp_types.specs.Many.{all_of}
 use Rattle.bgp_types.specs.Paths.{ases_of}
 
 abbrev pub as_width : Bool → Width
@@ -37,3 +38,29 @@ path_in_width wide path = if wide then path else map narrow_part path
 -- some AS of the path needs four octets
 abbrev pub has_long_as : List PathPart → Bool
 has_long_as path = list_any (λ part. list_any is_long_as (ases_of part)) path
+
+-- ---- reading
+
+-- count numbers of a width, of bytes that have them
+abbrev pub numbers : Width → ℕ → List ℕ → List ℕ
+numbers w zero bytes = []
+numbers w (suc n) bytes = from_be_bytes w (take (byte_len w) bytes) ∷ numbers w n (drop (byte_len w) bytes)
+
+-- the part of this kind
+abbrev pub part_of : ℕ → List ℕ → Option PathPart
+part_of kind ases = if kind == 1 then Some (Set ases) else if kind == 2 then Some (Sequence ases) else None
+
+abbrev pub with_rest : {A : Type 0} → Option A → List ℕ → Option (A × List ℕ)
+with_rest None rest = None
+with_rest (Some x) rest = Some (x, rest)
+
+-- the part at the front: its kind is 1 or 2, and its count isn't 0
+unfoldable pub part_at : Bool → List ℕ → Option (PathPart × List ℕ)
+part_at wide [] = None
+part_at wide (kind ∷ []) = None
+part_at wide (kind ∷ count ∷ bytes) =
+    let size = count * byte_len (as_width wide) in
+    if (count == 0) || nat_lt (length bytes) size then None else with_rest (part_of kind (numbers (as_width wide) count bytes)) (drop size bytes)
+
+abbrev pub path_of : Bool → List ℕ → Option (List PathPart)
+path_of wide value = all_of (part_at wide) value

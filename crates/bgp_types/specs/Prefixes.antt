@@ -1,6 +1,9 @@
 -- Prefixes of addresses (RFC 4271, section 4.3).
-use Rattle.std.specs.Prelude.{◌≡◌, ℕ, ◌+◌, ◌-◌, ◌*◌, ◌/◌, ◌^◌, ◌<◌, ◌≤◌, List, ◌∷◌, take}
-use Rattle.std.specs.Int.{w32, to_be_bytes}
+use Rattle.std.specs.Prelude.{[], ◌++◌, ◌==◌, ◌||◌, ◌&&◌, length, drop, Option, Some, None, Bool, nat_lt, if◌then◌else◌, ◌≡◌, ℕ, ◌+◌, ◌-◌, ◌*◌, ◌/◌, ◌^◌, ◌<◌, ◌≤◌, List, ◌∷◌, take}
+use Rattle.std.specs.Int.{w32, from_be_bytes, to_be_bytes}
+use Rattle.std.specs.List.{list_any}
+use Rattle.std.specs.Option.{option_map}
+use Rattle.bgp_types.specs.Many.{all_of}
 
 -- a prefix as contracts see it: its first address, and how many leading bits its addresses share
 pub record PrefixValue : Type 0 where
@@ -33,3 +36,31 @@ octets_for len = (len + 7) / 8
 -- a prefix as it is written: its length, and the fewest octets that hold so many bits
 abbrev pub prefix_octets : PrefixValue → List ℕ
 prefix_octets p = p.len ∷ take (octets_for p.len) (to_be_bytes w32 p.address)
+
+-- ---- reading
+
+-- the address that begins with these octets
+abbrev pub address_of : List ℕ → ℕ
+address_of octets = from_be_bytes w32 (octets ++ drop (length octets) (0 ∷ 0 ∷ 0 ∷ 0 ∷ []))
+
+-- the prefix at the front, whose bits past its length don't matter
+unfoldable pub prefix_at : List ℕ → Option (PrefixValue × List ℕ)
+prefix_at [] = None
+prefix_at (len ∷ bytes) =
+    if nat_lt 32 len || nat_lt (length bytes) (octets_for len) then None
+    else Some (prefix_of len (address_of (take (octets_for len) bytes)), drop (octets_for len) bytes)
+
+abbrev pub same_prefix : PrefixValue → PrefixValue → Bool
+same_prefix p q = (p.address == q.address) && (p.len == q.len)
+
+abbrev pub put_once : List PrefixValue → PrefixValue → List PrefixValue
+put_once seen p = if list_any (same_prefix p) seen then seen else seen ++ p ∷ []
+
+-- each prefix counts once, at its first place
+abbrev pub once_after : List PrefixValue → List PrefixValue → List PrefixValue
+once_after seen [] = seen
+once_after seen (p ∷ prefixes) = once_after (put_once seen p) prefixes
+
+-- the prefixes of a field
+unfoldable pub prefixes_of : List ℕ → Option (List PrefixValue)
+prefixes_of bytes = option_map (once_after []) (all_of prefix_at bytes)

@@ -1,5 +1,5 @@
 -- Which messages have a written form that is read back (RFC 4271, section 4).
-use Rattle.std.specs.Prelude.{◌≡◌, ◌≢◌, ℕ, ◌^◌, ◌<◌, ◌≤◌, ◌==◌, List, [], ◌++◌, length, Option, Some, None, IfSome, All, Bool, true, false, nat_lt, nat_le, ◌||◌, ◌&&◌}
+use Rattle.std.specs.Prelude.{◌≡◌, ◌≢◌, ◌^◌, ◌<◌, ◌≤◌, List, [], ◌++◌, length, Option, Some, None, IfSome, All, Bool, true, false}
 use Rattle.std.specs.List.{flat_map, IsDistinct}
 use Rattle.bgp_types.specs.declared.attrs.Aggregator.{Aggregator}
 use Rattle.bgp_types.specs.declared.attrs.Attrs.{Attrs}
@@ -10,13 +10,10 @@ use Rattle.bgp_types.specs.declared.message.OpenMsg as open_type
 use Rattle.bgp_types.specs.declared.message.Update.{Update}
 use Rattle.bgp_types.specs.declared.path.PathPart.{PathPart}
 use Rattle.bgp_types.specs.Paths.{ases_of}
-use Rattle.bgp_types.specs.Prefixes.{PrefixValue, IsPrefix}
+use Rattle.bgp_types.specs.Prefixes.{PrefixValue, IsPrefix, same_prefix}
 use Rattle.bgp_types.specs.Rising.{IsRising}
+use Rattle.bgp_types.specs.Values.{is_no_host, is_other, other_kind, is_short_hold}
 use Rattle.bgp_types.specs.Spelling.{spell, param_octets, cap_octets}
-
--- 0.0.0.0, or from 224.0.0.0 on: an address that no host has
-abbrev pub is_no_host : ℕ → Bool
-is_no_host address = (address == 0) || nat_le 3758096384 address
 
 -- 1 to 255 ASes of four octets each
 pub record IsPart (part : PathPart) : Type 0 where
@@ -24,16 +21,9 @@ pub record IsPart (part : PathPart) : Type 0 where
   pub count : length (ases_of part) < 256
   pub each : All (λ as_number. as_number < 2 ^ 32) (ases_of part)
 
--- A type that isn't known here. 1 to 7, 17 and 18 are.
-abbrev pub is_other : ℕ → Bool
-is_other kind = (kind == 0) || (nat_lt 7 kind && nat_lt kind 17) || nat_lt 18 kind
-
 pub record IsOther (a : RawAttr) : Type 0 where
   pub other : is_other a.kind ≡ true
   pub kind : a.kind < 256
-
-abbrev pub other_kind : RawAttr → ℕ
-other_kind a = a.kind
 
 pub record IsAggregator (a : Aggregator) : Type 0 where
   pub as_number : a.as_number < 2 ^ 32
@@ -51,12 +41,9 @@ pub record IsWritableAttrs (a : Attrs) : Type 0 where
 pub record IsWritableOpen (o : open_type.OpenMsg) : Type 0 where
   pub as_number : o.as_number < 2 ^ 16
   pub hold : o.hold < 2 ^ 16
-  pub hold_time : (nat_lt 0 o.hold && nat_lt o.hold 3) ≡ false
+  pub hold_time : is_short_hold o.hold ≡ false
   pub identifier : is_no_host o.identifier ≡ false
   pub params : length (flat_map (λ cap. param_octets (cap_octets cap)) o.caps) < 256
-
-abbrev pub same_prefix : PrefixValue → PrefixValue → Bool
-same_prefix p q = (p.address == q.address) && (p.len == q.len)
 
 -- there are attributes exactly where prefixes are announced
 abbrev pub HasAttrsFor : Option Attrs → List PrefixValue → Type 0

@@ -3,6 +3,7 @@
 #![tactic(auto)]
 
 mod attrs;
+mod fault;
 mod length;
 mod message;
 mod path;
@@ -11,6 +12,7 @@ mod rank;
 mod text;
 
 pub use attrs::{Aggregator, Attrs, Origin, RawAttr, RawAttrs, Route};
+pub use fault::{Expected, FoundAttrs, HeaderFault};
 pub use graft_edge::{Items, Name, NoMemory, Octets, PeeringId, RouterId, TryCopy};
 pub use length::message_len;
 pub use message::{Cap, Caps, Message, Notice, OpenMsg, SessionState, Update};
