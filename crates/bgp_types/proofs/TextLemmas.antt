@@ -1,5 +1,5 @@
 -- Texts of addresses and prefixes.
-use Rattle.std.proofs.Common.{◌≡◌, ◌≢◌, ℕ, ◌+◌, ◌-◌, ◌*◌, ◌/◌, ◌%◌, ◌^◌, ◌<◌, ◌≤◌, zero, suc, Bool, true, false, eqb, List, [], ◌∷◌, ◌++◌, length, get_or, refl, sym, ap, ◌∙◌, subst, Result, Ok, Err, arith, append_assoc, length-append, decimal, ◌⊎◌, inl, inr, rules}
+use Rattle.std.proofs.Common.{◌≡◌, ◌≢◌, ℕ, ◌+◌, ◌/◌, ◌%◌, ◌^◌, ◌<◌, ◌≤◌, zero, suc, false, eqb, List, [], ◌∷◌, ◌++◌, length, get_or, refl, sym, ap, ◌∙◌, subst, Result, Ok, Err, arith, append_assoc, decimal, ◌⊎◌, inl, inr, rules}
 use Rattle.std.specs.Prelude.{codes, Option, Some, None, MatchOption, IsSome, IfSome, ◌↔◌}
 use Rattle.std.proofs.Math.Dec.{lit<}
 use Rattle.std.specs.List.{AllByRecursion}
@@ -141,11 +141,11 @@ IsPrefixText-parts text parts split address len front back (Some p) some value =
     let whole : text ≡ parts.0.now ++ 47 ∷ parts.1.now = (split_parts 47 text (Some parts) split (lit< tt)).0 in
     let same : p.len ≡ len = ap (λ q. q.len) value in
     let joined : text ≡ address_text address ++ codes "/" ++ decimal len =
-        whole ∙ ap (λ t. t ++ 47 ∷ parts.1.now) front.text ∙ ap (λ t. address_text address ++ 47 ∷ t) back.1 ∙ sym (append_assoc (address_text address) (47 ∷ []) (decimal len)) in
+    whole ∙ ap (λ t. t ++ 47 ∷ parts.1.now) front.text ∙ ap (λ t. address_text address ++ 47 ∷ t) back.1 ∙ sym (append_assoc (address_text address) (47 ∷ []) (decimal len)) in
     record {
       address = address;
       fits = front.fits;
       short = rw same back.0;
       text = rw same joined;
-      prefix = value ∙ ap (λ l. prefix_of l address) (sym same)
+      prefix = value ∙ ap (λ l. prefix_of l address) (sym same);
     }

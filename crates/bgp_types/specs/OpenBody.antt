@@ -81,7 +81,7 @@ with_said expected body (Ok caps) =
 unfoldable pub open_of : Expected → List ℕ → Result OpenMsg Notice
 open_of expected body =
     unless_fault (not (version_in body == 4)) (record { code = 2; subcode = 1; info = 0 ∷ 4 ∷ [] })
-      (unless_fault (not expected.offered && not (is_field expected.remote_as (as_in body))) (open_fault 2)
-        (unless_fault (is_short_hold (hold_in body)) (open_fault 6)
-          (unless_fault (is_no_host (identifier_in body)) (open_fault 3)
-            (with_said expected body (with_params (params_of (drop 9 body)))))))
+    (unless_fault (not expected.offered && not (is_field expected.remote_as (as_in body))) (open_fault 2)
+    (unless_fault (is_short_hold (hold_in body)) (open_fault 6)
+    (unless_fault (is_no_host (identifier_in body)) (open_fault 3)
+    (with_said expected body (with_params (params_of (drop 9 body)))))))

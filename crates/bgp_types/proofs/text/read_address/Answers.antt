@@ -1,4 +1,3 @@
-use Rattle.std.proofs.Common.{ap}
 use Rattle.std.specs.Int.{w32, to_be_bytes}
 use Rattle.std.specs.Net.Addr.{ipv4_bits}
 use Rattle.bgp_types.proofs.TextLemmas.{IsAddressText-dotted, IsDotted-address}

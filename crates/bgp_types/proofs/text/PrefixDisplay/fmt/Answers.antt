@@ -13,7 +13,7 @@ returns-clause-writes g c = λ plain ok.
     let address = c.address.ensures.value in
     let len = c.len-len.ensures.value in
     let written : ipv4_text c.from_bits-address.result.octets ++ 47 ∷ decimal c.len-len.result ≡ address_text p.address ++ 47 ∷ decimal p.len =
-      rw (octets, address, len) refl in
+    rw (octets, address, len) refl in
     let whole : ipv4_text c.from_bits-address.result.octets ++ 47 ∷ decimal c.len-len.result ≡ prefix_text p =
-      written ∙ sym (append_assoc (address_text p.address) (47 ∷ []) (decimal p.len)) in
+    written ∙ sym (append_assoc (address_text p.address) (47 ∷ []) (decimal p.len)) in
     subst (λ bs. HasWritten {W = g.row.W.Denot} g.W.Write.write_str_gives c.args.f.now bs c.write.new.self) whole (c.write.ensures.writes plain ok)

@@ -1,0 +1,118 @@
+//! Bytes in, messages out.
+
+ghost use Rattle.std.specs.Prelude.{◌≡◌, ◌++◌, [], OnOk, OnErr};
+ghost use Rattle.bgp_types.specs.Header.{frame_at};
+ghost use Rattle.bgp_frame.specs.Next.{Next, has_next, begins};
+
+use crate::header::{HEADER, fault_at, len_of};
+use crate::held::Held;
+use bgp_types::{HeaderFault, NoMemory, Octets};
+use std::alloc::Global;
+use std::marker::Model;
+use thiserror::Error;
+
+/// A whole message with a sound header: its type, and all of its octets.
+#[derive(Debug, Drop)]
+pub struct Frame {
+    pub kind: u8,
+    pub bytes: Octets,
+}
+
+/// Why no answer is given.
+#[derive(Clone, Copy, Debug, PartialEq, Eq, Error)]
+pub enum FrameStop {
+    /// The header at the front is faulty. The stream can't be cut any further.
+    #[error("a faulty header")]
+    Header(HeaderFault),
+    #[error("no memory")]
+    NoMemory,
+}
+
+impl std::convert::From<NoMemory> for FrameStop {
+    ghost use Rattle.std.specs.Prelude.{◌≡◌};
+    ghost use Rattle.bgp_frame.specs.declared.framer.FrameStop.TheVariants as stops;
+
+    ghost from_gives = { λ _ stop. stop ≡ stops.NoMemory };
+
+    fn from(_error: NoMemory) -> FrameStop {
+        FrameStop::NoMemory
+    }
+}
+
+/// The bytes of a stream of which no message was given yet.
+#[derive(Debug, Drop)]
+pub struct Framer {
+    held: Held,
+}
+
+impl Model for Framer {
+    ghost use Rattle.std.specs.Prelude.{ℕ, List};
+
+    ghost Value = { List ℕ };
+
+    ghost view = { λ framer. framer.held };
+}
+
+/// The length of the message at the front, where it is whole.
+#[tactic(auto, unfolding(bgp_types::specs::Header::frame_at))]
+fn whole_at(octets: &[u8]) -> Result<Option<usize>, HeaderFault>
+    ensures { begins result octets.now }
+{
+    if octets.len() < HEADER {
+        return Ok(None);
+    }
+    if let Some(fault) = fault_at(octets) {
+        return Err(fault);
+    }
+    let len = usize::from(len_of(octets));
+    if octets.len() < len {
+        return Ok(None);
+    }
+    Ok(Some(len))
+}
+
+impl Framer {
+    /// Holds no bytes.
+    pub fn new(alloc: Global) -> Framer
+        ensures { result ≡ [] }
+    {
+        Framer {
+            held: Held::new(alloc),
+        }
+    }
+
+    /// Takes the next piece of the stream. After `NoMemory` nothing of it was taken.
+    pub fn feed(&mut self, bytes: &[u8]) -> Result<(), NoMemory>
+        ensures ok { OnOk result (self.new ≡ self.old ++ bytes.now) }
+        ensures err { OnErr result (self.new ≡ self.old) }
+    {
+        self.held.push(bytes)
+    }
+
+    /// Whether the bytes held begin with a whole message or with a faulty header, so that `next`
+    /// answers with it.
+    pub fn waits(&self) -> bool
+        ensures { result ≡ has_next self.now }
+    {
+        !matches!(whole_at(self.held.as_slice()), Ok(None))
+    }
+
+    /// Gives the next message, where it is whole; none where fewer octets are held than a header
+    /// has, or than a sound header says. A faulty header is answered from then on. After it, and
+    /// after `NoMemory`, the same bytes are held.
+    pub fn next(&mut self) -> Result<Option<Frame>, FrameStop>
+        ensures { Next result self.old self.new }
+    {
+        let octets = self.held.as_slice();
+        let len = match whole_at(octets) {
+            Err(fault) => return Err(FrameStop::Header(fault)),
+            Ok(None) => return Ok(None),
+            Ok(Some(len)) => len,
+        };
+        let kind = octets[18];
+        let (front, _) = octets.split_at(len);
+        let bytes = Octets::from_slice(self.held.alloc(), front)?;
+        self.held.skip(len);
+        Ok(Some(Frame { kind, bytes }))
+    }
+}
