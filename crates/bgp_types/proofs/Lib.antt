@@ -3,3 +3,10 @@ pub mod Rows
 pub mod TextLemmas
 pub mod ManyLaws
 pub mod FrameLaws
+pub mod AttrLaws
+pub mod PathLaws
+pub mod TakesLaws
+pub mod PartLaws
+pub mod OrderLaws
+pub mod AttrsReads
+pub mod PrefixLaws

@@ -6,6 +6,7 @@ pub mod Header
 pub mod Lengths
 pub mod Many
 pub mod Merge
+pub mod OctetLists
 pub mod OpenBody
 pub mod PathOctets
 pub mod Paths

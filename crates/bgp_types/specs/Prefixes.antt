@@ -1,5 +1,5 @@
 -- Prefixes of addresses (RFC 4271, section 4.3).
-use Rattle.std.specs.Prelude.{[], ◌++◌, ◌==◌, ◌||◌, ◌&&◌, length, drop, Option, Some, None, Bool, nat_lt, if◌then◌else◌, ◌≡◌, ℕ, ◌+◌, ◌-◌, ◌*◌, ◌/◌, ◌^◌, ◌<◌, ◌≤◌, List, ◌∷◌, take}
+use Rattle.std.specs.Prelude.{map, [], ◌++◌, ◌==◌, ◌||◌, ◌&&◌, length, drop, Option, Some, None, Bool, nat_lt, if◌then◌else◌, ◌≡◌, ℕ, ◌+◌, ◌-◌, ◌*◌, ◌/◌, ◌^◌, ◌<◌, ◌≤◌, List, ◌∷◌, take}
 use Rattle.std.specs.Int.{w32, from_be_bytes, to_be_bytes}
 use Rattle.std.specs.List.{list_any}
 use Rattle.std.specs.Option.{option_map}
@@ -43,12 +43,29 @@ prefix_octets p = p.len ∷ take (octets_for p.len) (to_be_bytes w32 p.address)
 abbrev pub address_of : List ℕ → ℕ
 address_of octets = from_be_bytes w32 (octets ++ drop (length octets) (0 ∷ 0 ∷ 0 ∷ 0 ∷ []))
 
--- the prefix at the front, whose bits past its length don't matter
-unfoldable pub prefix_at : List ℕ → Option (PrefixValue × List ℕ)
+-- a prefix as it stands in its field: a length, and the octets of an address
+pub record WirePrefix : Type 0 where
+  pub len : ℕ
+  pub octets : List ℕ
+
+-- The length is at most 32, and there are the fewest octets that hold so many bits.
+pub record IsWirePrefix (p : WirePrefix) : Type 0 where
+  pub len : p.len ≤ 32
+  pub octets : length p.octets ≡ octets_for p.len
+
+abbrev pub wire_octets : WirePrefix → List ℕ
+wire_octets p = p.len ∷ p.octets
+
+-- bits past the length don't matter
+abbrev pub prefix_said : WirePrefix → PrefixValue
+prefix_said p = prefix_of p.len (address_of p.octets)
+
+-- the prefix at the front
+unfoldable pub prefix_at : List ℕ → Option (WirePrefix × List ℕ)
 prefix_at [] = None
 prefix_at (len ∷ bytes) =
     if nat_lt 32 len || nat_lt (length bytes) (octets_for len) then None
-    else Some (prefix_of len (address_of (take (octets_for len) bytes)), drop (octets_for len) bytes)
+    else Some (record { len = len; octets = take (octets_for len) bytes }, drop (octets_for len) bytes)
 
 abbrev pub same_prefix : PrefixValue → PrefixValue → Bool
 same_prefix p q = (p.address == q.address) && (p.len == q.len)
@@ -63,4 +80,4 @@ once_after seen (p ∷ prefixes) = once_after (put_once seen p) prefixes
 
 -- the prefixes of a field
 unfoldable pub prefixes_of : List ℕ → Option (List PrefixValue)
-prefixes_of bytes = option_map (once_after []) (all_of prefix_at bytes)
+prefixes_of bytes = option_map (λ spelled. once_after [] (map prefix_said spelled)) (all_of prefix_at bytes)

@@ -11,30 +11,13 @@ use Rattle.bgp_types.specs.declared.message.OpenMsg as open_type
 use Rattle.bgp_types.specs.declared.message.Update.{Update}
 use Rattle.bgp_types.specs.Faults.{own_fault}
 use Rattle.bgp_types.specs.Found.{found_in}
-use Rattle.bgp_types.specs.Prefixes.{PrefixValue, octets_for, address_of, prefix_of, once_after}
+use Rattle.bgp_types.specs.Prefixes.{PrefixValue, WirePrefix, IsWirePrefix, wire_octets, prefix_said, once_after}
 use Rattle.bgp_types.specs.Spelling.{counted, cap_octets, param_octets, open_octets, framed, kind_of}
 use Rattle.bgp_types.specs.UpdateBody.{apart}
 use Rattle.bgp_types.specs.WireAttrs.{WireAttr, IsWireAttr, wire_kind, attr_octets}
 use Rattle.bgp_types.specs.Values.{is_no_host, is_short_hold}
 
 -- ---- prefixes
-
--- a length, and the octets of an address
-pub record WirePrefix : Type 0 where
-  pub len : ℕ
-  pub octets : List ℕ
-
--- the length is at most 32, and there are the fewest octets that hold so many bits
-pub record IsWirePrefix (p : WirePrefix) : Type 0 where
-  pub len : p.len ≤ 32
-  pub octets : length p.octets ≡ octets_for p.len
-
-abbrev pub wire_octets : WirePrefix → List ℕ
-wire_octets p = p.len ∷ p.octets
-
--- bits past the length don't matter
-abbrev pub prefix_said : WirePrefix → PrefixValue
-prefix_said p = prefix_of p.len (address_of p.octets)
 
 -- the prefixes of a field, each once, at its first place
 pub record ReadsPrefixes (field : List ℕ) (prefixes : List PrefixValue) : Type 0 where

@@ -1,0 +1,28 @@
+-- Parts of a path, one after another.
+use Rattle.std.proofs.Common.{◌≡◌, ℕ, zero, suc, ◌+◌, ◌-◌, ◌*◌, ◌<◌, ◌≤◌, List, [], ◌∷◌, ◌++◌, length, take, drop, Option, Some, None, Bool, true, false, cond, ltb, eqb, refl, sym, ap, ◌∙◌, arith, length-drop, subst}
+use Rattle.std.specs.Prelude.{◌||◌}
+use Rattle.std.specs.Int.{Width, byte_len, from_be_bytes}
+use Rattle.std.proofs.Math.Nat.{suc-mul}
+use Rattle.std.proofs.lemmas.List.{append-nil, append_assoc}
+use Rattle.std.proofs.lemmas.Option.{same_Some}
+use Rattle.bgp_types.specs.declared.path.PathPart.{PathPart}
+use Rattle.bgp_types.specs.Many.{many, many_within, if_whole}
+use Rattle.bgp_types.specs.PathOctets.{as_width, numbers, part_of, with_rest, part_at}
+use Rattle.bgp_types.proofs.ManyLaws.{Shortens, kept_out}
+
+pub with_rest_is : {A : Type 0} (o : Option A) (rest : List ℕ) (x : A × List ℕ) → with_rest o rest ≡ Some x → x.1 ≡ rest
+with_rest_is None rest x e = absurd cc
+with_rest_is {A} (Some y) rest x e = ap (λ (z : A × List ℕ). z.1) (sym (same_Some (y, rest) x e))
+
+part_shorter : (wide : Bool) (bytes : List ℕ) (x : PathPart × List ℕ) → part_at wide bytes ≡ Some x → length x.1 < length bytes
+unfolding part_at
+part_shorter wide [] x e = absurd cc
+part_shorter wide (k ∷ []) x e = absurd cc
+part_shorter wide (k ∷ c ∷ bytes) x e =
+    let size = c * byte_len (as_width wide) in
+    let h = kept_out ((eqb c 0) || ltb (length bytes) size) (with_rest (part_of k (numbers (as_width wide) c bytes)) (drop size bytes)) x e in
+    rw (with_rest_is (part_of k (numbers (as_width wide) c bytes)) (drop size bytes) x h.1, length-drop size bytes) (omega arith)
+
+pub part_shortens : (wide : Bool) → Shortens (part_at wide)
+part_shortens wide = record { shorter = part_shorter wide }
+
