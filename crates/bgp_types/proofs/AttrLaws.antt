@@ -69,12 +69,12 @@ wide_size flags = by_test (eqb (bit_and flags 16) 0) where
   by_test true = wide8
   by_test false = wide16
 
-number_is : (w : Width) (bytes : List ℕ) (x : ℕ × List ℕ) → number_at w bytes ≡ Some x → (byte_len w ≤ length bytes) × ((from_be_bytes w (take (byte_len w) bytes), drop (byte_len w) bytes) ≡ x)
+pub number_is : (w : Width) (bytes : List ℕ) (x : ℕ × List ℕ) → number_at w bytes ≡ Some x → (byte_len w ≤ length bytes) × ((from_be_bytes w (take (byte_len w) bytes), drop (byte_len w) bytes) ≡ x)
 number_is w bytes x e =
     let g = kept_out (ltb (length bytes) (byte_len w)) (Some (from_be_bytes w (take (byte_len w) bytes), drop (byte_len w) bytes)) x e in
     (ltb-false _ _ g.0, same_Some _ x g.1)
 
-told_is : (o : Option (ℕ × List ℕ)) (v : List ℕ × List ℕ) → told_at o ≡ Some v → (n : ℕ × List ℕ) × (o ≡ Some n) × (n.0 ≤ length n.1) × ((take n.0 n.1, drop n.0 n.1) ≡ v)
+pub told_is : (o : Option (ℕ × List ℕ)) (v : List ℕ × List ℕ) → told_at o ≡ Some v → (n : ℕ × List ℕ) × (o ≡ Some n) × (n.0 ≤ length n.1) × ((take n.0 n.1, drop n.0 n.1) ≡ v)
 told_is None v e = absurd cc
 told_is (Some n) v e =
     let g = kept_out (ltb (length n.1) n.0) (Some (take n.0 n.1, drop n.0 n.1)) v e in
@@ -122,13 +122,13 @@ attr_takes (f ∷ k ∷ bytes) x fits e =
     let there   : TakesAttr (f ∷ k ∷ bytes) (attr_with f k a.0.0) a.0.1 = subst (λ (v : List ℕ × List ℕ). TakesAttr (f ∷ k ∷ bytes) (attr_with f k v.0) v.1) value here in
     subst (λ (y : WireAttr × List ℕ). TakesAttr (f ∷ k ∷ bytes) y.0 y.1) a.2 there
 
-number_again : (w : Width) (limit : ℕ) → IsWide w limit → (n : ℕ) (rest : List ℕ) → n < limit → number_at w (to_be_bytes w n ++ rest) ≡ Some (n, rest)
+pub number_again : (w : Width) (limit : ℕ) → IsWide w limit → (n : ℕ) (rest : List ℕ) → n < limit → number_at w (to_be_bytes w n ++ rest) ≡ Some (n, rest)
 number_again w limit wide n rest lt =
     let len = wide.len n in
     let long : ltb (length (to_be_bytes w n ++ rest)) (byte_len w) ≡ false = le-ltb _ _ (omega (arith, length-append (to_be_bytes w n) rest)) in
     rw (long, take_at (to_be_bytes w n) rest (byte_len w) len, drop_at (to_be_bytes w n) rest (byte_len w) len, wide.again n lt) refl
 
-told_again : (value rest : List ℕ) → told_at (Some (length value, value ++ rest)) ≡ Some (value, rest)
+pub told_again : (value rest : List ℕ) → told_at (Some (length value, value ++ rest)) ≡ Some (value, rest)
 told_again value rest =
     let long : ltb (length (value ++ rest)) (length value) ≡ false = le-ltb _ _ (omega (arith, length-append value rest)) in
     rw (long, take_at value rest (length value) refl, drop_at value rest (length value) refl) refl

@@ -10,3 +10,5 @@ pub mod PartLaws
 pub mod OrderLaws
 pub mod AttrsReads
 pub mod PrefixLaws
+pub mod OpenLaws
+pub mod UpdateLaws
