@@ -12,3 +12,4 @@ pub mod AttrsReads
 pub mod PrefixLaws
 pub mod OpenLaws
 pub mod UpdateLaws
+pub mod MessageLaws

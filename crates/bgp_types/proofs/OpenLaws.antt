@@ -11,6 +11,7 @@ use Rattle.bgp_types.specs.declared.fault.Expected.{Expected}
 use Rattle.bgp_types.specs.declared.message.Cap.{Cap}
 use Rattle.bgp_types.specs.declared.message.Notice.{Notice}
 use Rattle.bgp_types.specs.declared.message.OpenMsg.{OpenMsg}
+use Rattle.bgp_types.specs.Expect.{is_remote_as}
 use Rattle.bgp_types.specs.Many.{all_of}
 use Rattle.bgp_types.specs.OctetLists.{AreOctets}
 use Rattle.bgp_types.specs.OpenBody.{cap_at, open_fault, with_caps, caps_of, params_of, with_params, as_said, is_field, is_said, version_in, as_in, hold_in, identifier_in, open_with, unless_fault, with_said, open_of}
@@ -172,10 +173,6 @@ pub record Passes (expected : Expected) (body : List ℕ) (caps : List Cap) : Ty
   pub host : is_no_host (identifier_in body) ≡ false
   pub params : with_params (params_of (drop 9 body)) ≡ Ok caps
 
--- the AS is that of the remote
-abbrev pub is_as : Expected → ℕ → List Cap → Bool
-is_as expected field caps = cond expected.offered (is_said expected.remote_as field (as_said caps)) (is_field expected.remote_as field)
-
 unless_ok : {A : Type 0} (t : Bool) (n : Notice) (later : Result A Notice) (x : A) → unless_fault t n later ≡ Ok x → (t ≡ false) × (later ≡ Ok x)
 unless_ok true n later x e = absurd cc
 unless_ok false n later x e = (refl, e)
@@ -203,7 +200,7 @@ last_test : (offered field said : Bool) → cond offered said field ≡ true →
 last_test true field said e = ap not e
 last_test false field said e = refl
 
-open_passes : (expected : Expected) (body : List ℕ) (o : OpenMsg) → open_of expected body ≡ Ok o → (caps : List Cap) × Passes expected body caps × (is_as expected (as_in body) caps ≡ true) × (open_with body caps ≡ o)
+open_passes : (expected : Expected) (body : List ℕ) (o : OpenMsg) → open_of expected body ≡ Ok o → (caps : List Cap) × Passes expected body caps × (is_remote_as expected (as_in body) caps ≡ true) × (open_with body caps ≡ o)
 unfolding open_of
 open_passes expected body o e =
     let version = unless_ok _ _ _ o e in
@@ -213,7 +210,7 @@ open_passes expected body o e =
     let said = said_ok expected body (with_params (params_of (drop 9 body))) o host.1 in
     (said.0, record { version = eqb-true _ _ (not_false _ version.0); hold = hold.0; host = host.0; params = said.1 }, both_tests expected.offered (is_field expected.remote_as (as_in body)) (is_said expected.remote_as (as_in body) (as_said said.0)) field.0 said.2, said.3)
 
-passes_open : (expected : Expected) (body : List ℕ) (caps : List Cap) → Passes expected body caps → is_as expected (as_in body) caps ≡ true → open_of expected body ≡ Ok (open_with body caps)
+passes_open : (expected : Expected) (body : List ℕ) (caps : List Cap) → Passes expected body caps → is_remote_as expected (as_in body) caps ≡ true → open_of expected body ≡ Ok (open_with body caps)
 unfolding open_of
 passes_open expected body caps p is =
     let offered = expected.offered in
@@ -273,10 +270,10 @@ with_fields expected body caps f bytes p =
     let Q : List ℕ → Type 0 = λ y. AreOctets y → Passes expected y caps → ReadsOpen y (open_with y caps) in
     subst Q (sym f.all) (open_spelled f.version f.a f.b f.c f.d f.e f.f f.g f.h f.size f.params caps expected) bytes p
 
-pub open_read : (expected : Expected) (body : List ℕ) (o : OpenMsg) → AreOctets body → 10 ≤ length body → open_of expected body ≡ Ok o → ReadsOpen body o × (is_as expected o.as_number o.caps ≡ true)
+pub open_read : (expected : Expected) (body : List ℕ) (o : OpenMsg) → AreOctets body → 10 ≤ length body → open_of expected body ≡ Ok o → ReadsOpen body o × (is_remote_as expected o.as_number o.caps ≡ true)
 open_read expected body o bytes le e =
     let s = open_passes expected body o e in
-    (subst (λ (m : OpenMsg). ReadsOpen body m) s.3 (with_fields expected body s.0 (fields body le) bytes s.1), subst (λ (m : OpenMsg). is_as expected m.as_number m.caps ≡ true) s.3 s.2)
+    (subst (λ (m : OpenMsg). ReadsOpen body m) s.3 (with_fields expected body s.0 (fields body le) bytes s.1), subst (λ (m : OpenMsg). is_remote_as expected m.as_number m.caps ≡ true) s.3 s.2)
 
 -- ---- what is spelled is read
 
@@ -292,7 +289,7 @@ opened : (as_number hold identifier : ℕ) (params : List (List Cap)) → as_num
     (let body : List ℕ = open_octets as_number hold identifier (flat_map (λ caps. param_octets (flat_map cap_octets caps)) params) in (as_in body ≡ as_number) × (hold_in body ≡ hold) × (identifier_in body ≡ identifier))
 opened as_number hold identifier params a h i = (wide16.again as_number a, wide16.again hold h, wide32.again identifier i)
 
-pub open_are : (expected : Expected) (body : List ℕ) (o : OpenMsg) → ReadsOpen body o → is_as expected o.as_number o.caps ≡ true → open_of expected body ≡ Ok o
+pub open_are : (expected : Expected) (body : List ℕ) (o : OpenMsg) → ReadsOpen body o → is_remote_as expected o.as_number o.caps ≡ true → open_of expected body ≡ Ok o
 open_are expected body o r is =
     let params : List ℕ = flat_map (λ caps. param_octets (flat_map cap_octets caps)) r.params in
     let spelled : List ℕ = open_octets o.as_number o.hold o.identifier params in
@@ -303,7 +300,7 @@ open_are expected body o r is =
       host = ap is_no_host n.2 ∙ r.host;
       params = params_again r.params;
     } in
-    let as_is : is_as expected (as_in spelled) (all_caps r.params) ≡ true = rw (n.0, sym r.caps) is in
+    let as_is : is_remote_as expected (as_in spelled) (all_caps r.params) ≡ true = rw (n.0, sym r.caps) is in
     ap (open_of expected) r.octets ∙ (passes_open expected spelled (all_caps r.params) passes as_is ∙ ap (λ (m : OpenMsg). (let x : Result OpenMsg Notice = Ok m in x)) (same_open _ _ _ _ o n.0 n.1 n.2 (sym r.caps)))
   where
     same_open : (a h i : ℕ) (caps : List Cap) (o : OpenMsg) → a ≡ o.as_number → h ≡ o.hold → i ≡ o.identifier → caps ≡ o.caps → (let m : OpenMsg = record { as_number = a; hold = h; identifier = i; caps = caps } in m ≡ o)

@@ -1,3 +1,4 @@
+pub mod Expect
 pub mod Faults
 pub mod Finds
 pub mod FirstFault
