@@ -13,3 +13,4 @@ pub mod PrefixLaws
 pub mod OpenLaws
 pub mod UpdateLaws
 pub mod MessageLaws
+pub mod ReadsOnce

@@ -305,3 +305,6 @@ open_are expected body o r is =
   where
     same_open : (a h i : ℕ) (caps : List Cap) (o : OpenMsg) → a ≡ o.as_number → h ≡ o.hold → i ≡ o.identifier → caps ≡ o.caps → (let m : OpenMsg = record { as_number = a; hold = h; identifier = i; caps = caps } in m ≡ o)
     same_open a h i caps o e1 e2 e3 e4 = grind arith
+
+pub as_again : (body : List ℕ) (o : OpenMsg) → ReadsOpen body o → as_in body ≡ o.as_number
+as_again body o r = ap (λ (y : List ℕ). as_in y) r.octets ∙ (opened o.as_number o.hold o.identifier r.params r.as_number r.hold r.identifier).0

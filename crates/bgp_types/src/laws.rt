@@ -1,0 +1,23 @@
+//! What holds of the definitions of the wire format.
+
+ghost use Rattle.std.specs.Prelude.{◌≡◌, ◌↔◌, ℕ, List, [], Bool, Some, None};
+ghost use Rattle.bgp_types.specs.declared.fault.Expected.{Expected};
+ghost use Rattle.bgp_types.specs.declared.message.Message.{Message};
+ghost use Rattle.bgp_types.specs.Expect.{ReadsExpected};
+ghost use Rattle.bgp_types.specs.FirstFault.{first_fault};
+ghost use Rattle.bgp_types.specs.Header.{frame_at};
+ghost use Rattle.bgp_types.specs.OctetLists.{AreOctets};
+ghost use Rattle.bgp_types.specs.Reads.{Reads};
+
+/// A frame reads as at most one message in a width.
+pub fn reads_once()
+    ensures { (frame : List ℕ) (one : Message) (other : Message) (wide : Bool) → Reads frame one wide → Reads frame other wide → one ≡ other }
+{
+}
+
+/// A whole frame with a sound header has no fault exactly where it reads as a message that the
+/// session takes.
+pub fn reads_without_fault()
+    ensures { (frame : List ℕ) (expected : Expected) → AreOctets frame → frame_at frame ≡ Some (frame, []) → (first_fault frame expected ≡ None) ↔ ReadsExpected frame expected }
+{
+}
