@@ -43,11 +43,11 @@ narrow_path_size (part ∷ path) =
     let rest : sum_by (part_size false) (map narrow_part path) ≡ sum_by (part_size false) path = narrow_path_size path in
     sum_by-cons (part_size false) (narrow_part part) (map narrow_part path) ∙ (rw (first, rest) (sym (sum_by-cons (part_size false) part path)))
 
-path_size_is : (wide : Bool) (path : List PathPart) → length (path_octets wide path) ≡ sum_by (part_size wide) path
+pub path_size_is : (wide : Bool) (path : List PathPart) → length (path_octets wide path) ≡ sum_by (part_size wide) path
 unfolding path_octets
 path_size_is wide path = length-flat_map (part_octets wide) path
 
-path_in_width_size : (wide : Bool) (path : List PathPart) → length (path_octets wide (path_in_width wide path)) ≡ sum_by (part_size wide) path
+pub path_in_width_size : (wide : Bool) (path : List PathPart) → length (path_octets wide (path_in_width wide path)) ≡ sum_by (part_size wide) path
 path_in_width_size true path = path_size_is true path
 path_in_width_size false path = path_size_is false (map narrow_part path) ∙ narrow_path_size path
 
@@ -65,7 +65,7 @@ rising_size [] = refl
 rising_size (x ∷ xs) = insert_size x (in_rising wire_kind xs) ∙ (ap (λ n. attr_size x + n) (rising_size xs) ∙ sym (sum_by-cons attr_size x xs))
 
 -- an attribute, by the size of its value, for each of the flags that are written
-sized : (flags kind : ℕ) (value : List ℕ) → (bit_and flags 16 == 0) ≡ true → (bit_and (flags + 16) 16 == 0) ≡ false → attr_size (written flags kind value) ≡ attr_size_of (length value)
+pub sized : (flags kind : ℕ) (value : List ℕ) → (bit_and flags 16 == 0) ≡ true → (bit_and (flags + 16) 16 == 0) ≡ false → attr_size (written flags kind value) ≡ attr_size_of (length value)
 sized flags kind value short long = by_test (ltb 255 (length value)) where
   by_test : (t : Bool) → suc (suc (length (to_be_bytes (size_width (cond t (flags + 16) flags)) (length value) ++ value))) ≡ cond t (length value + 4) (length value + 3)
   by_test true = let h = length-append (to_be_bytes w16 (length value)) value in rw long (omega arith)
@@ -80,7 +80,7 @@ as4_path_size wide path = by_test (not wide && has_long_as path) where
   by_test true = let h : attr_size (written 192 17 (path_octets true path)) ≡ attr_size_of (sum_by (part_size true) path) = sized 192 17 (path_octets true path) refl refl ∙ ap attr_size_of (path_size_is true path) in omega arith
   by_test false = refl
 
-other_size : (a : RawAttr) → attr_size (other_written a) ≡ attr_size_of (length a.bytes)
+pub other_size : (a : RawAttr) → attr_size (other_written a) ≡ attr_size_of (length a.bytes)
 other_size a = by_test a.partial where
   by_test : (t : Bool) → attr_size (written (passed_flags t) a.kind a.bytes) ≡ attr_size_of (length a.bytes)
   by_test true = sized 224 a.kind a.bytes refl refl

@@ -14,3 +14,5 @@ pub mod OpenLaws
 pub mod UpdateLaws
 pub mod MessageLaws
 pub mod ReadsOnce
+pub mod SlotLaws
+pub mod AttrsWritten
