@@ -1,6 +1,6 @@
 -- Attributes that are written read back.
 use Rattle.std.proofs.Common.{◌≡◌, ℕ, ◌+◌, ◌-◌, ◌^◌, ◌<◌, ◌≤◌, List, [], ◌∷◌, ◌++◌, length, map, Bool, true, false, cond, eqb, ltb, Option, Some, None, Result, Ok, Err, refl, sym, ap, ◌∙◌, arith, subst}
-use Rattle.std.specs.Prelude.{◌≢◌, All, IfSome, bit_and, ◌||◌, ◌&&◌, not, sum_by}
+use Rattle.std.specs.Prelude.{◌≢◌, All, IfSome, bit_and, ◌||◌, ◌&&◌, not, sum_by, is_some}
 use Rattle.std.specs.List.{flat_map, AllByRecursion, list_any}
 use Rattle.std.specs.Int.{w32, to_be_bytes, from_be_bytes, byte_len}
 use Rattle.std.proofs.lemmas.Bool.{ltb-true, ltb-false}
@@ -413,5 +413,74 @@ are_slots wide a w r = (
               as4_path_slot wide a.path r.long, refl, refl, (as4_aggregator_slot wide a.aggregator, refl, refl, tt))))))))
 
 -- what the attributes say
-abbrev all_found : Attrs → FoundAttrs
+abbrev pub all_found : Attrs → FoundAttrs
 all_found a = record { origin = Some a.origin; path = Some a.path; next_hop = Some a.next_hop; med = a.med; atomic = a.atomic; aggregator = a.aggregator; unknown = a.unknown }
+
+look : (wide : Bool) (a : Attrs) (k : ℕ) → is_other k ≡ false → IsWritableAttrs a → HasRoom wide a → attr_of k (in_rising wire_kind (joined (slots wide a) (map other_written a.unknown))) ≡ slot_of k kinds (slots wide a)
+look wide a k o w r =
+    find_rising k (joined (slots wide a) (map other_written a.unknown))
+    ∙ find_slot wide k kinds (slots wide a) (map other_written a.unknown) o (are_slots wide a w r) (others_are a.unknown (recursion_from_All IsOther a.unknown w.unknown))
+
+atomic_found : (atomic : Bool) → is_some (head_of (atomic_written atomic)) ≡ atomic
+atomic_found true = refl
+atomic_found false = refl
+
+same_found : (o o' : Option Origin) (p p' : Option (List PathPart)) (n n' m m' : Option ℕ) (t t' : Bool) (g g' : Option Aggregator) (u u' : List RawAttr) → o ≡ o' → p ≡ p' → n ≡ n' → m ≡ m' → t ≡ t' → g ≡ g' → u ≡ u' →
+    (let x : FoundAttrs = record { origin = o; path = p; next_hop = n; med = m; atomic = t; aggregator = g; unknown = u } in let y : FoundAttrs = record { origin = o'; path = p'; next_hop = n'; med = m'; atomic = t'; aggregator = g'; unknown = u' } in x ≡ y)
+same_found o o' p p' n n' m m' t t' g g' u u' e1 e2 e3 e4 e5 e6 e7 = grind arith
+
+paths_found : (wide : Bool) (a : Attrs) → IsWritableAttrs a → (g as4 : Option Aggregator) → is_stale g as4 ≡ false →
+    path_with (is_stale g as4) (said (path_in wide) (Some (path_written wide a.path))) (unless_wide wide (as4_path_in (head_of (as4_path_written wide a.path)))) ≡ Some a.path
+paths_found wide a w g as4 fresh =
+    let as4_path : Option (List PathPart) = unless_wide wide (as4_path_in (head_of (as4_path_written wide a.path))) in
+    ap (λ (t : Bool). path_with t (said (path_in wide) (Some (path_written wide a.path))) as4_path) fresh
+    ∙ (ap (λ (o : Option (List PathPart)). path_with false o as4_path) (ap ok_in (path_said wide (path_in_width wide a.path) (path_fits wide a.path w.path)))
+    ∙ path_found wide a.path w.path)
+
+all_are_found : (wide : Bool) (a : Attrs) → IsWritableAttrs a → HasRoom wide a → found_in wide (in_rising wire_kind (joined (slots wide a) (map other_written a.unknown))) ≡ all_found a
+unfolding found_in
+all_are_found wide a w r =
+    let xs : List WireAttr = in_rising wire_kind (joined (slots wide a) (map other_written a.unknown)) in
+    let find : (k : ℕ) → is_other k ≡ false → attr_of k xs ≡ slot_of k kinds (slots wide a) = λ k o. look wide a k o w r in
+    let g : said (aggregator_in wide) (attr_of 7 xs) ≡ aggregator_in_width wide a.aggregator = ap (said (aggregator_in wide)) (find 7 refl) ∙ aggregator_found wide a.aggregator w.aggregator in
+    let as4 : unless_wide wide (as4_aggregator_in (attr_of 18 xs)) ≡ unless_wide wide (as4_aggregator_in (head_of (as4_aggregator_written wide a.aggregator))) = ap (λ (o : Option WireAttr). unless_wide wide (as4_aggregator_in o)) (find 18 refl) in
+    let merged = merged_found wide a.aggregator w.aggregator in
+    let fresh : is_stale (said (aggregator_in wide) (attr_of 7 xs)) (unless_wide wide (as4_aggregator_in (attr_of 18 xs))) ≡ false = ap (λ (o : Option Aggregator). is_stale o (unless_wide wide (as4_aggregator_in (attr_of 18 xs)))) g ∙ (ap (is_stale (aggregator_in_width wide a.aggregator)) as4 ∙ merged.1) in
+    let path = ap (λ (o : Option WireAttr). path_with (is_stale (said (aggregator_in wide) (attr_of 7 xs)) (unless_wide wide (as4_aggregator_in (attr_of 18 xs)))) (said (path_in wide) o) (unless_wide wide (as4_path_in (attr_of 17 xs)))) (find 2 refl) in
+    let path2 = ap (λ (o : Option WireAttr). path_with (is_stale (said (aggregator_in wide) (attr_of 7 xs)) (unless_wide wide (as4_aggregator_in (attr_of 18 xs)))) (said (path_in wide) (Some (path_written wide a.path))) (unless_wide wide (as4_path_in o))) (find 17 refl) in
+    let us = recursion_from_All IsOther a.unknown w.unknown in
+    let kept_are : in_rising other_kind (kept xs) ≡ a.unknown =
+    kept_rising (joined (slots wide a) (map other_written a.unknown))
+    ∙ (ap (in_rising other_kind) (kept_slots wide kinds (slots wide a) (map other_written a.unknown) (are_slots wide a w r) ∙ others_kept a.unknown us) ∙ rising_same other_kind a.unknown w.rising) in
+    same_found _ _ _ _ _ _ _ _ _ _ _ _ _ _
+    (ap (said origin_in) (find 1 refl) ∙ origin_said a.origin)
+    (path ∙ (path2 ∙ paths_found wide a w (said (aggregator_in wide) (attr_of 7 xs)) (unless_wide wide (as4_aggregator_in (attr_of 18 xs))) fresh))
+    (ap (said next_hop_in) (find 3 refl) ∙ ap ok_in (next_hop_said a.next_hop w.next_hop))
+    (ap (said med_in) (find 4 refl) ∙ med_found a.med w.med)
+    (ap is_some (find 6 refl) ∙ atomic_found a.atomic)
+    (ap (λ (o : Option Aggregator). merged_aggregator o (unless_wide wide (as4_aggregator_in (attr_of 18 xs)))) g ∙ (ap (merged_aggregator (aggregator_in_width wide a.aggregator)) as4 ∙ merged.0))
+    kept_are
+
+good_parts : (wide : Bool) (xs : List WireAttr) → AllByRecursion (IsGood wide) xs → AllByRecursion IsWireAttr xs × AllByRecursion (λ x. own_fault wide x ≡ None) xs
+good_parts wide [] all = (tt, tt)
+good_parts wide (x ∷ xs) all = let g = all.0 in let h = good_parts wide xs all.1 in ((g.sound, h.0), (g.own, h.1))
+
+-- attributes that are written read as they are
+pub attrs_again : (wide : Bool) (a : Attrs) → IsWritableAttrs a → length (spell_attrs wide a) < 65536 → ReadsAttrs wide (spell_attrs wide a) (all_found a)
+unfolding spell_attrs
+attrs_again wide a w lt =
+    let r = room_in wide a lt in
+    let us = recursion_from_All IsOther a.unknown w.unknown in
+    let ss = are_slots wide a w r in
+    let all : List WireAttr = joined (slots wide a) (map other_written a.unknown) in
+    let good = all_good wide kinds (slots wide a) (map other_written a.unknown) ss (others_good wide a.unknown us r.others) in
+    let differ = all_differ wide kinds (slots wide a) (map other_written a.unknown) ss (others_are a.unknown us) (others_differ a.unknown (rising_differ other_kind a.unknown w.rising)) in
+    let parts = good_parts wide (in_rising wire_kind all) (all_rising (IsGood wide) wire_kind all good) in
+    record {
+      attrs = in_rising wire_kind all;
+      octets = ap (λ (xs : List WireAttr). flat_map attr_octets (in_rising wire_kind xs)) (written_joined wide a);
+      each = parts.0;
+      sound = parts.1;
+      once = rising_differ wire_kind (in_rising wire_kind all) (rising_of wire_kind all differ);
+      says = sym (all_are_found wide a w r);
+    }

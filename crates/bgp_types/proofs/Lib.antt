@@ -16,3 +16,4 @@ pub mod MessageLaws
 pub mod ReadsOnce
 pub mod SlotLaws
 pub mod AttrsWritten
+pub mod WrittenLaws
