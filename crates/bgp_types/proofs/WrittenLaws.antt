@@ -14,13 +14,14 @@ use Rattle.bgp_types.specs.declared.message.Message.{Message}
 use Rattle.bgp_types.specs.declared.message.Message.TheVariants as messages
 use Rattle.bgp_types.specs.declared.message.OpenMsg.{OpenMsg}
 use Rattle.bgp_types.specs.declared.message.Update.{Update}
+use Rattle.bgp_types.specs.declared.fault.FoundAttrs.{FoundAttrs}
 use Rattle.bgp_types.specs.Found.{found_in}
 use Rattle.bgp_types.specs.Prefixes.{PrefixValue, IsPrefix, cleared, prefix_of, octets_for, prefix_octets, address_of, WirePrefix, IsWirePrefix, wire_octets, prefix_said, same_prefix, put_once, once_after}
 use Rattle.bgp_types.specs.Reads.{Reads, ReadsBody, ReadsPrefixes, ReadsAttrs, ReadsUpdate, ReadsOpen, Says}
-use Rattle.bgp_types.specs.Spelling.{counted, cap_octets, param_octets, spell_prefixes, spell_some_attrs, spell_update, spell_open, spell_body, kind_of, framed, spell}
+use Rattle.bgp_types.specs.Spelling.{counted, cap_octets, param_octets, spell_prefixes, spell_some_attrs, spell_update, open_octets, spell_open, spell_body, kind_of, framed, spell}
 use Rattle.bgp_types.specs.UpdateBody.{apart}
 use Rattle.bgp_types.specs.Values.{is_no_host}
-use Rattle.bgp_types.specs.Writable.{IsWritableAttrs, IsWritableOpen, HasAttrsFor, IsWritableUpdate, IsWritable}
+use Rattle.bgp_types.specs.Writable.{IsWritableAttrs, IsWritableOpen, HasAttrsFor, IsWritableUpdate, IsWritableBody, IsWritable}
 use Rattle.bgp_types.proofs.AttrsWritten.{attrs_again, all_found}
 use Rattle.bgp_types.proofs.Lengths.{framed_size}
 
@@ -122,3 +123,92 @@ apart_same (x ∷ xs) ys d =
     back : (xs ys : List PrefixValue) → AllByRecursion (λ q. same_prefix x q ≡ false) (xs ++ ys) → AllByRecursion (λ q. same_prefix x q ≡ false) ys
     back [] ys all = all
     back (z ∷ zs) ys all = back zs ys all.1
+
+-- ---- messages
+
+-- what attributes or none read as
+record ReadsSome (wide : Bool) (a : Option Attrs) (nlri : List PrefixValue) : Type 0 where
+  found : FoundAttrs
+  reads : ReadsAttrs wide (spell_some_attrs wide a) found
+  says : Says found a nlri
+
+some_again : (wide : Bool) (a : Option Attrs) (nlri : List PrefixValue) → HasAttrsFor a nlri → length (spell_some_attrs wide a) < 65536 → ReadsSome wide a nlri
+some_again wide None nlri h lt = record { found = found_in wide []; reads = record { attrs = []; octets = refl; each = tt; sound = tt; once = tt; says = refl }; says = h }
+some_again wide (Some a) nlri h lt = record { found = all_found a; reads = attrs_again wide a h.1 lt; says = (h.0, refl) }
+
+pub update_written : (wide : Bool) (u : Update) → IsWritableUpdate u → length (spell_update wide u) < 65536 → ReadsUpdate wide (spell_update wide u) u
+update_written wide u w lt =
+    let withdrawn : List ℕ = spell_prefixes u.withdrawn in
+    let attrs : List ℕ = spell_some_attrs wide u.attrs in
+    let nlri : List ℕ = spell_prefixes u.nlri in
+    let all : length (spell_update wide u) ≡ length (counted withdrawn) + length (counted attrs ++ nlri) = length-append (counted withdrawn) (counted attrs ++ nlri) in
+    let rest : length (counted attrs ++ nlri) ≡ length (counted attrs) + length nlri = length-append (counted attrs) nlri in
+    let first : length (counted withdrawn) ≡ 2 + length withdrawn = length-append (to_be_bytes w16 (length withdrawn)) withdrawn in
+    let second : length (counted attrs) ≡ 2 + length attrs = length-append (to_be_bytes w16 (length attrs)) attrs in
+    let parts = distinct_parts u.withdrawn u.nlri w.once in
+    let some = some_again wide u.attrs u.nlri w.attrs (omega arith) in
+    record {
+      withdrawn = withdrawn;
+      attrs = attrs;
+      nlri = nlri;
+      fields = refl;
+      withdrawn_room = omega arith;
+      attrs_room = omega arith;
+      prefixes = u.withdrawn;
+      reads_withdrawn = prefixes_again u.withdrawn (recursion_from_All IsPrefix u.withdrawn w.withdrawn) parts.0;
+      found = some.found;
+      reads_attrs = some.reads;
+      reads_nlri = prefixes_again u.nlri (recursion_from_All IsPrefix u.nlri w.nlri) parts.1;
+      announced = some.says;
+      others = sym (apart_same u.withdrawn u.nlri w.once);
+    }
+
+-- each capability in a parameter of its own
+abbrev alone : List Cap → List (List Cap)
+alone [] = []
+alone (cap ∷ caps) = (cap ∷ []) ∷ alone caps
+
+alone_octets : (caps : List Cap) → flat_map (λ cap. param_octets (cap_octets cap)) caps ≡ flat_map (λ cs. param_octets (flat_map cap_octets cs)) (alone caps)
+alone_octets [] = refl
+alone_octets (cap ∷ caps) =
+    ap (λ (y : List ℕ). param_octets y ++ flat_map (λ c. param_octets (cap_octets c)) caps) (sym (append-nil (cap_octets cap)))
+    ∙ ap (λ (y : List ℕ). param_octets (flat_map cap_octets (cap ∷ [])) ++ y) (alone_octets caps)
+
+alone_caps : (caps : List Cap) → caps ≡ flat_map (λ cs. cs) (alone caps)
+alone_caps [] = refl
+alone_caps (cap ∷ caps) = ap (λ (cs : List Cap). cap ∷ cs) (alone_caps caps)
+
+host_small : (n : ℕ) → is_no_host n ≡ false → n < 2 ^ 32
+host_small n host = grind (arith, nat_tests)
+
+pub open_written : (o : OpenMsg) → IsWritableOpen o → ReadsOpen (spell_open o) o
+open_written o w =
+    let same = alone_octets o.caps in
+    record {
+      params = alone o.caps;
+      octets = ap (λ (y : List ℕ). open_octets o.as_number o.hold o.identifier y) same;
+      room = subst (λ (y : List ℕ). length y < 256) same w.params;
+      caps = alone_caps o.caps;
+      as_number = w.as_number;
+      hold = w.hold;
+      identifier = host_small o.identifier w.identifier;
+      hold_time = w.hold_time;
+      host = w.identifier;
+    }
+
+body_written : (m : Message) (wide : Bool) → IsWritableBody m → length (spell_body m wide) < 65536 → ReadsBody (spell_body m wide) m wide
+body_written (messages.OpenMsg o) wide w lt = open_written o w
+body_written (messages.UpdateMsg u) wide w lt = update_written wide u w lt
+body_written (messages.NoticeMsg n) wide w lt = refl
+body_written messages.KeepaliveMsg wide w lt = refl
+
+spelled_size : (m : Message) (wide : Bool) → length (spell m wide) ≡ 19 + length (spell_body m wide)
+unfolding spell
+spelled_size m wide = framed_size (kind_of m) (spell_body m wide)
+
+pub written_reads : (m : Message) (wide : Bool) → IsWritable m wide → Reads (spell m wide) m wide
+unfolding spell
+written_reads m wide w =
+    let size : length (spell m wide) ≤ 4096 = w.size in
+    let total : length (spell m wide) ≡ 19 + length (spell_body m wide) = spelled_size m wide in
+    record { body = spell_body m wide; octets = refl; size = w.size; says = body_written m wide w.body (omega arith) }

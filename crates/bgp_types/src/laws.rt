@@ -8,6 +8,8 @@ ghost use Rattle.bgp_types.specs.FirstFault.{first_fault};
 ghost use Rattle.bgp_types.specs.Header.{frame_at};
 ghost use Rattle.bgp_types.specs.OctetLists.{AreOctets};
 ghost use Rattle.bgp_types.specs.Reads.{Reads};
+ghost use Rattle.bgp_types.specs.Spelling.{spell};
+ghost use Rattle.bgp_types.specs.Writable.{IsWritable};
 
 /// A frame reads as at most one message in a width.
 pub fn reads_once()
@@ -19,5 +21,11 @@ pub fn reads_once()
 /// session takes.
 pub fn reads_without_fault()
     ensures { (frame : List ℕ) (expected : Expected) → AreOctets frame → frame_at frame ≡ Some (frame, []) → (first_fault frame expected ≡ None) ↔ ReadsExpected frame expected }
+{
+}
+
+/// A message that is writable in a width has a written form that reads as itself.
+pub fn written_reads()
+    ensures { (message : Message) (wide : Bool) → IsWritable message wide → Reads (spell message wide) message wide }
 {
 }

@@ -15,7 +15,7 @@ mod text;
 pub use attrs::{Aggregator, Attrs, Origin, RawAttr, RawAttrs, Route};
 pub use fault::{Expected, FoundAttrs, HeaderFault};
 pub use graft_edge::{Items, Name, NoMemory, Octets, PeeringId, RouterId, TryCopy};
-pub use laws::{reads_once, reads_without_fault};
+pub use laws::{reads_once, reads_without_fault, written_reads};
 pub use length::message_len;
 pub use message::{Cap, Caps, Message, Notice, OpenMsg, SessionState, Update};
 pub use path::{AsList, AsPath, PathPart, holds_as, neighbour, path_len};
