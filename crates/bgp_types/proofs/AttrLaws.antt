@@ -1,5 +1,5 @@
 -- An attribute that is read stands there as it is spelled, and what is spelled is read.
-use Rattle.std.proofs.Common.{◌≡◌, ℕ, ◌+◌, ◌-◌, ◌^◌, ◌<◌, ◌≤◌, List, [], ◌∷◌, ◌++◌, length, get_or, take, drop, Bool, true, false, cond, eqb, ltb, Option, Some, None, refl, sym, ap, ◌∙◌, arith, subst, append_assoc, length-drop, inl, inr}
+use Rattle.std.proofs.Common.{◌≡◌, ℕ, ◌+◌, ◌^◌, ◌<◌, ◌≤◌, List, [], ◌∷◌, ◌++◌, length, take, drop, Bool, true, false, cond, eqb, ltb, Option, Some, None, refl, sym, ap, ◌∙◌, arith, subst, append_assoc, length-drop, inl, inr}
 use Rattle.std.specs.Prelude.{bit_and}
 use Rattle.std.specs.Int.{Width, w8, w16, w32, byte_len, from_be_bytes, to_be_bytes}
 use Rattle.std.proofs.lemmas.Bool.{cases_lt, ltb-false, le-ltb}
@@ -114,12 +114,12 @@ attr_takes (f ∷ k ∷ bytes) x fits e =
     let parts : bytes ≡ (to_be_bytes w (length (take n rest)) ++ take n rest) ++ drop n rest =
     sym (take-append-drop (byte_len w) bytes) ∙ (ap (λ (y : List ℕ). y ++ rest) (sym size) ∙ (ap (λ (y : List ℕ). to_be_bytes w n ++ y) (sym (take-append-drop n rest))
     ∙ (sym (append_assoc (to_be_bytes w n) (take n rest) (drop n rest)) ∙ ap (λ (m : ℕ). (to_be_bytes w m ++ take n rest) ++ drop n rest) (sym len)))) in
-    let here   : TakesAttr (f ∷ k ∷ bytes) (attr_with f k (take n rest)) (drop n rest) = record {
+    let here : TakesAttr (f ∷ k ∷ bytes) (attr_with f k (take n rest)) (drop n rest) = record {
       parts = ap (λ (y : List ℕ). f ∷ k ∷ y) parts;
       sound = record { flags = fits 0; kind = fits 1; size = subst (λ (m : ℕ). m < size_limit f) (sym len) (wide.below (take (byte_len w) bytes) front_fits) };
       rest_fits = AreOctets-drop n rest (AreOctets-drop (byte_len w) bytes bytes_fit);
     } in
-    let there   : TakesAttr (f ∷ k ∷ bytes) (attr_with f k a.0.0) a.0.1 = subst (λ (v : List ℕ × List ℕ). TakesAttr (f ∷ k ∷ bytes) (attr_with f k v.0) v.1) value here in
+    let there : TakesAttr (f ∷ k ∷ bytes) (attr_with f k a.0.0) a.0.1 = subst (λ (v : List ℕ × List ℕ). TakesAttr (f ∷ k ∷ bytes) (attr_with f k v.0) v.1) value here in
     subst (λ (y : WireAttr × List ℕ). TakesAttr (f ∷ k ∷ bytes) y.0 y.1) a.2 there
 
 pub number_again : (w : Width) (limit : ℕ) → IsWide w limit → (n : ℕ) (rest : List ℕ) → n < limit → number_at w (to_be_bytes w n ++ rest) ≡ Some (n, rest)

@@ -1,20 +1,19 @@
 -- What is read is in the relation, and what is in the relation is read.
-use Rattle.std.proofs.Common.{◌≡◌, ℕ, zero, suc, ◌<◌, List, [], ◌∷◌, ◌++◌, length, get_or, Bool, true, false, cond, eqb, Option, Some, None, Result, Ok, Err, refl, sym, ap, ◌∙◌, arith, append_assoc, subst}
-use Rattle.std.specs.Prelude.{◌≢◌, is_some, IfOk}
+use Rattle.std.proofs.Common.{◌≡◌, ℕ, List, [], ◌∷◌, ◌++◌, Bool, true, false, cond, eqb, Option, Some, None, Result, Ok, refl, sym, ap, ◌∙◌, arith}
+use Rattle.std.specs.Prelude.{◌≢◌, is_some}
 use Rattle.std.specs.List.{flat_map, AllByRecursion}
 use Rattle.std.proofs.lemmas.List.{append-nil}
 use Rattle.std.proofs.lemmas.Bool.Decides.{nat_tests}
 use Rattle.bgp_types.specs.declared.fault.FoundAttrs.{FoundAttrs}
 use Rattle.bgp_types.specs.declared.message.Notice.{Notice}
 use Rattle.bgp_types.specs.WireAttrs.{WireAttr}
-use Rattle.bgp_types.specs.Values.{other_kind, is_other, is_no_host}
 use Rattle.bgp_types.specs.WireAttrs.{wire_kind}
-use Rattle.bgp_types.specs.Many.{one_more, many_within, many}
+use Rattle.bgp_types.specs.Many.{many}
 use Rattle.bgp_types.specs.WireAttrs.{attr_at, IsWireAttr, attr_octets}
 use Rattle.bgp_types.specs.Faults.{bare, own_fault, attr_of, fault_after, first_of, attrs_fault}
 use Rattle.bgp_types.specs.Found.{found_in, unless, attrs_in}
 use Rattle.bgp_types.specs.Reads.{Differ, ReadsAttrs}
-use Rattle.bgp_types.proofs.ManyLaws.{Reads, many_again}
+use Rattle.bgp_types.proofs.ManyLaws.{many_again}
 use Rattle.bgp_types.proofs.AttrLaws.{attr_takes, attr_reads, no_attr}
 use Rattle.bgp_types.specs.OctetLists.{AreOctets}
 use Rattle.bgp_types.proofs.TakesLaws.{TakesMany, many_takes}
@@ -93,4 +92,3 @@ attrs_are wide bytes found r =
     let clean : attrs_fault wide [] r.attrs [] ≡ None = clean_alone wide r.attrs r.sound r.once in
     ap (λ (m : List WireAttr × List ℕ). unless (attrs_fault wide [] m.0 m.1) (found_in wide m.0)) cut
     ∙ (ap (λ (o : Option Notice). unless o (found_in wide r.attrs)) clean ∙ ap (λ (f : FoundAttrs). (let x : Result FoundAttrs Notice = Ok f in x)) (sym r.says))
-

@@ -1,11 +1,11 @@
 -- Attributes that are written read back.
-use Rattle.std.proofs.Common.{◌≡◌, ℕ, ◌+◌, ◌-◌, ◌^◌, ◌<◌, ◌≤◌, List, [], ◌∷◌, ◌++◌, length, map, Bool, true, false, cond, eqb, ltb, Option, Some, None, Result, Ok, Err, refl, sym, ap, ◌∙◌, arith, subst}
+use Rattle.std.proofs.Common.{◌≡◌, ℕ, ◌+◌, ◌-◌, ◌^◌, ◌<◌, ◌≤◌, List, [], ◌∷◌, length, map, Bool, true, false, cond, eqb, ltb, Option, Some, None, Result, Ok, Err, refl, sym, ap, ◌∙◌, arith, subst}
 use Rattle.std.specs.Prelude.{◌≢◌, All, IfSome, bit_and, ◌||◌, ◌&&◌, not, sum_by, is_some}
 use Rattle.std.specs.List.{flat_map, AllByRecursion, list_any}
-use Rattle.std.specs.Int.{w32, to_be_bytes, from_be_bytes, byte_len}
-use Rattle.std.proofs.lemmas.Bool.{ltb-true, ltb-false}
+use Rattle.std.specs.Int.{w32, to_be_bytes}
+use Rattle.std.proofs.lemmas.Bool.{ltb-false}
 use Rattle.std.proofs.lemmas.Bool.Decides.{nat_tests}
-use Rattle.std.proofs.lemmas.List.{append-nil, length-map, take_at, drop_at}
+use Rattle.std.proofs.lemmas.List.{length-map}
 use Rattle.std.proofs.lemmas.List.Sums.{sum_by-cons}
 use Rattle.std.proofs.lemmas.List.Elements.{recursion_from_All, All-from_recursion}
 use Rattle.bgp_types.specs.declared.attrs.Aggregator.{Aggregator}
@@ -17,15 +17,15 @@ use Rattle.bgp_types.specs.declared.fault.FoundAttrs.{FoundAttrs}
 use Rattle.bgp_types.specs.declared.message.Notice.{Notice}
 use Rattle.bgp_types.specs.declared.path.PathPart.{PathPart}
 use Rattle.bgp_types.specs.declared.path.PathPart.TheVariants as parts
-use Rattle.bgp_types.specs.Faults.{about, or_fault, fault_in, ok_in, host_in, origin_in, path_in, next_hop_in, med_in, atomic_in, aggregator_in, aggregator_of, other_in, kept_raw, own_fault, attr_of}
+use Rattle.bgp_types.specs.Faults.{about, fault_in, ok_in, host_in, origin_in, path_in, next_hop_in, med_in, atomic_in, aggregator_in, aggregator_of, other_in, kept_raw, own_fault, attr_of}
 use Rattle.bgp_types.specs.Found.{said, join, kept, as4_path_in, as4_aggregator_in, unless_wide, if_some_part, found_in}
-use Rattle.bgp_types.specs.Lengths.{attr_size, attrs_size, attr_size_of, part_size}
+use Rattle.bgp_types.specs.Lengths.{attrs_size, attr_size_of, part_size}
 use Rattle.bgp_types.specs.Merge.{lead, meet, merged_path, merged_aggregator, is_stale, path_with}
-use Rattle.bgp_types.specs.PathOctets.{as_width, path_octets, path_of, is_long_as, narrow_as, narrow_part, path_in_width, has_long_as}
+use Rattle.bgp_types.specs.PathOctets.{path_octets, is_long_as, narrow_as, narrow_part, path_in_width, has_long_as}
 use Rattle.bgp_types.specs.Paths.{ases_of, part_count, path_count}
 use Rattle.bgp_types.specs.Reads.{Differ, ReadsAttrs}
 use Rattle.bgp_types.specs.Rising.{in_rising}
-use Rattle.bgp_types.specs.Spelling.{origin_number, origin_written, path_written, next_hop_written, med_written, atomic_written, passed_flags, aggregator_octets, aggregator_written, as4_path_written, as4_aggregator_written, other_written, attrs_written, spell_attrs}
+use Rattle.bgp_types.specs.Spelling.{origin_written, path_written, next_hop_written, med_written, atomic_written, passed_flags, aggregator_octets, aggregator_written, as4_path_written, as4_aggregator_written, other_written, attrs_written, spell_attrs}
 use Rattle.bgp_types.specs.Values.{is_no_host, is_other, other_kind}
 use Rattle.bgp_types.specs.WireAttrs.{WireAttr, IsWireAttr, wire_kind, attr_octets, written}
 use Rattle.bgp_types.specs.Writable.{IsPart, IsOther, IsAggregator, IsWritableAttrs}
@@ -279,9 +279,11 @@ merged_whole path = counts (path_count (map narrow_part path)) (path_count path)
   none_leads : (ps : List PathPart) → lead 0 ps ≡ []
   none_leads [] = refl
   none_leads (p ∷ ps) = refl
+
   met : (ps : List PathPart) → meet [] ps ≡ ps
   met [] = refl
   met (p ∷ ps) = refl
+
   counts : (n m : ℕ) → n ≡ m → cond (ltb n m) (map narrow_part path) (meet (lead (n - m) (map narrow_part path)) path) ≡ path
   counts n m e =
       let t : ltb n m ≡ false = grind (arith, nat_tests) in
@@ -404,13 +406,41 @@ written_joined wide a = refl
 
 are_slots : (wide : Bool) (a : Attrs) → IsWritableAttrs a → HasRoom wide a → AreSlots wide kinds (slots wide a)
 are_slots wide a w r = (
-  one (origin_written a.origin) refl (origin_good wide a.origin), refl, refl, (
-    one (path_written wide a.path) refl (path_good wide (path_in_width wide a.path) (path_fits wide a.path w.path) r.path), refl, refl, (
-      one (next_hop_written a.next_hop) refl (next_hop_good wide a.next_hop w.next_hop), refl, refl, (
-        med_slot wide a.med w.med, refl, refl, (
-          atomic_slot wide a.atomic, refl, refl, (
-            aggregator_slot wide a.aggregator, refl, refl, (
-              as4_path_slot wide a.path r.long, refl, refl, (as4_aggregator_slot wide a.aggregator, refl, refl, tt))))))))
+  one (origin_written a.origin) refl (origin_good wide a.origin),
+  refl,
+  refl,
+  (
+    one (path_written wide a.path) refl (path_good wide (path_in_width wide a.path) (path_fits wide a.path w.path) r.path),
+    refl,
+    refl,
+    (
+      one (next_hop_written a.next_hop) refl (next_hop_good wide a.next_hop w.next_hop),
+      refl,
+      refl,
+      (
+        med_slot wide a.med w.med,
+        refl,
+        refl,
+        (
+          atomic_slot wide a.atomic,
+          refl,
+          refl,
+          (
+            aggregator_slot wide a.aggregator,
+            refl,
+            refl,
+            (
+              as4_path_slot wide a.path r.long,
+              refl,
+              refl,
+              (as4_aggregator_slot wide a.aggregator, refl, refl, tt),
+            ),
+          ),
+        ),
+      ),
+    ),
+  ),
+)
 
 -- what the attributes say
 abbrev pub all_found : Attrs → FoundAttrs

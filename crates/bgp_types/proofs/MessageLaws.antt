@@ -1,12 +1,11 @@
 -- A whole frame reads as a message exactly where it has no fault.
-use Rattle.std.proofs.Common.{◌≡◌, ℕ, zero, suc, ◌+◌, ◌-◌, ◌^◌, ◌≤◌, ◌<◌, List, [], ◌∷◌, ◌++◌, length, take, drop, get_or, Bool, true, false, cond, eqb, ltb, leb, Option, Some, None, Result, Ok, Err, refl, sym, ap, ◌∙◌, arith, length-append, length-drop, length-take-le, subst, append_assoc, drop-cons}
-use Rattle.std.specs.Prelude.{is_some, ◌||◌, ◌&&◌, replicate}
+use Rattle.std.proofs.Common.{◌≡◌, ℕ, zero, suc, ◌+◌, ◌-◌, ◌≤◌, List, [], ◌∷◌, ◌++◌, length, take, drop, Bool, true, false, cond, eqb, ltb, leb, Option, Some, None, Result, Ok, Err, refl, sym, ap, ◌∙◌, arith, length-append, length-drop, length-take-le, subst, drop-cons}
+use Rattle.std.specs.Prelude.{◌||◌, ◌&&◌, replicate}
 use Rattle.std.specs.List.{list_all}
-use Rattle.std.specs.Int.{w16, from_be_bytes, to_be_bytes}
-use Rattle.std.proofs.lemmas.Option.{same_Some}
+use Rattle.std.specs.Int.{w16, to_be_bytes}
 use Rattle.std.proofs.lemmas.Bool.{eqb-true, le-ltb, ltb-false}
 use Rattle.std.proofs.lemmas.Bool.Decides.{nat_tests}
-use Rattle.std.proofs.lemmas.List.{take-append-drop, take_at, drop_at, drop-drop}
+use Rattle.std.proofs.lemmas.List.{take-append-drop, drop-drop}
 use Rattle.bgp_types.specs.declared.fault.Expected.{Expected}
 use Rattle.bgp_types.specs.declared.fault.HeaderFault.{HeaderFault}
 use Rattle.bgp_types.specs.declared.fault.HeaderFault.TheVariants.{NotSynchronized, BadLength, BadType}
@@ -15,9 +14,9 @@ use Rattle.bgp_types.specs.declared.message.Message.TheVariants as messages
 use Rattle.bgp_types.specs.declared.message.Notice.{Notice}
 use Rattle.bgp_types.specs.declared.message.OpenMsg.{OpenMsg}
 use Rattle.bgp_types.specs.declared.message.Update.{Update}
-use Rattle.bgp_types.specs.Expect.{is_remote_as, is_from, IsExpected}
+use Rattle.bgp_types.specs.Expect.{is_from, IsExpected}
 use Rattle.bgp_types.specs.FirstFault.{is_in_state, open_message, update_message, notice_of, body_of, state_fault, with_header, message_of}
-use Rattle.bgp_types.specs.Header.{has_room, fault_of_kind, len_in, kind_in, header_fault, header_notice, frame_at}
+use Rattle.bgp_types.specs.Header.{has_room, fault_of_kind, len_in, kind_in, header_fault, frame_at}
 use Rattle.bgp_types.specs.OctetLists.{AreOctets}
 use Rattle.bgp_types.specs.OpenBody.{open_of}
 use Rattle.bgp_types.specs.Reads.{Reads, ReadsBody, ReadsOpen, ReadsUpdate}
@@ -150,8 +149,10 @@ room_for : (kind len : ℕ) → HasRoom kind len → (kind ≡ 1 → 29 ≤ len)
 room_for kind len r = (for1 kind len r.room, for3 kind len r.room, for4 kind len r.room) where
   for1 : (kind len : ℕ) → has_room kind len ≡ true → kind ≡ 1 → 29 ≤ len
   for1 kind len e k = let f : has_room 1 len ≡ true = subst (λ (n : ℕ). has_room n len ≡ true) k e in grind (arith, nat_tests)
+
   for3 : (kind len : ℕ) → has_room kind len ≡ true → kind ≡ 3 → 21 ≤ len
   for3 kind len e k = let f : has_room 3 len ≡ true = subst (λ (n : ℕ). has_room n len ≡ true) k e in grind (arith, nat_tests)
+
   for4 : (kind len : ℕ) → has_room kind len ≡ true → kind ≡ 4 → len ≡ 19
   for4 kind len e k = let f : has_room 4 len ≡ true = subst (λ (n : ℕ). has_room n len ≡ true) k e in grind (arith, nat_tests)
 
@@ -184,9 +185,10 @@ unfolding message_of
 message_read expected frame m b whole e =
     let w = whole_is frame b whole in
     let h = header_passed (header_fault frame) expected frame m w.sound e in
-    let body = body_read expected (kind_in frame) (drop 19 frame) m (AreOctets-drop 19 frame b) w.room h.1 in
-    (record { body = drop 19 frame; octets = w.octets ∙ ap (λ (k : ℕ). framed k (drop 19 frame)) body.kind_is; size = w.size; says = body.says },
-     record { state = ap (is_in_state expected.state) (sym body.kind_is) ∙ h.0; from = body.from })
+    let body = body_read expected (kind_in frame) (drop 19 frame) m (AreOctets-drop 19 frame b) w.room h.1 in (
+      record { body = drop 19 frame; octets = w.octets ∙ ap (λ (k : ℕ). framed k (drop 19 frame)) body.kind_is; size = w.size; says = body.says },
+      record { state = ap (is_in_state expected.state) (sym body.kind_is) ∙ h.0; from = body.from },
+    )
 
 -- ---- what is spelled is read
 

@@ -1,12 +1,12 @@
 -- An OPEN reads as what its octets say.
-use Rattle.std.proofs.Common.{◌≡◌, ℕ, zero, suc, ◌+◌, ◌^◌, ◌≤◌, ◌<◌, List, [], ◌∷◌, ◌++◌, length, take, drop, get_or, Bool, true, false, cond, eqb, ltb, Option, Some, None, Result, Ok, Err, refl, sym, ap, ◌∙◌, arith, length-drop, length-append, subst, append_assoc}
-use Rattle.std.specs.Prelude.{not, ◌&&◌, ◌||◌}
+use Rattle.std.proofs.Common.{◌≡◌, ℕ, zero, suc, ◌^◌, ◌≤◌, ◌<◌, List, [], ◌∷◌, ◌++◌, length, take, drop, Bool, true, false, cond, eqb, ltb, Option, Some, None, Result, Ok, Err, refl, sym, ap, ◌∙◌, arith, length-drop, length-append, subst}
+use Rattle.std.specs.Prelude.{not, ◌&&◌}
 use Rattle.std.specs.List.{flat_map, AllByRecursion}
 use Rattle.std.specs.Int.{w16, w32, from_be_bytes, to_be_bytes}
 use Rattle.std.proofs.lemmas.Option.{same_Some}
 use Rattle.std.proofs.lemmas.Bool.{le-ltb, ltb-false, eqb-true}
 use Rattle.std.proofs.lemmas.Bool.Decides.{nat_tests}
-use Rattle.std.proofs.lemmas.List.{length-take-le, take_at, drop_at, take-append-drop, append-nil}
+use Rattle.std.proofs.lemmas.List.{length-take-le, take_at, drop_at, take-append-drop}
 use Rattle.bgp_types.specs.declared.fault.Expected.{Expected}
 use Rattle.bgp_types.specs.declared.message.Cap.{Cap}
 use Rattle.bgp_types.specs.declared.message.Notice.{Notice}
@@ -18,8 +18,8 @@ use Rattle.bgp_types.specs.OpenBody.{cap_at, open_fault, with_caps, caps_of, par
 use Rattle.bgp_types.specs.Reads.{ReadsOpen}
 use Rattle.bgp_types.specs.Spelling.{cap_octets, param_octets, open_octets}
 use Rattle.bgp_types.specs.Values.{is_no_host, is_short_hold}
-use Rattle.bgp_types.proofs.AttrLaws.{AreOctets-drop, AreOctets-take, wide16, wide32}
-use Rattle.bgp_types.proofs.ManyLaws.{Shortens, Reads, all_again, kept_out}
+use Rattle.bgp_types.proofs.AttrLaws.{wide16, wide32}
+use Rattle.bgp_types.proofs.ManyLaws.{Reads, all_again, kept_out}
 use Rattle.bgp_types.proofs.TakesLaws.{TakesOne, all_taken}
 
 -- ---- capabilities, and parameters likewise

@@ -8,7 +8,7 @@ use Rattle.std.proofs.lemmas.Bool.Decides.{nat_tests}
 use Rattle.bgp_types.specs.WireAttrs.{WireAttr}
 use Rattle.bgp_types.specs.declared.attrs.RawAttr.{RawAttr}
 use Rattle.bgp_types.specs.declared.message.Notice.{Notice}
-use Rattle.bgp_types.specs.Values.{other_kind, is_other, is_no_host}
+use Rattle.bgp_types.specs.Values.{other_kind, is_other}
 use Rattle.bgp_types.specs.WireAttrs.{wire_kind}
 use Rattle.bgp_types.specs.Rising.{insert_by, in_rising, IsRising}
 use Rattle.bgp_types.specs.Faults.{is_transitive, is_partial, attr_of, own_fault, fault_after, first_of, attrs_fault, kept_raw}

@@ -1,12 +1,9 @@
 -- Parts of a path, one after another.
-use Rattle.std.proofs.Common.{◌≡◌, ℕ, zero, suc, ◌+◌, ◌-◌, ◌*◌, ◌<◌, ◌≤◌, List, [], ◌∷◌, ◌++◌, length, take, drop, Option, Some, None, Bool, true, false, cond, ltb, eqb, refl, sym, ap, ◌∙◌, arith, length-drop, subst}
+use Rattle.std.proofs.Common.{◌≡◌, ℕ, ◌*◌, ◌<◌, List, [], ◌∷◌, length, drop, Option, Some, None, Bool, ltb, eqb, sym, ap, arith, length-drop}
 use Rattle.std.specs.Prelude.{◌||◌}
-use Rattle.std.specs.Int.{Width, byte_len, from_be_bytes}
-use Rattle.std.proofs.Math.Nat.{suc-mul}
-use Rattle.std.proofs.lemmas.List.{append-nil, append_assoc}
+use Rattle.std.specs.Int.{byte_len}
 use Rattle.std.proofs.lemmas.Option.{same_Some}
 use Rattle.bgp_types.specs.declared.path.PathPart.{PathPart}
-use Rattle.bgp_types.specs.Many.{many, many_within, if_whole}
 use Rattle.bgp_types.specs.PathOctets.{as_width, numbers, part_of, with_rest, part_at}
 use Rattle.bgp_types.proofs.ManyLaws.{Shortens, kept_out}
 
@@ -25,4 +22,3 @@ part_shorter wide (k ∷ c ∷ bytes) x e =
 
 pub part_shortens : (wide : Bool) → Shortens (part_at wide)
 part_shortens wide = record { shorter = part_shorter wide }
-

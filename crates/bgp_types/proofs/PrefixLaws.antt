@@ -1,7 +1,6 @@
 -- Prefixes, one after another.
-use Rattle.std.proofs.Common.{◌≡◌, ℕ, ◌≤◌, ◌<◌, List, [], ◌∷◌, ◌++◌, length, take, drop, map, Bool, true, false, cond, ltb, Option, Some, None, refl, sym, ap, ◌∙◌, arith, length-drop, length-append, subst}
+use Rattle.std.proofs.Common.{◌≡◌, ℕ, ◌<◌, List, [], ◌∷◌, ◌++◌, length, take, drop, map, false, ltb, Option, Some, None, refl, sym, ap, ◌∙◌, arith, length-drop, length-append, subst}
 use Rattle.std.specs.Prelude.{◌||◌}
-use Rattle.std.specs.List.{flat_map, AllByRecursion}
 use Rattle.std.specs.Option.{option_map}
 use Rattle.std.proofs.lemmas.Option.{same_Some}
 use Rattle.std.proofs.lemmas.Bool.{le-ltb, ltb-false}
@@ -11,7 +10,7 @@ use Rattle.bgp_types.specs.OctetLists.{AreOctets}
 use Rattle.bgp_types.specs.Prefixes.{PrefixValue, WirePrefix, IsWirePrefix, wire_octets, prefix_said, prefix_at, octets_for, once_after, prefixes_of}
 use Rattle.bgp_types.specs.Reads.{ReadsPrefixes}
 use Rattle.bgp_types.proofs.AttrLaws.{AreOctets-drop}
-use Rattle.bgp_types.proofs.ManyLaws.{Shortens, Reads, all_again, kept_out, either_false}
+use Rattle.bgp_types.proofs.ManyLaws.{Reads, all_again, kept_out, either_false}
 use Rattle.bgp_types.proofs.TakesLaws.{TakesOne, all_taken}
 
 pub prefix_takes : (bytes : List ℕ) (x : WirePrefix × List ℕ) → AreOctets bytes → prefix_at bytes ≡ Some x → TakesOne AreOctets prefix_at wire_octets IsWirePrefix bytes x

@@ -1,15 +1,12 @@
 -- A frame reads as one message.
-use Rattle.std.proofs.Common.{◌≡◌, ℕ, ◌+◌, ◌^◌, ◌<◌, ◌≤◌, List, [], length, drop, Bool, true, false, cond, eqb, ltb, Option, Some, None, Result, Ok, Err, refl, sym, ap, ◌∙◌, arith, subst}
+use Rattle.std.proofs.Common.{◌≡◌, ℕ, ◌^◌, ◌<◌, List, [], drop, Bool, true, false, cond, eqb, ltb, Some, None, Result, Ok, Err, refl, sym, ap, ◌∙◌, arith, subst}
 use Rattle.std.specs.Prelude.{◌↔◌}
-use Rattle.std.specs.List.{flat_map}
 use Rattle.std.proofs.lemmas.Bool.{le-ltb}
 use Rattle.std.proofs.lemmas.Bool.Decides.{nat_tests}
 use Rattle.bgp_types.specs.declared.fault.Expected.{Expected}
 use Rattle.bgp_types.specs.declared.message.Message.{Message}
 use Rattle.bgp_types.specs.declared.message.Message.TheVariants as messages
 use Rattle.bgp_types.specs.declared.message.Notice.{Notice}
-use Rattle.bgp_types.specs.declared.message.OpenMsg.{OpenMsg}
-use Rattle.bgp_types.specs.declared.message.SessionState.{SessionState}
 use Rattle.bgp_types.specs.declared.message.SessionState.TheVariants as states
 use Rattle.bgp_types.specs.Expect.{is_from, IsExpected, ReadsExpected}
 use Rattle.bgp_types.specs.Faults.{fault_in}
@@ -17,8 +14,7 @@ use Rattle.bgp_types.specs.FirstFault.{is_in_state, message_of, first_fault}
 use Rattle.bgp_types.specs.Header.{kind_in, frame_at}
 use Rattle.bgp_types.specs.OctetLists.{AreOctets}
 use Rattle.bgp_types.specs.OpenBody.{as_in, is_field}
-use Rattle.bgp_types.specs.PathOctets.{narrow_as}
-use Rattle.bgp_types.specs.Reads.{Reads, ReadsBody, ReadsOpen}
+use Rattle.bgp_types.specs.Reads.{Reads, ReadsBody}
 use Rattle.bgp_types.specs.Spelling.{kind_of, framed}
 use Rattle.bgp_types.proofs.MessageLaws.{message_read, message_are}
 use Rattle.bgp_types.proofs.OpenLaws.{as_again}
@@ -69,5 +65,6 @@ pub without_fault : (frame : List ℕ) (expected : Expected) → AreOctets frame
 without_fault frame expected b whole = (forth, back) where
   forth : first_fault frame expected ≡ None → ReadsExpected frame expected
   forth e = let a = answered (message_of expected frame) e in let r = message_read expected frame a.0 b whole a.1 in record { message = a.0; reads = r.0; is_expected = r.1 }
+
   back : ReadsExpected frame expected → first_fault frame expected ≡ None
   back r = ap fault_in (message_are expected frame r.message r.reads r.is_expected)

@@ -1,13 +1,12 @@
 -- Attributes of known types, at most one of each, before those of unknown types.
-use Rattle.std.proofs.Common.{◌≡◌, ℕ, ◌+◌, ◌^◌, ◌<◌, ◌≤◌, List, [], ◌∷◌, ◌++◌, length, map, Bool, true, false, cond, eqb, ltb, Option, Some, None, refl, sym, ap, ◌∙◌, arith, subst}
+use Rattle.std.proofs.Common.{◌≡◌, ℕ, List, [], ◌∷◌, ◌++◌, Bool, true, false, cond, eqb, Option, Some, None, refl, sym, ap, ◌∙◌, arith, subst}
 use Rattle.std.specs.Prelude.{◌≢◌}
 use Rattle.std.specs.List.{AllByRecursion}
 use Rattle.std.proofs.lemmas.Bool.Decides.{nat_tests}
-use Rattle.bgp_types.specs.declared.attrs.RawAttr.{RawAttr}
 use Rattle.bgp_types.specs.Faults.{own_fault, attr_of, kept_raw}
 use Rattle.bgp_types.specs.Found.{join, kept}
 use Rattle.bgp_types.specs.Reads.{Differ}
-use Rattle.bgp_types.specs.Values.{is_other, other_kind}
+use Rattle.bgp_types.specs.Values.{is_other}
 use Rattle.bgp_types.specs.WireAttrs.{WireAttr, IsWireAttr, wire_kind}
 
 -- what is asked of each attribute that is written

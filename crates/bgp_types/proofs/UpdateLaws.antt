@@ -1,8 +1,8 @@
 -- An UPDATE reads as what its octets say.
-use Rattle.std.proofs.Common.{◌≡◌, ℕ, ◌+◌, ◌^◌, ◌≤◌, ◌<◌, List, [], ◌∷◌, ◌++◌, length, take, drop, map, Bool, true, false, cond, Option, Some, None, Result, Ok, Err, refl, sym, ap, ◌∙◌, arith, length-append, subst, append_assoc}
+use Rattle.std.proofs.Common.{◌≡◌, ℕ, ◌^◌, ◌≤◌, ◌<◌, List, [], ◌∷◌, ◌++◌, length, take, drop, map, Bool, true, false, cond, Option, Some, None, Result, Ok, Err, refl, sym, ap, ◌∙◌, arith, length-append, subst, append_assoc}
 use Rattle.std.specs.Prelude.{◌≢◌}
 use Rattle.std.specs.List.{flat_map, list_any}
-use Rattle.std.specs.Int.{w16, from_be_bytes, to_be_bytes, byte_len}
+use Rattle.std.specs.Int.{w16, from_be_bytes, to_be_bytes}
 use Rattle.std.proofs.lemmas.Option.{same_Some}
 use Rattle.std.proofs.lemmas.List.{length-take-le, take-append-drop}
 use Rattle.bgp_types.specs.declared.attrs.Attrs.{Attrs}
@@ -11,7 +11,6 @@ use Rattle.bgp_types.specs.declared.fault.FoundAttrs.{FoundAttrs}
 use Rattle.bgp_types.specs.declared.message.Notice.{Notice}
 use Rattle.bgp_types.specs.declared.message.Update.{Update}
 use Rattle.bgp_types.specs.declared.path.PathPart.{PathPart}
-use Rattle.bgp_types.specs.Faults.{bare, about}
 use Rattle.bgp_types.specs.Found.{attrs_in}
 use Rattle.bgp_types.specs.Many.{number_at, told_at, many, many_within}
 use Rattle.bgp_types.specs.OctetLists.{AreOctets}
@@ -106,6 +105,7 @@ known_is (Some o) (Some p) None found a e1 e2 e3 e = absurd cc
 known_is (Some o) (Some p) (Some n) found a e1 e2 e3 e = same_found o p n found a e1 e2 e3 (same_Ok _ a e) where
   same_Ok : (x y : Attrs) → (let r : Result Attrs Notice = Ok x in r) ≡ Ok y → x ≡ y
   same_Ok x y e = cc
+
   same_found : (o : Origin) (p : List PathPart) (n : ℕ) (found : FoundAttrs) (a : Attrs) → found.origin ≡ Some o → found.path ≡ Some p → found.next_hop ≡ Some n
       → (let b : Attrs = record { origin = o; path = p; next_hop = n; med = found.med; atomic = found.atomic; aggregator = found.aggregator; unknown = found.unknown } in b) ≡ a → found ≡ found_for a
   same_found o p n found a e1 e2 e3 e = grind arith

@@ -1,8 +1,8 @@
 -- A message that is written reads as itself.
-use Rattle.std.proofs.Common.{◌≡◌, ℕ, zero, suc, ◌+◌, ◌-◌, ◌*◌, ◌/◌, ◌^◌, ◌<◌, ◌≤◌, List, [], ◌∷◌, ◌++◌, length, take, drop, map, Bool, true, false, cond, eqb, ltb, Option, Some, None, refl, sym, ap, ◌∙◌, arith, subst, append_assoc, length-append}
-use Rattle.std.specs.Prelude.{◌≢◌, All, ◌&&◌, ◌||◌, not}
+use Rattle.std.proofs.Common.{◌≡◌, ℕ, zero, suc, ◌+◌, ◌-◌, ◌*◌, ◌/◌, ◌^◌, ◌<◌, ◌≤◌, List, [], ◌∷◌, ◌++◌, length, take, map, Bool, false, cond, eqb, Option, Some, None, refl, sym, ap, ◌∙◌, arith, subst, append_assoc, length-append}
+use Rattle.std.specs.Prelude.{◌&&◌, ◌||◌, not}
 use Rattle.std.specs.List.{flat_map, AllByRecursion, list_any, IsDistinct}
-use Rattle.std.specs.Int.{w16, w32, to_be_bytes, from_be_bytes}
+use Rattle.std.specs.Int.{w16, w32, to_be_bytes}
 use Rattle.std.proofs.Math.Nat.{mul_assoc}
 use Rattle.std.proofs.lemmas.Nat.{pow-add}
 use Rattle.std.proofs.lemmas.Bool.Decides.{nat_tests}
@@ -16,12 +16,12 @@ use Rattle.bgp_types.specs.declared.message.OpenMsg.{OpenMsg}
 use Rattle.bgp_types.specs.declared.message.Update.{Update}
 use Rattle.bgp_types.specs.declared.fault.FoundAttrs.{FoundAttrs}
 use Rattle.bgp_types.specs.Found.{found_in}
-use Rattle.bgp_types.specs.Prefixes.{PrefixValue, IsPrefix, cleared, prefix_of, octets_for, prefix_octets, address_of, WirePrefix, IsWirePrefix, wire_octets, prefix_said, same_prefix, put_once, once_after}
+use Rattle.bgp_types.specs.Prefixes.{PrefixValue, IsPrefix, cleared, octets_for, prefix_octets, address_of, WirePrefix, IsWirePrefix, wire_octets, prefix_said, same_prefix, once_after}
 use Rattle.bgp_types.specs.Reads.{Reads, ReadsBody, ReadsPrefixes, ReadsAttrs, ReadsUpdate, ReadsOpen, Says}
-use Rattle.bgp_types.specs.Spelling.{counted, cap_octets, param_octets, spell_prefixes, spell_some_attrs, spell_update, open_octets, spell_open, spell_body, kind_of, framed, spell}
+use Rattle.bgp_types.specs.Spelling.{counted, cap_octets, param_octets, spell_prefixes, spell_some_attrs, spell_update, open_octets, spell_open, spell_body, kind_of, spell}
 use Rattle.bgp_types.specs.UpdateBody.{apart}
 use Rattle.bgp_types.specs.Values.{is_no_host}
-use Rattle.bgp_types.specs.Writable.{IsWritableAttrs, IsWritableOpen, HasAttrsFor, IsWritableUpdate, IsWritableBody, IsWritable}
+use Rattle.bgp_types.specs.Writable.{IsWritableOpen, HasAttrsFor, IsWritableUpdate, IsWritableBody, IsWritable}
 use Rattle.bgp_types.proofs.AttrsWritten.{attrs_again, all_found}
 use Rattle.bgp_types.proofs.Lengths.{framed_size}
 
@@ -79,6 +79,7 @@ same_turned : (p q : PrefixValue) → same_prefix p q ≡ same_prefix q p
 same_turned p q = both (eqb p.address q.address) (eqb q.address p.address) (eqb p.len q.len) (eqb q.len p.len) (turned p.address q.address) (turned p.len q.len) where
   turned : (m n : ℕ) → eqb m n ≡ eqb n m
   turned m n = grind (arith, nat_tests)
+
   both : (a b c d : Bool) → a ≡ b → c ≡ d → (a && c) ≡ (b && d)
   both a b c d e f = cc
 

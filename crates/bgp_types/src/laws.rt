@@ -14,18 +14,15 @@ ghost use Rattle.bgp_types.specs.Writable.{IsWritable};
 /// A frame reads as at most one message in a width.
 pub fn reads_once()
     ensures { (frame : List ℕ) (one : Message) (other : Message) (wide : Bool) → Reads frame one wide → Reads frame other wide → one ≡ other }
-{
-}
+{}
 
 /// A whole frame with a sound header has no fault exactly where it reads as a message that the
 /// session takes.
 pub fn reads_without_fault()
     ensures { (frame : List ℕ) (expected : Expected) → AreOctets frame → frame_at frame ≡ Some (frame, []) → (first_fault frame expected ≡ None) ↔ ReadsExpected frame expected }
-{
-}
+{}
 
 /// A message that is writable in a width has a written form that reads as itself.
 pub fn written_reads()
     ensures { (message : Message) (wide : Bool) → IsWritable message wide → Reads (spell message wide) message wide }
-{
-}
+{}
