@@ -17,3 +17,5 @@ pub mod ReadsOnce
 pub mod SlotLaws
 pub mod AttrsWritten
 pub mod WrittenLaws
+pub mod FaultRows
+pub mod ReadRows
