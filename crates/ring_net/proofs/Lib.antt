@@ -1,0 +1,12 @@
+pub mod Lists
+pub mod Replays
+pub mod Takes
+pub mod TakesEach
+pub mod Acts
+pub mod EdgeReads
+pub mod Linked
+pub mod NetPhases
+pub mod FreshCells
+pub mod News
+pub mod ClockLaws
+pub mod PostLaws

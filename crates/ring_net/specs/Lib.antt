@@ -1,0 +1,12 @@
+pub mod Deeds
+pub mod Posts
+pub mod Turns
+pub mod Ends
+pub mod Takes
+pub mod Cells
+pub mod Phases
+pub mod Nets
+pub mod Reads
+pub mod Shown
+pub mod Fresh
+pub mod Clocks

@@ -1,0 +1,213 @@
+//! A cell: an actor with its post and its ends of the rings, and what it does in a phase.
+
+ghost use Rattle.std.specs.Prelude.{◌≡◌, ◌≢◌, ◌≤◌, ◌<◌, ◌+◌, ◌++◌, ℕ, None, length, slice_index_or, is_some};
+ghost use Rattle.std.specs.Bool.{OnTrue};
+ghost use Rattle.rtrb.specs.Ring.{sent, received, known_free, SameProducer, SameConsumer, consumer_capacity};
+ghost use Rattle.ring_net.specs.Posts.{box_items, SameEdges};
+ghost use Rattle.ring_net.specs.Ends.{Flushed, SameIn, SameOut};
+
+use crate::actor::Actor;
+use crate::entry::{Stamp, Stamped};
+use crate::post::Post;
+use graft_edge::NoMemory;
+use rtrb::{Consumer, Producer};
+use std::collections::VecDeque;
+
+/// An actor with its post, the ends of the rings that lead from it, by the number of the receiver,
+/// and the ends of those that lead to it, by the number of the sender.
+#[derive(Drop)]
+pub struct Cell<A: Actor> {
+    pub(crate) actor: A,
+    pub(crate) post: Post<A::Item>,
+    pub(crate) rings: Vec<Option<Producer<Stamped<A::Item>>>>,
+    pub(crate) ins: Vec<Option<Consumer<Stamped<A::Item>>>>,
+    pub(crate) has_failed: bool,
+}
+
+/// Pushes what waits until the outbox is empty or the ring is full.
+fn flush<T: Drop>(out: &mut Producer<T>, outbox: &mut VecDeque<T>)
+    ensures ring { SameProducer out.old out.new }
+    ensures said { sent out.new ++ outbox.new.items ≡ sent out.old ++ outbox.old.items }
+    // At least into the slots that were known to be free.
+    ensures pushes { (0 < length outbox.new.items) → length (sent out.old) + known_free out.old ≤ length (sent out.new) }
+{
+    let free = out.slots();
+    for _ in 0..free {
+        match outbox.pop_front() {
+            Some(item) => out.push_reserved(item),
+            None => return,
+        }
+    }
+}
+
+/// The same where both are there.
+fn flush_one<I: Drop>(
+    ring: &mut Option<Producer<Stamped<I>>>,
+    outbox: &mut Option<VecDeque<Stamped<I>>>,
+)
+    ensures { Flushed ring.old outbox.old ring.new outbox.new }
+{
+    let Some(out) = ring else {
+        return;
+    };
+    let Some(queue) = outbox else {
+        return;
+    };
+    flush(out, queue);
+}
+
+/// The same for the receiver b.
+fn flush_at<I: Drop>(
+    rings: &mut [Option<Producer<Stamped<I>>>],
+    boxes: &mut [Option<VecDeque<Stamped<I>>>],
+    b: usize,
+)
+    requires { b < length rings.old }
+    ensures here { Flushed (slice_index_or rings.old b None) (slice_index_or boxes.old b None) (slice_index_or rings.new b None) (slice_index_or boxes.new b None) }
+    ensures others { (x : ℕ) → x ≢ b → (slice_index_or rings.new x None ≡ slice_index_or rings.old x None) × (slice_index_or boxes.new x None ≡ slice_index_or boxes.old x None) }
+{
+    if b < boxes.len() {
+        flush_one(&mut rings[b], &mut boxes[b]);
+    }
+}
+
+/// The same for each receiver.
+fn flush_all<I: Drop>(
+    rings: &mut [Option<Producer<Stamped<I>>>],
+    boxes: &mut [Option<VecDeque<Stamped<I>>>],
+)
+    ensures { (b : ℕ) → Flushed (slice_index_or rings.old b None) (slice_index_or boxes.old b None) (slice_index_or rings.new b None) (slice_index_or boxes.new b None) }
+{
+    for b in 0..rings.len() {
+        flush_at(rings, boxes, b);
+    }
+}
+
+ghost use Rattle.std.specs.Prelude.{true, false, max, OnOk};
+ghost use Rattle.ring_net.specs.Posts.{TookItem};
+ghost use Rattle.ring_net.specs.Ends.{IsSmall};
+ghost use Rattle.ring_net.specs.Takes.{TookFrom, TookOne, TookEach, Acts};
+ghost use Rattle.ring_net.specs.Cells.{CellTurned};
+
+/// The most items that are taken from one channel in one phase.
+const MOST: u32 = 256;
+
+/// Takes one item.
+fn take_one<A: Actor>(
+    actor: &mut A,
+    from: usize,
+    mail: Stamped<A::Item>,
+    post: &mut Post<A::Item>,
+) -> bool
+    ensures edges { SameEdges post.old post.new }
+    ensures took { OnTrue result (TookItem A.part A.makes A.took from mail.item actor.old (record post.old { clock = max post.old.clock mail.stamp.0 }) actor.new post.new) }
+{
+    let Stamped { stamp, item } = mail;
+    post.meet(stamp);
+    actor.take(from, item, post).is_ok()
+}
+
+/// Takes what is in the ring, up to 256 items. It answers whether memory was found.
+fn take_from<A: Actor>(
+    actor: &mut A,
+    from: usize,
+    into: &mut Consumer<Stamped<A::Item>>,
+    post: &mut Post<A::Item>,
+) -> bool
+    ensures ring { SameConsumer into.old into.new }
+    ensures edges { SameEdges post.old post.new }
+    ensures took { OnTrue result (TookFrom A.part A.makes A.took from actor.old post.old into.old actor.new post.new into.new) }
+{
+    for _ in 0..MOST {
+        match into.pop() {
+            Ok(mail) => {
+                if !take_one(actor, from, mail, post) {
+                    return false;
+                }
+            }
+            Err(_) => return true,
+        }
+    }
+    true
+}
+
+/// The same where the ring is there.
+fn take_maybe<A: Actor>(
+    actor: &mut A,
+    from: usize,
+    into: &mut Option<Consumer<Stamped<A::Item>>>,
+    post: &mut Post<A::Item>,
+) -> bool
+    ensures ring { SameIn into.old into.new }
+    ensures edges { SameEdges post.old post.new }
+    ensures took { OnTrue result (TookOne A.part A.makes A.took from actor.old post.old into.old actor.new post.new into.new) }
+{
+    match into {
+        Some(ring) => take_from(actor, from, ring, post),
+        None => true,
+    }
+}
+
+/// The same for the sender `from`.
+fn take_at<A: Actor>(
+    actor: &mut A,
+    ins: &mut [Option<Consumer<Stamped<A::Item>>>],
+    from: usize,
+    post: &mut Post<A::Item>,
+) -> bool
+    requires { from < length ins.old }
+    ensures ring { SameIn (slice_index_or ins.old from None) (slice_index_or ins.new from None) }
+    ensures edges { SameEdges post.old post.new }
+    ensures others { (a : ℕ) → a ≢ from → slice_index_or ins.new a None ≡ slice_index_or ins.old a None }
+    ensures took { OnTrue result (TookOne A.part A.makes A.took from actor.old post.old (slice_index_or ins.old from None) actor.new post.new (slice_index_or ins.new from None)) }
+{
+    take_maybe(actor, from, &mut ins[from], post)
+}
+
+/// The same for each sender in turn.
+fn take_each<A: Actor>(
+    actor: &mut A,
+    ins: &mut [Option<Consumer<Stamped<A::Item>>>],
+    post: &mut Post<A::Item>,
+) -> bool
+    ensures rings { (a : ℕ) → SameIn (slice_index_or ins.old a None) (slice_index_or ins.new a None) }
+    ensures edges { SameEdges post.old post.new }
+    ensures took { OnTrue result (TookEach A.part A.makes A.took actor.old post.old ins.old actor.new post.new ins.new) }
+{
+    for from in 0..ins.len() {
+        if !take_at(actor, ins, from, post) {
+            return false;
+        }
+    }
+    true
+}
+
+/// All that an actor does in a phase: its takes, then its turn.
+fn act<A: Actor>(
+    actor: &mut A,
+    ins: &mut [Option<Consumer<Stamped<A::Item>>>],
+    post: &mut Post<A::Item>,
+) -> bool
+    ensures rings { (a : ℕ) → SameIn (slice_index_or ins.old a None) (slice_index_or ins.new a None) }
+    ensures edges { SameEdges post.old post.new }
+    ensures acts { OnTrue result (Acts A.part A.makes A.took A.turned actor.old post.old ins.old actor.new post.new ins.new) }
+{
+    if !take_each(actor, ins, post) {
+        return false;
+    }
+    match actor.turn(post) {
+        Ok(()) => true,
+        Err(NoMemory) => false,
+    }
+}
+
+/// A cell acts, and pushes what waits into the rings.
+pub(crate) fn turn<A: Actor>(cell: &mut Cell<A>)
+    ensures { CellTurned A.part A.makes A.took A.turned cell.old cell.new }
+{
+    let has_memory = act(&mut cell.actor, cell.ins.as_mut_slice(), &mut cell.post);
+    flush_all(cell.rings.as_mut_slice(), cell.post.boxes.as_mut_slice());
+    if !has_memory {
+        cell.has_failed = true;
+    }
+}

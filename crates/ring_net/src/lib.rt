@@ -1,0 +1,23 @@
+//! A net of actors that hand items over rings, turned in phases by workers, each with a journal and
+//! a clock of its own.
+#![tactic(auto)]
+
+mod actor;
+mod build;
+mod cell;
+mod clocks;
+mod edges;
+mod entry;
+mod looks;
+mod net;
+mod parts;
+mod post;
+
+pub use actor::Actor;
+pub use entry::{JournalEntry, Stamp, Stamped};
+pub use net::Net;
+pub use parts::{Actors, Journal, Left, Lefts, Mark, Marks};
+pub use post::Post;
+
+#[cfg(test)]
+mod tests;

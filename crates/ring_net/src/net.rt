@@ -1,0 +1,219 @@
+//! The net: cells and the edges between them, turned in phases.
+
+ghost use Rattle.std.specs.Prelude.{◌≡◌, ◌≤◌, ◌<◌, ◌+◌, ◌++◌, ℕ, length, map, slice_index_or, slice_get, IfOk};
+ghost use Rattle.ring_net.specs.Posts.{entries_in};
+ghost use Rattle.std.specs.Bool.{OnTrue};
+ghost use Rattle.std.specs.List.{list_any};
+ghost use Rattle.ring_net.specs.declared.cell.Cell.{Cell};
+ghost use Rattle.ring_net.specs.Cells.{CellTurned};
+ghost use Rattle.ring_net.specs.Phases.{Phase};
+ghost use Rattle.ring_net.specs.Nets.{IsNet, view_of};
+
+use crate::actor::Actor;
+use crate::build::fresh_cells;
+use crate::cell::{Cell, turn};
+use crate::clocks::{level_all, pause_all};
+use crate::edges::read_all;
+use crate::looks::{channel_count, entry_count, lengths};
+use crate::parts::{Actors, Marks};
+use graft_edge::{Gate, Items, NoMemory};
+use std::alloc::Global;
+use std::thread;
+use std::thread::Threads;
+
+/// Each cell makes one turn, in threads that own a chunk of cells each. The gate is passed once at
+/// the start of each turn.
+fn turn_all<R: Threads + Sync, G: Gate, A: Actor + Send>(
+    rt: &R,
+    cells: &mut [Cell<A>],
+    workers: usize,
+    gate: &G,
+)
+where
+    A::Item: Send,
+    requires { 0 < workers }
+    ensures { (k : ℕ) (d : Cell A A.Item) → k < length cells.old
+        → CellTurned A.part A.makes A.took A.turned (slice_index_or cells.old k d) (slice_index_or cells.new k d) }
+{
+    thread::for_each_mut(
+        rt,
+        cells,
+        workers,
+        &|k: usize, cell: &mut Cell<A>|
+            ensures { CellTurned A.part A.makes A.took A.turned cell.entry.now cell.exit.now }
+        {
+            gate.pass(k);
+            turn(cell)
+        },
+    );
+}
+
+/// Whether memory was wanting in a cell.
+fn any_failed<A: Actor>(cells: &[Cell<A>]) -> bool
+    ensures { result ≡ list_any (λ c. c.has_failed) cells.now }
+{
+    cells.iter().any(|cell| cell.has_failed)
+}
+
+/// One phase, and a read of both ends of every edge. It answers whether memory was found.
+fn phase_all<R: Threads + Sync, G: Gate, A: Actor + Send>(
+    rt: &R,
+    cells: &mut [Cell<A>],
+    edges: &[(u16, u16)],
+    workers: usize,
+    gate: &G,
+) -> bool
+where
+    A::Item: Send,
+    requires workers { 0 < workers }
+    requires net { IsNet cells.old edges.now }
+    ensures net { IsNet cells.new edges.now }
+    ensures phase { OnTrue result (Phase A.part A.makes A.took A.turned (view_of cells.old edges.now) (view_of cells.new edges.now)) }
+{
+    turn_all(rt, cells, workers, gate);
+    read_all(cells, edges);
+    if any_failed(cells) {
+        return false;
+    }
+    true
+}
+
+/// Actors that hand items over. Each edge from one actor to another is a ring with room for 256 items
+/// and, before it, an outbox. Each actor has a journal and a clock of its own. Between two phases,
+/// and at a mark, all of it is in one thread.
+#[derive(Drop)]
+pub struct Net<A: Actor> {
+    cells: Vec<Cell<A>>,
+    edges: Vec<(u16, u16)>,
+    marks: Marks,
+    has_failed: bool,
+    ghost sound: { IsNet cells.items edges.items },
+    ghost some: { 0 < length cells.items },
+}
+
+impl<A: Actor> Net<A> {
+    ghost use Rattle.std.specs.Prelude.{◌≡◌, ◌≤◌, ◌<◌, ◌+◌, ◌++◌, ◌∷◌, [], ℕ, true, false, length, map, OnOk, OnErr, IsErr, IfOk, slice_get, Some};
+    ghost use Rattle.ring_net.specs.Shown.{view, marks, edge_list, has_failed};
+    ghost use Rattle.ring_net.specs.Phases.{IsNew, Marked, CountsAll, Levelled, Between, Phase};
+    ghost use Rattle.ring_net.specs.Fresh.{AreEdges};
+
+    /// The net of these actors, numbered from 0, with an edge for each pair of a sender and a receiver.
+    /// Its memory grows with the square of the number of actors. The marks begin with one in which
+    /// every length is 0.
+    pub fn build(alloc: Global, actors: Actors<A>, edges: &[(u16, u16)]) -> Result<Net<A>, NoMemory>
+        requires count { (1 ≤ length actors) × (length actors ≤ 65536) }
+        requires edges { AreEdges (length actors) edges.now }
+        ensures new { IfOk result (λ net. IsNew actors edges.now (view net)) }
+        ensures marks { IfOk result (λ net. Marked (view net) [] (marks net)) }
+        ensures edges { IfOk result (λ net. edge_list net ≡ edges.now) }
+        ensures failed { IfOk result (λ net. has_failed net ≡ false) }
+    {
+        let cells = fresh_cells(alloc, actors, edges)?;
+        let mut marks = Items::new(alloc);
+        marks.push(lengths(alloc, cells.as_slice())?)?;
+        Ok(Net {
+            cells,
+            edges: Vec::from_slice(alloc, edges)?,
+            marks,
+            has_failed: false,
+        })
+    }
+
+    /// Each actor takes what is in the rings that lead to it, at most 256 items of each, by rising
+    /// number of the sender, and then makes one turn, which may push into the rings that lead from it.
+    /// Chunks of as many actors as there are, over `workers`, rounded up, are handed to threads. The
+    /// gate is passed once at the start of each actor's part. Where memory is wanting, nothing more is
+    /// said of the actors, and every later phase answers it too.
+    pub fn phase<R: Threads + Sync, G: Gate>(
+        &mut self,
+        rt: &R,
+        workers: usize,
+        gate: &G,
+    ) -> Result<(), NoMemory>
+    where
+        A: Send,
+        A::Item: Send,
+        requires { (1 ≤ workers) × (workers ≤ 8) }
+        ensures phase { OnOk result (Phase A.part A.makes A.took A.turned (view self.old) (view self.new)) }
+        ensures failed { OnErr result (has_failed self.new ≡ true) }
+        ensures stays { has_failed self.old ≡ true → IsErr result }
+        ensures marks { marks self.new ≡ marks self.old }
+        ensures edges { edge_list self.new ≡ edge_list self.old }
+    {
+        if self.has_failed {
+            return Err(NoMemory);
+        }
+        if !phase_all(
+            rt,
+            self.cells.as_mut_slice(),
+            self.edges.as_slice(),
+            workers,
+            gate,
+        ) {
+            self.has_failed = true;
+            return Err(NoMemory);
+        }
+        Ok(())
+    }
+
+    /// Appends the length of each journal to the marks.
+    pub fn mark(&mut self) -> Result<(), NoMemory>
+        ensures marks { OnOk result (Marked (view self.old) (marks self.old) (marks self.new)) }
+        ensures err { OnErr result (marks self.new ≡ marks self.old) }
+        ensures view { view self.new ≡ view self.old }
+        ensures same { (edge_list self.new ≡ edge_list self.old) × (has_failed self.new ≡ has_failed self.old) }
+    {
+        let mark = lengths(*self.cells.allocator(), self.cells.as_slice())?;
+        self.marks.push(mark)
+    }
+
+    /// Sets every clock to the greatest one.
+    pub fn level(&mut self)
+        ensures level { Levelled (view self.old) (view self.new) }
+        ensures marks { marks self.new ≡ marks self.old }
+        ensures same { (edge_list self.new ≡ edge_list self.old) × (has_failed self.new ≡ has_failed self.old) }
+    {
+        level_all(self.cells.as_mut_slice(), self.edges.as_slice());
+    }
+
+    /// Levels the clocks, lets the actor of this number do what it does at a mark, and levels the
+    /// clocks again. It answers whether the actor made an event.
+    pub fn between(&mut self, k: usize) -> Result<bool, NoMemory>
+        requires { k < length (view self.old).actors }
+        ensures between { IfOk result (Between A.part A.makes A.paused k (view self.old) (view self.new)) }
+        ensures failed { OnErr result (has_failed self.new ≡ true) }
+        ensures marks { marks self.new ≡ marks self.old }
+        ensures same { edge_list self.new ≡ edge_list self.old }
+        ensures stays { OnOk result (has_failed self.new ≡ has_failed self.old) }
+    {
+        match pause_all(self.cells.as_mut_slice(), self.edges.as_slice(), k) {
+            Ok(answer) => Ok(answer),
+            Err(NoMemory) => {
+                self.has_failed = true;
+                Err(NoMemory)
+            }
+        }
+    }
+
+    /// How many items are on their way from one actor to another; 0 where no edge leads there.
+    pub fn in_flight(&self, from: usize, to: usize) -> usize
+        ensures { result ≡ length ((view self.now).channel from to) }
+    {
+        channel_count(self.cells.as_slice(), from, to)
+    }
+
+    /// How many entries the journals have. The count stands still at its type's end.
+    pub fn events(&self) -> u64
+        ensures { CountsAll (view self.now) result }
+    {
+        entry_count(self.cells.as_slice())
+    }
+
+    /// The actor of this number.
+    pub fn actor(&self, k: usize) -> &A
+        requires { k < length (view self.now).actors }
+        ensures { slice_get (view self.now).actors k ≡ Some result.now }
+    {
+        &self.cells[k].actor
+    }
+}

@@ -1,0 +1,185 @@
+//! Toy actors in nets.
+
+ghost use Rattle.std.specs.Prelude.{ℕ, ◌≡◌, ◌+◌, ◌∷◌, [], Option, OnOk};
+ghost use Rattle.ring_net.specs.Posts.{actor_of, clock_of, Wrote, SameEdges};
+
+use crate::{Actor, Net, Post, Stamp};
+use graft_edge::{FreeGate, Gate, Items, NoMemory};
+use std::alloc::Global;
+use std::sync::atomic::{AtomicU64, Ordering};
+use std::test::Fail;
+
+/// Sends so many items in its next turn, and passes on what it takes.
+#[derive(Drop)]
+struct Toy {
+    next: usize,
+    to_send: u32,
+    seen: u32,
+    last: u32,
+}
+
+/// Notes an event and sends an item.
+fn event(post: &mut Post<u32>, kind: u16, to: usize, item: u32) -> Result<(), NoMemory>
+    ensures ok { OnOk result ((taken : Option (ℕ × ℕ)) → Wrote post.old
+        (record { entry = record { clock = clock_of post.old + 1; actor = actor_of post.old; kind = kind; a = item; b = 0; c = 0 }; taken = taken; sent = (to, item) ∷ [] } ∷ []) post.new) }
+    ensures edges { SameEdges post.old post.new }
+{
+    post.note(kind, item, 0, 0)?;
+    match post.send(to, item) {
+        Ok(()) => Ok(()),
+        Err(_item) => Err(NoMemory),
+    }
+}
+
+impl Actor for Toy {
+    type Item = u32;
+
+    ghost Part = { Unit {0} };
+
+    ghost part = { λ _. tt };
+
+    ghost makes = { λ _ _ _ _ _ _. Unit {0} };
+
+    ghost took = { λ _ _ _ _ _. Unit {0} };
+
+    ghost turned = { λ _ _ _. Unit {0} };
+
+    ghost paused = { λ _ _ _. Unit {0} };
+
+    fn take(&mut self, _from: usize, item: u32, post: &mut Post<u32>) -> Result<(), NoMemory> {
+        self.seen = self.seen.saturating_add(1);
+        self.last = item;
+        event(post, 1, self.next, item)?;
+        Ok(())
+    }
+
+    fn turn(&mut self, post: &mut Post<u32>) -> Result<(), NoMemory> {
+        for item in 0..self.to_send {
+            event(post, 2, self.next, item)?;
+        }
+        self.to_send = 0;
+        Ok(())
+    }
+
+    fn between(&mut self, _post: &mut Post<u32>) -> Result<bool, NoMemory> {
+        Ok(false)
+    }
+}
+
+fn make_toy(next: usize, to_send: u32) -> Toy {
+    Toy {
+        next,
+        to_send,
+        seen: 0,
+        last: 0,
+    }
+}
+
+/// Two toys, of which the second sends so many items to the first, which passes them to nobody.
+fn pair(alloc: Global, to_send: u32) -> Result<Net<Toy>, NoMemory> {
+    let mut actors = Items::new(alloc);
+    actors.push(make_toy(9, 0))?;
+    actors.push(make_toy(0, to_send))?;
+    Net::build(alloc, actors, &[(0, 1), (1, 0)])
+}
+
+/// An outbox of 1,000 items drains by 256 in a round, and the marks tell how many events stood there.
+#[test]
+fn an_outbox_drains_by_256(rt: HostRuntime) -> Result<(), Fail> {
+    let mut net = pair(rt.alloc(), 1000)?;
+    let rows = [
+        (1000usize, 0u64),
+        (744, 256),
+        (488, 512),
+        (232, 768),
+        (0, 1000),
+        (0, 1000),
+    ];
+    for (left, seen) in rows {
+        net.phase(&rt, 1, &FreeGate)?;
+        net.mark()?;
+        assert_eq!(rt; net.in_flight(1, 0), left);
+        assert_eq!(rt; net.in_flight(0, 1), 0);
+        assert_eq!(rt; net.events(), 1000 + seen);
+    }
+    Ok(())
+}
+
+/// Holds the first actor until the second has passed, or the other way, for so many looks at most.
+#[derive(Drop)]
+struct Hold {
+    held: usize,
+    passed: AtomicU64,
+    missed: AtomicU64,
+}
+
+fn make_hold(held: usize) -> Hold {
+    Hold {
+        held,
+        passed: AtomicU64::new(0),
+        missed: AtomicU64::new(0),
+    }
+}
+
+impl Gate for Hold {
+    fn pass(&self, actor: usize) {
+        if actor != self.held {
+            self.passed.store(1, Ordering::SeqCst);
+            return;
+        }
+        for _ in 0..100_000_000u32 {
+            if self.passed.load(Ordering::SeqCst) == 1 {
+                return;
+            }
+        }
+        self.missed.store(1, Ordering::SeqCst);
+    }
+}
+
+/// Two workers run at the same time: the first actor waits at the gate for the second one.
+#[test]
+fn two_workers_meet(rt: HostRuntime) -> Result<(), Fail> {
+    let mut net = pair(rt.alloc(), 10)?;
+    let gate = make_hold(0);
+    net.phase(&rt, 2, &gate)?;
+    assert_eq!(rt; gate.missed.load(Ordering::SeqCst), 0);
+    Ok(())
+}
+
+/// Any number of workers leaves the same actors, where their result doesn't depend on the schedule.
+#[test]
+fn workers_leave_the_same(rt: HostRuntime) -> Result<(), Fail> {
+    for workers in [1usize, 2, 3, 8] {
+        let mut net = pair(rt.alloc(), 300)?;
+        for _ in 0..4u32 {
+            net.phase(&rt, workers, &FreeGate)?;
+        }
+        net.level();
+        assert!(rt; !net.between(0)?);
+        assert_eq!(rt; net.events(), 600);
+        assert_eq!(rt; net.actor(0).last, 299);
+    }
+    Ok(())
+}
+
+/// A post keeps what waits for each receiver, with its stamp, and drops what goes nowhere.
+#[test]
+fn a_post_keeps_what_was_sent(rt: HostRuntime) -> Result<(), Fail> {
+    let mut post = Post::begin(rt.alloc(), 3, 7, &[2, 5])?;
+    event(&mut post, 1, 5, 50)?;
+    event(&mut post, 1, 4, 40)?;
+    event(&mut post, 1, 5, 51)?;
+    assert_eq!(rt; post.entries().len(), 3);
+    assert!(rt; post.take_sent(4).is_none());
+    let mut sent = Vec::new(rt.alloc());
+    for _ in 0..3u32 {
+        if let Some((stamp, item)) = post.take_sent(5) {
+            sent.push((stamp, item))?;
+        }
+    }
+    assert_eq!(rt;
+        sent.as_slice(),
+        [(Stamp(8), 50), (Stamp(10), 51)].as_slice()
+    );
+    Ok(())
+}
