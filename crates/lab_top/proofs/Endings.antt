@@ -1,7 +1,7 @@
 -- How the program ends.
-use Rattle.std.proofs.Common.{◌≡◌, ℕ, List, ◌⊎◌, inl, inr, subst, arith}
+use Rattle.std.proofs.Common.{◌≡◌, ℕ, List, inl, inr, subst, arith}
 use Rattle.std.specs.Prelude.{Option, Err}
-use Rattle.graft_edge.specs.Outside.{Appended}
+use Rattle.graft_edge.specs.Outside.{Appended, AppendedFront}
 use Rattle.lab_input.specs.declared.input.BadInput.{BadInput}
 use Rattle.lab_input.specs.declared.input.LabInput.{LabInput}
 use Rattle.lab_input.specs.declared.input.LabStop.{LabStop}
@@ -14,6 +14,12 @@ pub Appended-under : (text : List ℕ) (planned faults_before faults_after : ℕ
     → Writes text planned faults_before faults_after before after status → status ≡ 2 → planned ≡ 2 → Appended before after text
 Appended-under text planned faults_before faults_after before after status (inl whole) two same = whole.1
 Appended-under text planned faults_before faults_after before after status (inr front) two same = absurd (omega (arith, front.0))
+
+-- under status 5 a front of the text was appended
+pub AppendedFront-under : (text : List ℕ) (planned faults_before faults_after : ℕ) (before after : Option (List ℕ)) (status : ℕ)
+    → Writes text planned faults_before faults_after before after status → status ≡ 5 → planned ≡ 2 → AppendedFront before after text
+AppendedFront-under text planned faults_before faults_after before after status (inl whole) five same = absurd (omega (arith, whole.0))
+AppendedFront-under text planned faults_before faults_after before after status (inr front) five same = front.2
 
 -- a refusal of the bytes says that they are no input
 pub no_input : (bytes read : List ℕ) (stop : LabStop) (bad : BadInput) → read ≡ bytes → stop ≡ Bad bad → Answers (InputOf read) (Err stop) → (input : LabInput) → ¬ (InputOf bytes input)

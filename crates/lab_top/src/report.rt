@@ -1,76 +1,117 @@
 //! The report of a run.
 
-use crate::lab::{BestEntry, Lab, Line, Place, RunEnd, Story};
+ghost use Rattle.std.specs.Prelude.{◌≡◌, ◌++◌, OnOk, IfOk, string_bytes, codes, decimal, slice_get, sum_by};
+ghost use Rattle.std.specs.List.{flat_map, enumerate_from};
+ghost use Rattle.lab_top.specs.Report.{ases_text, part_text, path_text, from_text, router_name as router_name_lem, peering_name as peering_name_lem, best_line, router_lines, peering_line, named_line, table_lines, place_words, state_words, session_words, place_text, state_text, report_text, state_of, hears, tells, after_line};
+
+use crate::lab::{BestEntry, Lab, Line, Place, RouterTable, RunEnd, Story};
 use bgp_types::{AsList, AsPath, From, Message, NoMemory, PathPart, SessionState};
-use lab_input::{LabInput, PeeringInput};
+use lab_input::{LabInput, PeeringInput, RouterInput};
 use std::alloc::Global;
 use std::fmt::Write;
 
 /// The name of a router of the input.
-fn router_name(input: &LabInput, k: u8) -> &str {
-    match input.routers.as_slice().get(usize::from(k)) {
+fn router_name(input: &LabInput, place: u8) -> &str
+    ensures { result.now ≡ router_name_lem input.now place }
+{
+    match input.routers.as_slice().get(usize::from(place)) {
         Some(router) => router.name.as_str(),
         None => "-",
     }
 }
 
 /// The name of a peering of the input.
-fn peering_name(input: &LabInput, k: u8) -> &str {
-    match input.peerings.as_slice().get(usize::from(k)) {
+fn peering_name(input: &LabInput, place: u8) -> &str
+    ensures { result.now ≡ peering_name_lem input.now place }
+{
+    match input.peerings.as_slice().get(usize::from(place)) {
         Some(peering) => peering.name.as_str(),
         None => "-",
     }
 }
 
-/// The ASes of a part, joined by commas.
-fn push_ases(text: &mut String, ases: &AsList) -> Result<(), NoMemory> {
-    for (k, as_number) in ases.as_slice().iter().enumerate() {
-        if k > 0 {
-            text.push_str(",")?;
-        }
+/// Further ASes, each behind a comma.
+fn push_further_ases(text: &mut String, ases: &[u32]) -> Result<(), NoMemory>
+    ensures { OnOk result (string_bytes text.new ≡ string_bytes text.old ++ flat_map (λ a. codes "," ++ decimal a) ases.now) }
+{
+    for as_number in ases {
+        text.push_str(",")?;
         write!(text, "{as_number}")?;
     }
     Ok(())
 }
 
-/// A path: `-` where it is empty, else its parts joined by commas, a set within braces.
-fn push_path(text: &mut String, path: &AsPath) -> Result<(), NoMemory> {
-    if path.is_empty() {
-        text.push_str("-")?;
+/// ASes joined by commas.
+fn push_ases(text: &mut String, ases: &AsList) -> Result<(), NoMemory>
+    ensures { OnOk result (string_bytes text.new ≡ string_bytes text.old ++ ases_text ases.now) }
+{
+    let Some((first, further)) = ases.as_slice().split_first() else {
         return Ok(());
+    };
+    write!(text, "{first}")?;
+    push_further_ases(text, further)
+}
+
+/// A part: a set stands within braces.
+fn push_part(text: &mut String, part: &PathPart) -> Result<(), NoMemory>
+    ensures { OnOk result (string_bytes text.new ≡ string_bytes text.old ++ part_text part.now) }
+{
+    match part {
+        PathPart::Sequence(ases) => push_ases(text, ases),
+        PathPart::Set(ases) => {
+            text.push_str("{")?;
+            push_ases(text, ases)?;
+            text.push_str("}")?;
+            Ok(())
+        }
     }
-    for (k, part) in path.as_slice().iter().enumerate() {
-        if k > 0 {
-            text.push_str(",")?;
-        }
-        match part {
-            PathPart::Sequence(ases) => push_ases(text, ases)?,
-            PathPart::Set(ases) => {
-                text.push_str("{")?;
-                push_ases(text, ases)?;
-                text.push_str("}")?;
-            }
-        }
+}
+
+/// Further parts, each behind a comma.
+fn push_further_parts(text: &mut String, parts: &[PathPart]) -> Result<(), NoMemory>
+    ensures { OnOk result (string_bytes text.new ≡ string_bytes text.old ++ flat_map (λ p. codes "," ++ part_text p) parts.now) }
+{
+    for part in parts {
+        text.push_str(",")?;
+        push_part(text, part)?;
     }
     Ok(())
 }
 
-fn push_from(text: &mut String, input: &LabInput, from: From) -> Result<(), NoMemory> {
+/// A path: a dash where it is empty, else its parts joined by commas.
+fn push_path(text: &mut String, path: &AsPath) -> Result<(), NoMemory>
+    ensures { OnOk result (string_bytes text.new ≡ string_bytes text.old ++ path_text path.now) }
+{
+    let Some((first, further)) = path.as_slice().split_first() else {
+        text.push_str("-")?;
+        return Ok(());
+    };
+    push_part(text, first)?;
+    push_further_parts(text, further)
+}
+
+/// Where a route comes from.
+fn push_from(text: &mut String, input: &LabInput, from: From) -> Result<(), NoMemory>
+    ensures { OnOk result (string_bytes text.new ≡ string_bytes text.old ++ from_text input.now from) }
+{
     match from {
         From::Own => text.push_str("own")?,
         From::Peering(peering) => {
-            let name = peering_name(input, peering.0);
-            write!(text, "peering {name}")?;
+            text.push_str("peering ")?;
+            text.push_str(peering_name(input, peering.0))?;
         }
         From::Router(router) => {
-            let name = router_name(input, router.0);
-            write!(text, "router {name}")?;
+            text.push_str("router ")?;
+            text.push_str(router_name(input, router.0))?;
         }
     }
     Ok(())
 }
 
-fn push_best(text: &mut String, input: &LabInput, best: &BestEntry) -> Result<(), NoMemory> {
+/// The line of a best route.
+fn push_best(text: &mut String, input: &LabInput, best: &BestEntry) -> Result<(), NoMemory>
+    ensures { OnOk result (string_bytes text.new ≡ string_bytes text.old ++ best_line input.now best.now) }
+{
     let prefix = best.prefix;
     let pref = best.route.pref;
     write!(text, "best {prefix} ")?;
@@ -81,6 +122,50 @@ fn push_best(text: &mut String, input: &LabInput, best: &BestEntry) -> Result<()
     Ok(())
 }
 
+/// The lines of a router's best routes.
+fn push_table(text: &mut String, input: &LabInput, table: &RouterTable) -> Result<(), NoMemory>
+    ensures { OnOk result (string_bytes text.new ≡ string_bytes text.old ++ flat_map (best_line input.now) table.now.best) }
+{
+    let best = table.best.as_slice();
+    for entry in best {
+        push_best(text, input, entry)?;
+    }
+    Ok(())
+}
+
+/// The line of a router's name.
+fn push_name(text: &mut String, name: &str) -> Result<(), NoMemory>
+    ensures { OnOk result (string_bytes text.new ≡ string_bytes text.old ++ named_line name.now) }
+{
+    text.push_str("router ")?;
+    text.push_str(name)?;
+    text.push_str("\n")?;
+    Ok(())
+}
+
+/// The lines of the best routes of the router at a place.
+fn push_table_at(text: &mut String, lab: &Lab, place: usize) -> Result<(), NoMemory>
+    ensures { OnOk result (string_bytes text.new ≡ string_bytes text.old ++ table_lines lab.now.input (slice_get lab.now.tables place)) }
+{
+    match lab.tables.as_slice().get(place) {
+        Some(table) => push_table(text, &lab.input, table),
+        None => Ok(()),
+    }
+}
+
+/// A router's name, and then its best routes.
+fn push_router(
+    text: &mut String,
+    lab: &Lab,
+    place: usize,
+    router: &RouterInput,
+) -> Result<(), NoMemory>
+    ensures { OnOk result (string_bytes text.new ≡ string_bytes text.old ++ router_lines lab.now (place, router.now)) }
+{
+    push_name(text, router.name.as_str())?;
+    push_table_at(text, lab, place)
+}
+
 /// What a report says of a session: its state, and how many prefixes were heard and told on it.
 #[derive(Clone, Copy)]
 struct SessionView {
@@ -89,30 +174,64 @@ struct SessionView {
     told: usize,
 }
 
-/// The state after a story, whose got frames are sound, and the sizes of its tables, on which each
-/// prefix is announced once.
-fn view_of(story: &Story) -> SessionView {
-    let mut view = SessionView {
-        state: SessionState::OpenSent,
-        heard: 0,
-        told: 0,
-    };
-    for line in story.as_slice() {
-        match line {
-            Line::Put(Message::UpdateMsg(_)) => view.told = view.told.saturating_add(1),
-            Line::Put(_) => {}
-            Line::Got(frame) => match frame.as_slice().get(18) {
-                Some(1) => view.state = SessionState::OpenConfirm,
-                Some(2) => view.heard = view.heard.saturating_add(1),
-                Some(4) => view.state = SessionState::Established,
-                _ => {}
-            },
-        }
+/// The state after a line.
+fn state_after(state: SessionState, line: &Line) -> SessionState
+    ensures { result ≡ after_line state line.now }
+{
+    match line {
+        Line::Put(_) => state,
+        Line::Got(frame) => match frame.as_slice().get(18) {
+            Some(1) => SessionState::OpenConfirm,
+            Some(4) => SessionState::Established,
+            _ => state,
+        },
     }
-    view
 }
 
-fn state_name(state: SessionState) -> &'static str {
+/// How many prefixes are heard by a line.
+fn heard_in(line: &Line) -> usize
+    ensures { result ≡ hears line.now }
+{
+    match line {
+        Line::Put(_) => 0,
+        Line::Got(frame) => match frame.as_slice().get(18) {
+            Some(2) => 1,
+            _ => 0,
+        },
+    }
+}
+
+/// How many prefixes are told by a line.
+fn told_in(line: &Line) -> usize
+    ensures { result ≡ tells line.now }
+{
+    match line {
+        Line::Put(Message::UpdateMsg(_)) => 1,
+        _ => 0,
+    }
+}
+
+/// The state after a story, and the sizes of its tables.
+fn view_of(story: &Story) -> SessionView
+    ensures state { result.state ≡ state_of story.now }
+    ensures heard { result.heard ≡ sum_by hears story.now }
+    ensures told { result.told ≡ sum_by tells story.now }
+{
+    let lines = story.as_slice();
+    let mut state = SessionState::OpenSent;
+    let mut heard = 0usize;
+    let mut told = 0usize;
+    for line in lines {
+        state = state_after(state, line);
+        heard += heard_in(line);
+        told += told_in(line);
+    }
+    SessionView { state, heard, told }
+}
+
+fn state_name(state: SessionState) -> &'static str
+    ensures { result.now ≡ state_text state }
+{
     match state {
         SessionState::OpenSent => "OpenSent",
         SessionState::OpenConfirm => "OpenConfirm",
@@ -121,48 +240,100 @@ fn state_name(state: SessionState) -> &'static str {
     }
 }
 
+/// The name of the router at which a peering's session is.
+fn place_name<'a>(lab: &'a Lab, place: usize) -> &'a str
+    ensures { result.now ≡ place_text lab.now.input (slice_get lab.now.placement place) }
+{
+    match lab.placement.as_slice().get(place) {
+        Some(Place::Held(router)) => router_name(&lab.input, router.0),
+        None => "-",
+    }
+}
+
+/// A peering's name and its place.
+fn push_place(text: &mut String, name: &str, at: &str) -> Result<(), NoMemory>
+    ensures { OnOk result (string_bytes text.new ≡ string_bytes text.old ++ place_words name.now at.now) }
+{
+    text.push_str("peering ")?;
+    text.push_str(name)?;
+    text.push_str(" at ")?;
+    text.push_str(at)?;
+    Ok(())
+}
+
+/// A session's state, and how many prefixes were heard and told on it.
+fn push_view(text: &mut String, view: SessionView) -> Result<(), NoMemory>
+    ensures { OnOk result (string_bytes text.new ≡ string_bytes text.old ++ state_words view.state view.heard view.told) }
+{
+    let heard = view.heard;
+    let told = view.told;
+    text.push_str(" state ")?;
+    text.push_str(state_name(view.state))?;
+    write!(text, " heard {heard} told {told}\n")?;
+    Ok(())
+}
+
+/// What a story says of its session.
+fn push_session(text: &mut String, story: &Story) -> Result<(), NoMemory>
+    ensures { OnOk result (string_bytes text.new ≡ string_bytes text.old ++ session_words story.now) }
+{
+    push_view(text, view_of(story))
+}
+
+/// The line of a peering that has a story.
+fn push_told(text: &mut String, name: &str, at: &str, story: &Story) -> Result<(), NoMemory>
+    ensures { OnOk result (string_bytes text.new ≡ string_bytes text.old ++ (place_words name.now at.now ++ session_words story.now)) }
+{
+    push_place(text, name, at)?;
+    push_session(text, story)
+}
+
+/// The line of a peering, where it has a story.
 fn push_peering(
     text: &mut String,
     lab: &Lab,
-    k: usize,
+    place: usize,
     peering: &PeeringInput,
-) -> Result<(), NoMemory> {
-    let name = peering.name.as_str();
-    let at = match lab.placement.as_slice().get(k) {
-        Some(Place::Held(router)) => router_name(&lab.input, router.0),
-        None => "-",
-    };
-    let Some(story) = lab.stories.as_slice().get(k) else {
-        return Ok(());
-    };
-    let view = view_of(story);
-    let state = state_name(view.state);
-    let heard = view.heard;
-    let told = view.told;
-    write!(
-        text,
-        "peering {name} at {at} state {state} heard {heard} told {told}\n"
-    )?;
+) -> Result<(), NoMemory>
+    ensures { OnOk result (string_bytes text.new ≡ string_bytes text.old ++ peering_line lab.now (place, peering.now)) }
+{
+    match lab.stories.as_slice().get(place) {
+        Some(story) => push_told(text, peering.name.as_str(), place_name(lab, place), story),
+        None => Ok(()),
+    }
+}
+
+/// The routers, in the order of the input.
+fn push_routers(text: &mut String, lab: &Lab) -> Result<(), NoMemory>
+    ensures { OnOk result (string_bytes text.new ≡ string_bytes text.old ++ flat_map (router_lines lab.now) (enumerate_from 0 lab.now.input.routers)) }
+{
+    let routers = lab.input.routers.as_slice();
+    for (place, router) in routers.iter().enumerate() {
+        push_router(text, lab, place, router)?;
+    }
+    Ok(())
+}
+
+/// The peerings, in the order of the input.
+fn push_peerings(text: &mut String, lab: &Lab) -> Result<(), NoMemory>
+    ensures { OnOk result (string_bytes text.new ≡ string_bytes text.old ++ flat_map (peering_line lab.now) (enumerate_from 0 lab.now.input.peerings)) }
+{
+    let peerings = lab.input.peerings.as_slice();
+    for (place, peering) in peerings.iter().enumerate() {
+        push_peering(text, lab, place, peering)?;
+    }
     Ok(())
 }
 
 /// The report: how the run ended, each router's best routes, and each peering's place and tables.
-pub fn report(alloc: Global, lab: &Lab) -> Result<String, NoMemory> {
+pub fn report(alloc: Global, lab: &Lab) -> Result<String, NoMemory>
+    ensures { IfOk result (λ text. string_bytes text ≡ report_text lab.now) }
+{
     let mut text = String::new(alloc);
     match lab.end {
         RunEnd::Settled => text.push_str("result settled\n")?,
     }
-    for (k, router) in lab.input.routers.as_slice().iter().enumerate() {
-        let name = router.name.as_str();
-        write!(text, "router {name}\n")?;
-        if let Some(table) = lab.tables.as_slice().get(k) {
-            for best in table.best.as_slice() {
-                push_best(&mut text, &lab.input, best)?;
-            }
-        }
-    }
-    for (k, peering) in lab.input.peerings.as_slice().iter().enumerate() {
-        push_peering(&mut text, lab, k, peering)?;
-    }
+    push_routers(&mut text, lab)?;
+    push_peerings(&mut text, lab)?;
     Ok(text)
 }

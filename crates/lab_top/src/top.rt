@@ -3,6 +3,7 @@
 ghost use Rattle.std.specs.Prelude.{◌≡◌, ◌↔◌, ◌⊎◌, ◌≤◌, ℕ, None, IsTrue, IsSome, IfSome, OnSome};
 ghost use Rattle.graft_edge.specs.Outside.{FaultRose, Appended, AppendedFront};
 ghost use Rattle.lab_top.specs.Ends.{IsRun, usage_text, not_built_text, TookInput, TookBadInput, IsStatus, Writes};
+ghost use Rattle.lab_top.specs.Report.{report_text};
 
 use crate::lab::Lab;
 use crate::pipe::run_lab;
@@ -81,6 +82,7 @@ where
     // An input is refused only where the bytes are none, and then a text says so.
     ensures bad_input { result.status ≡ 2 → TookBadInput (S.left source.old) (S.left source.new) }
     ensures bad_input_text { result.status ≡ 2 → Appended (K.written sink.old) (K.written sink.new) not_built_text }
+    ensures bad_input_unwritten { result.status ≡ 5 → IsRun words.now → result.lab ≡ None → TookBadInput (S.left source.old) (S.left source.new) × AppendedFront (K.written sink.old) (K.written sink.new) not_built_text }
 
     // A read or a write failed only where its count of faults shows it.
     ensures read_failed { result.status ≡ 4 → FaultRose (S.faults source.old) (S.faults source.new) }
@@ -91,6 +93,9 @@ where
     ensures settled { result.status ≡ 0 → IsSome result.lab }
     ensures ran { OnSome result.lab ((result.status ≡ 0) ⊎ (result.status ≡ 5)) }
     ensures input { IfSome result.lab (λ lab. TookInput (S.left source.old) (S.left source.new) lab.input) }
+
+    // Its report is written whole, or a write failed and a front of it stands.
+    ensures reported { IfSome result.lab (λ lab. Writes (report_text lab) 0 (K.faults sink.old) (K.faults sink.new) (K.written sink.old) (K.written sink.new) result.status) }
 {
     let alloc = rt.alloc();
     if !is_run(words) {

@@ -1,6 +1,9 @@
-use Rattle.std.proofs.Common.{refl, subst, inr}
-use Rattle.graft_edge.specs.Outside.{Appended}
-use Rattle.lab_top.proofs.Endings.{Appended-under, no_input}
+use Rattle.std.proofs.Common.{refl, sym, subst, ◌∙◌, inr, ℕ, List}
+use Rattle.std.specs.Prelude.{IfSome}
+use Rattle.graft_edge.specs.Outside.{Appended, AppendedFront}
+use Rattle.lab_top.specs.Ends.{Writes}
+use Rattle.lab_top.specs.Report.{report_text}
+use Rattle.lab_top.proofs.Endings.{Appended-under, AppendedFront-under, no_input}
 use Rattle.lab_top.proofs.top.graft_main.Goals as goal
 
 pub returns-in-Bad-clause-bad_input : goal.returns-in-Bad-clause-bad_input
@@ -18,3 +21,23 @@ returns-in-Bad-clause-bad_input_text g c = λ two.
     subst (λ text. Appended before after text) c.as_bytes-in-Bad.ensures.value
     (Appended-under c.as_bytes-in-Bad.result.now 2 (g.K.Sink.faults c.args.sink.now) (g.K.Sink.faults c.end_with-in-Bad.new.sink) before after
     c.end_with-in-Bad.result.status c.end_with-in-Bad.ensures.writes two refl)
+
+pub returns-in-Bad-clause-bad_input_unwritten : goal.returns-in-Bad-clause-bad_input_unwritten
+returns-in-Bad-clause-bad_input_unwritten g c = λ five run none.
+    let before = g.K.Sink.written c.args.sink.now in
+    let after = g.K.Sink.written c.end_with-in-Bad.new.sink in (
+      record {
+        bytes = c.in-Ok.bytes;
+        took = c.in-Ok.ensures.whole;
+        cause = inr (c.in-Ok.ensures.end.1, no_input c.in-Ok.bytes c.as_slice.result.now c.in-Err-read_lab.stop c.in-Bad.field-0 c.as_slice.ensures c.in-Bad.is c.in-Err-read_lab.ensures);
+      },
+      subst (λ text. AppendedFront before after text) c.as_bytes-in-Bad.ensures.value
+          (AppendedFront-under c.as_bytes-in-Bad.result.now 2 (g.K.Sink.faults c.args.sink.now) (g.K.Sink.faults c.end_with-in-Bad.new.sink) before after
+          c.end_with-in-Bad.result.status c.end_with-in-Bad.ensures.writes five refl),
+    )
+
+pub returns-in-Ok-report-clause-reported : goal.returns-in-Ok-report-clause-reported
+returns-in-Ok-report-clause-reported g c =
+    let written : List ℕ → Type 0 = λ text. Writes text 0 (g.K.Sink.faults c.args.sink.now) (g.K.Sink.faults c.end_with-in-Ok-report.new.sink) (g.K.Sink.written c.args.sink.now) (g.K.Sink.written c.end_with-in-Ok-report.new.sink) c.end_with-in-Ok-report.result.status in
+    subst (λ found. IfSome found (λ lab. written (report_text lab))) (sym c.end_with-in-Ok-report.ensures.lab)
+    (subst written (c.as_bytes-in-Ok-report.ensures.value ∙ c.in-Ok-report.ensures) c.end_with-in-Ok-report.ensures.writes)
