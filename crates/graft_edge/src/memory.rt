@@ -40,3 +40,9 @@ impl TryCopy for u32 {
         Ok(*self)
     }
 }
+
+impl TryCopy for u64 {
+    fn copy(&self) -> Result<u64, NoMemory> {
+        Ok(*self)
+    }
+}

@@ -1,6 +1,6 @@
 //! Short texts.
 
-ghost use Rattle.std.specs.Prelude.{◌≡◌, ◌++◌, [], IfOk, OnOk, OnErr, string_bytes};
+ghost use Rattle.std.specs.Prelude.{◌≡◌, ◌++◌, [], Some, IfOk, OnOk, OnErr, string_bytes};
 
 use crate::memory::{NoMemory, TryCopy};
 use std::alloc::Global;
@@ -69,6 +69,8 @@ impl TryCopy for Name {
 }
 
 impl fmt::Display for Name {
+    ghost output = { λ name. Some name };
+
     fn fmt<W: fmt::Write>(&self, f: &mut fmt::Formatter<W>) -> fmt::Result {
         f.write_str(self.as_str())
     }
