@@ -5,7 +5,7 @@ use Rattle.std.proofs.lemmas.Bool.{lt-ltb, le-ltb}
 use Rattle.std.proofs.lemmas.Option.{slice_get_past, slice_get-get_or}
 use Rattle.std.specs.List.{slice_get}
 use Rattle.std.specs.Option.{option_or}
-use Rattle.tcp_reasm.specs.declared.piece.Piece.{Piece}
+use Rattle.tcp_seq.specs.declared.state.Piece.{Piece}
 use Rattle.tcp_reasm.specs.Runs.{byte_from, held, AreRuns}
 use Rattle.tcp_reasm.proofs.Lookups.{or_assoc}
 

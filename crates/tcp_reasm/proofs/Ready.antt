@@ -5,7 +5,7 @@ use Rattle.std.proofs.lemmas.Bool.{cases_lt, eqb-false, eqb-true}
 use Rattle.std.specs.List.{slice_get}
 use Rattle.std.specs.Option.{option_or}
 use Rattle.tcp_seq.specs.Numbers.{plus}
-use Rattle.tcp_reasm.specs.declared.piece.Piece.{Piece}
+use Rattle.tcp_seq.specs.declared.state.Piece.{Piece}
 use Rattle.tcp_reasm.specs.Runs.{byte_from, held, AreRuns}
 use Rattle.tcp_reasm.specs.Joined.{lowered, begins_at_start}
 use Rattle.tcp_reasm.specs.Reassembly.{Reassembly, TakesReady}

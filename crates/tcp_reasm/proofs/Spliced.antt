@@ -6,7 +6,7 @@ use Rattle.std.proofs.lemmas.List.{take-append-drop, length-drop, take_all, drop
 use Rattle.std.proofs.lemmas.Option.{slice_get-get_or}
 use Rattle.std.specs.List.{slice_get}
 use Rattle.std.specs.Option.{option_or}
-use Rattle.tcp_reasm.specs.declared.piece.Piece.{Piece}
+use Rattle.tcp_seq.specs.declared.state.Piece.{Piece}
 use Rattle.tcp_reasm.specs.Runs.{byte_from, held, AreRuns}
 use Rattle.tcp_reasm.specs.Joined.{skipped, touched, filled, start_of}
 use Rattle.tcp_reasm.proofs.Lookups.{get-append_left, get-append_right, or_assoc, or_swap}

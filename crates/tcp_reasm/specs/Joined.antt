@@ -1,6 +1,6 @@
 -- What the steps of an insertion answer.
 use Rattle.std.specs.Prelude.{ℕ, suc, ◌+◌, ◌-◌, nat_lt, nat_le, min, if◌then◌else◌, List, [], ◌∷◌, ◌++◌, length, take, drop, map, Bool, false, ◌==◌}
-use Rattle.tcp_reasm.specs.declared.piece.Piece.{Piece}
+use Rattle.tcp_seq.specs.declared.state.Piece.{Piece}
 
 -- how many of the first pieces end before a place
 abbrev pub skipped : ℕ → List Piece → ℕ

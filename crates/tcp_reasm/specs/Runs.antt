@@ -1,7 +1,7 @@
 -- Pieces of a stream, whose places are counted from the one expected next.
 use Rattle.std.specs.Prelude.{ℕ, ◌<◌, ◌≤◌, ◌+◌, ◌-◌, nat_lt, if◌then◌else◌, List, [], ◌∷◌, length, Option, None, slice_get}
 use Rattle.std.specs.Option.{option_or}
-use Rattle.tcp_reasm.specs.declared.piece.Piece.{Piece}
+use Rattle.tcp_seq.specs.declared.state.Piece.{Piece}
 
 -- the byte at a place, of bytes that stand from a place on
 abbrev pub byte_from : ℕ → List ℕ → ℕ → Option ℕ

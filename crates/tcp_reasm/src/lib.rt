@@ -8,5 +8,6 @@ mod reasm;
 mod tests;
 
 pub use laws::{bytes_stand_at_their_places, same_places_same_bytes};
-pub use piece::{Piece, Pieces, WINDOW};
+pub use piece::WINDOW;
 pub use reasm::Reasm;
+pub use tcp_seq::{Piece, Pieces};

@@ -5,30 +5,12 @@ ghost use Rattle.std.specs.Option.{option_or};
 ghost use Rattle.tcp_reasm.specs.Runs.{AreRuns, byte_from, held};
 ghost use Rattle.tcp_reasm.specs.Joined.{skipped, touched, filled, start_of, begins_at_start, lowered};
 
-use graft_edge::{Items, NoMemory, Octets};
+use graft_edge::{NoMemory, Octets};
 use std::alloc::Global;
+use tcp_seq::Piece;
 
 /// How many places from the one expected next on are kept.
 pub const WINDOW: u32 = 16_384;
-
-/// Bytes that stand from a place on. A `Reasm` counts places from the one that it expects next.
-#[derive(Debug, Drop)]
-pub struct Piece {
-    pub place: u32,
-    pub bytes: Octets,
-}
-
-/// A list of pieces.
-pub type Pieces = Items<Piece>;
-
-impl Piece {
-    /// The place after its last byte.
-    fn end(&self) -> usize
-        ensures { result ≡ self.now.place + length self.now.bytes }
-    {
-        self.place as usize + self.bytes.as_slice().len()
-    }
-}
 
 /// How many of the first pieces end before a place, so that a byte stands between them and it.
 fn skipped_count(pieces: &[Piece], place: usize) -> usize

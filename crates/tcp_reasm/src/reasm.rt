@@ -4,11 +4,11 @@ ghost use Rattle.std.specs.Prelude.{ℕ, ◌≡◌, ◌<◌, ◌≤◌, ◌+◌,
 ghost use Rattle.tcp_reasm.specs.Runs.{AreRuns, byte_from};
 ghost use Rattle.tcp_reasm.specs.Reassembly.{Puts, TakesReady, brought};
 
-use crate::piece::{Piece, Pieces, WINDOW, begins_now, insert, take_first};
+use crate::piece::{WINDOW, begins_now, insert, take_first};
 use graft_edge::{Items, NoMemory, Octets};
 use std::alloc::Global;
 use std::marker::Model;
-use tcp_seq::Seq;
+use tcp_seq::{Piece, Pieces, Seq};
 
 /// The bytes of a stream that arrived and weren't given out yet, at most 16,384 places from the one
 /// expected next on. Contracts see the number expected next and the pieces that stand ahead of it,

@@ -1,11 +1,13 @@
-//! TCP's sequence numbers and acceptance rules, the segment that links carry, and, for contracts, the
-//! endpoint over whole numbers that the 32-bit rules stand for (RFC 9293, section 3.4).
+//! TCP's sequence numbers and acceptance rules, the segment that links carry, the state of an
+//! endpoint that is handed over, and, for contracts, the endpoint over whole numbers that the 32-bit
+//! rules stand for (RFC 9293, section 3.4).
 #![tactic(auto)]
 
 mod laws;
 mod rules;
 mod segment;
 mod seq;
+mod state;
 #[cfg(test)]
 mod tests;
 
@@ -15,3 +17,4 @@ pub use laws::{
 pub use rules::{AckKind, acceptable, ack_kind};
 pub use segment::{Segment, Way};
 pub use seq::Seq;
+pub use state::{EndState, Piece, Pieces};

@@ -1,6 +1,6 @@
 use Rattle.std.proofs.Common.{◌≡◌, ◌++◌, true, false, sym, ap, ◌∙◌, arith}
 use Rattle.tcp_seq.specs.Numbers.{plus}
-use Rattle.tcp_reasm.specs.declared.piece.Piece.{Piece}
+use Rattle.tcp_seq.specs.declared.state.Piece.{Piece}
 use Rattle.tcp_reasm.specs.Joined.{begins_at_start}
 use Rattle.tcp_reasm.proofs.Ready.{takes_nothing, takes_first_piece, runs_left, read_first}
 use Rattle.tcp_reasm.proofs.reasm.Reasm.take_ready.Goals as goal

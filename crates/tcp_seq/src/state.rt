@@ -1,0 +1,85 @@
+//! What is handed over of an endpoint.
+
+ghost use Rattle.std.specs.Prelude.{◌≡◌, ◌+◌, length};
+
+use crate::segment::Way;
+use crate::seq::Seq;
+use graft_edge::{Items, NoMemory, Octets, PeeringId, TryCopy};
+
+/// Bytes that stand from a place of a stream on.
+#[derive(Debug, Drop)]
+pub struct Piece {
+    pub place: u32,
+    pub bytes: Octets,
+}
+
+/// A list of pieces.
+pub type Pieces = Items<Piece>;
+
+impl Piece {
+    /// The place after its last byte.
+    pub fn end(&self) -> usize
+        ensures { result ≡ self.now.place + length self.now.bytes }
+    {
+        self.place as usize + self.bytes.as_slice().len()
+    }
+}
+
+impl TryCopy for Piece {
+    fn copy(&self) -> Result<Piece, NoMemory> {
+        let bytes = self.bytes.copy()?;
+        Ok(Piece {
+            place: self.place,
+            bytes,
+        })
+    }
+}
+
+/// An endpoint at rest, as it moves from one router to another. Places are counted from the first
+/// byte of a stream, which has the number `send_first` or `receive_first`.
+#[derive(Debug, Drop)]
+pub struct EndState {
+    /// The side that it sends to.
+    pub way: Way,
+    pub peering: PeeringId,
+    pub send_first: Seq,
+    /// How many of the bytes that it sends were acknowledged.
+    pub acked: u32,
+    /// How many of the bytes that it sends were emitted at least once.
+    pub sent: u32,
+    /// The bytes that it sends, from place `acked` to the stream's end.
+    pub waiting: Octets,
+    pub receive_first: Seq,
+    /// How many of the received bytes were read.
+    pub taken: u32,
+    /// The bytes that were received in order and not yet read.
+    pub ready: Octets,
+    /// The bytes that arrived ahead of a hole, by their places in the stream.
+    pub ahead: Pieces,
+    /// The value of `acked` at the last retransmission turn.
+    pub acked_at_turn: u32,
+    /// Whether an answer is owed.
+    pub owed: bool,
+}
+
+impl TryCopy for EndState {
+    fn copy(&self) -> Result<EndState, NoMemory> {
+        let waiting = self.waiting.copy()?;
+        let ready = self.ready.copy()?;
+        let ahead = self.ahead.copy()?;
+        Ok(EndState {
+            way: self.way,
+            peering: self.peering,
+            send_first: self.send_first,
+            acked: self.acked,
+            sent: self.sent,
+            waiting,
+            receive_first: self.receive_first,
+            taken: self.taken,
+            ready,
+            ahead,
+            acked_at_turn: self.acked_at_turn,
+            owed: self.owed,
+        })
+    }
+}
