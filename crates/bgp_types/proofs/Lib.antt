@@ -1,6 +1,7 @@
 pub mod Lengths
 pub mod Rows
 pub mod TextLemmas
+pub mod PrintedTexts
 pub mod ManyLaws
 pub mod FrameLaws
 pub mod AttrLaws
