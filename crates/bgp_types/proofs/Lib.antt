@@ -19,3 +19,4 @@ pub mod AttrsWritten
 pub mod WrittenLaws
 pub mod FaultRows
 pub mod ReadRows
+pub mod TableLaws
