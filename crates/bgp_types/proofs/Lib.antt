@@ -20,3 +20,4 @@ pub mod AttrsWritten
 pub mod WrittenLaws
 pub mod FaultRows
 pub mod ReadRows
+pub mod TableLaws

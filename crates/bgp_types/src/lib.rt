@@ -10,6 +10,7 @@ mod message;
 mod path;
 mod prefix;
 mod rank;
+mod table;
 mod text;
 
 pub use attrs::{Aggregator, Attrs, Origin, RawAttr, RawAttrs, Route};
@@ -23,6 +24,7 @@ pub use message::{Cap, Caps, Message, Notice, OpenMsg, SessionState, Update};
 pub use path::{AsList, AsPath, PathPart, holds_as, neighbour, path_len};
 pub use prefix::{Prefix, PrefixList};
 pub use rank::{From, Rank};
+pub use table::{SpareTable, Table, prefix_order};
 pub use text::{Address, is_host, read_address, read_prefix};
 
 #[cfg(test)]
