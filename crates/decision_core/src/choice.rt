@@ -7,7 +7,7 @@ ghost use Rattle.decision_core.specs.Search.{leads as leads_lem, is_nearer as is
 use bgp_types::Rank;
 
 /// Whether the first rank is better by the rules that come before MED, the earlier rule first.
-fn leads(a: &Rank, b: &Rank) -> bool
+pub fn leads(a: &Rank, b: &Rank) -> bool
     ensures { result ≡ leads_lem a.now b.now }
 {
     if a.own != b.own {
@@ -30,7 +30,7 @@ fn has_lower_med(a: &Rank, b: &Rank) -> bool
 }
 
 /// Whether the first rank is better by the rules that come after MED, the earlier rule first.
-fn is_nearer(a: &Rank, b: &Rank) -> bool
+pub fn is_nearer(a: &Rank, b: &Rank) -> bool
     ensures { result ≡ is_nearer_lem a.now b.now }
 {
     if a.external != b.external {
