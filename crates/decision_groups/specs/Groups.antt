@@ -1,11 +1,11 @@
 -- What is kept of each neighbour AS, and how the choice is found of it.
-use Rattle.std.specs.Prelude.{◌≡◌, ℕ, nat_lt, Bool, true, List, [], ◌∷◌, filter_map, Option, Some, None, unwrap_or, option_and_then}
+use Rattle.std.specs.Prelude.{◌≡◌, ℕ, nat_lt, Bool, true, List, [], ◌∷◌, Option, Some, None, unwrap_or}
 use Rattle.std.specs.Ordering.{nat_cmp, is_lt}
 use Rattle.std.specs.BTreeMap.{BTreeMap, get}
 use Rattle.bgp_types.specs.declared.rank.Rank.{Rank}
 use Rattle.decision_core.specs.Choice.{Rule}
 use Rattle.decision_core.specs.Search.{in_turn, leads, is_nearer, pick, best_by}
-use Rattle.decision_groups.specs.Order.{Candidate, from_order, IsInOrder, with_rank, without}
+use Rattle.decision_groups.specs.Order.{Candidate, from_order, IsInOrder}
 use Rattle.decision_groups.specs.Champions.{group_of}
 
 -- better by the nine rules, of two ranks of one neighbour AS: there the rules are one order

@@ -1,6 +1,6 @@
 //! The ranks of the routes to one prefix.
 
-ghost use Rattle.std.specs.Prelude.{◌≡◌, ◌↔◌, [], length, IsTrue, IsSome, OnOk, OnErr};
+ghost use Rattle.std.specs.Prelude.{◌≡◌, ◌↔◌, [], length, IsTrue, IsSome, IsNone, OnOk, OnErr};
 ghost use Rattle.std.specs.Option.{option_copied};
 ghost use Rattle.decision_core.specs.Choice.{choice};
 ghost use Rattle.decision_groups.specs.Order.{IsInOrder, rank_of, with_rank, without};
@@ -108,6 +108,7 @@ impl GroupSet {
     /// Where the route comes from that the nine rules of the decision process choose. Of ranks that are
     /// equal by all nine the first in the order of candidates is chosen. It takes no memory.
     pub fn best(&self) -> Option<From>
+        ensures empty { IsNone result ↔ (self.now ≡ []) }
         ensures choice { result ≡ choice self.now }
         ensures in_order { IsInOrder self.now }
     {

@@ -2,7 +2,7 @@
 
 ghost use Rattle.std.specs.Prelude.{◌≡◌, ℕ, ◌==◌, Some, [], OnOk, OnErr, if◌then◌else◌, filter_map};
 ghost use Rattle.std.specs.Ordering.{nat_cmp};
-ghost use Rattle.std.specs.BTreeMap.{get, values};
+ghost use Rattle.std.specs.BTreeMap.{get, values, IsOrdered};
 ghost use Rattle.decision_core.specs.Search.{best_by};
 ghost use Rattle.decision_groups.specs.Order.{with_rank, without};
 ghost use Rattle.decision_groups.specs.Groups.{members_of, some_members, champion_of, comes_first as comes_first_lem, better_of};
@@ -17,7 +17,12 @@ use std::collections::BTreeMap;
 pub(crate) type Groups = BTreeMap<u32, Group>;
 
 /// Puts a rank into the group of its neighbour AS, which is made where it isn't there.
-pub(crate) fn join(groups: &mut Groups, alloc: Global, from: From, rank: Rank) -> Result<(), NoMemory>
+pub(crate) fn join(
+    groups: &mut Groups,
+    alloc: Global,
+    from: From,
+    rank: Rank,
+) -> Result<(), NoMemory>
     ensures ok { OnOk result ((n : ℕ) → get nat_cmp groups.new n ≡ (if n == rank.neighbour then Some (with_rank (members_of groups.old n) from rank) else get nat_cmp groups.old n)) }
     ensures err { OnErr result ((n : ℕ) → get nat_cmp groups.new n ≡ get nat_cmp groups.old n) }
 {
@@ -74,7 +79,8 @@ fn better(best: Option<(From, Rank)>, champion: Option<(From, Rank)>) -> Option<
 
 /// The champion that comes before all others.
 pub(crate) fn best_champion(groups: &Groups) -> Option<(From, Rank)>
-    ensures { result ≡ best_by comes_first_lem (filter_map champion_of (values groups.now)) }
+    ensures best { result ≡ best_by comes_first_lem (filter_map champion_of (values groups.now)) }
+    ensures ordered { IsOrdered nat_cmp groups.now }
 {
     let mut best: Option<(From, Rank)> = None;
     for group in groups.values() {

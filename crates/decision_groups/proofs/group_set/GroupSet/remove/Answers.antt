@@ -1,4 +1,3 @@
-use Rattle.std.proofs.Common.{◌≡◌, sym, ◌∙◌}
 use Rattle.decision_groups.proofs.Kept.{group-left, group-not_there}
 use Rattle.decision_groups.proofs.group_set.GroupSet.remove.Goals as goal
 

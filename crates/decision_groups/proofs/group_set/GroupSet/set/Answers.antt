@@ -1,4 +1,4 @@
-use Rattle.std.proofs.Common.{◌≡◌, sym, ◌∙◌}
+use Rattle.std.proofs.Common.{sym, ◌∙◌}
 use Rattle.decision_groups.proofs.Kept.{group-joined_new, group-joined_same, group-moved, group-undone}
 use Rattle.decision_groups.proofs.group_set.GroupSet.set.Goals as goal
 
