@@ -11,3 +11,6 @@ mod ranks;
 pub use bgp_types::{From, NoMemory, PeeringId, Rank, RouterId};
 pub use group_set::GroupSet;
 pub use laws::champions_decide;
+
+#[cfg(test)]
+mod tests;
