@@ -97,8 +97,8 @@ impl GroupSet {
         ensures in_order { IsInOrder self.new }
     {
         match self.ranks.remove(from) {
-            Some(rank) => {
-                leave(&mut self.groups, from, rank.neighbour);
+            Some(held) => {
+                leave(&mut self.groups, from, held.neighbour);
                 true
             }
             None => false,
