@@ -1,11 +1,11 @@
 use Rattle.std.proofs.Common.{◌≡◌, ◌≤◌, ◌+◌, ◌-◌, length, drop}
-use Rattle.tcp_reasm.specs.Joined.{skipped}
-use Rattle.tcp_reasm.proofs.piece.skipped_count.Given as goal
+use Rattle.tcp_reasm.specs.Steps.{begun}
+use Rattle.tcp_reasm.proofs.piece.begun_count.Given as goal
 
 abbrev pub invariant-loop-count : goal.invariant-loop-count
 invariant-loop-count l = record {
   within : l.count ≤ length l.pieces;
-  more : l.count + skipped l.place (drop l.count l.pieces) ≡ skipped l.place l.pieces;
+  more : l.count + begun l.place (drop l.count l.pieces) ≡ begun l.place l.pieces;
 }
 
 abbrev pub decreases-loop-count : goal.decreases-loop-count

@@ -1,11 +1,11 @@
 use Rattle.std.proofs.Common.{◌≡◌, ◌≤◌, ◌+◌, ◌-◌, length, drop}
-use Rattle.tcp_reasm.specs.Joined.{touched}
-use Rattle.tcp_reasm.proofs.piece.touched_count.Given as goal
+use Rattle.tcp_reasm.specs.Steps.{passed}
+use Rattle.tcp_reasm.proofs.piece.passed_count.Given as goal
 
 abbrev pub invariant-loop-count : goal.invariant-loop-count
 invariant-loop-count l = record {
   within : l.count ≤ length l.pieces;
-  more : l.count + touched l.place (drop l.count l.pieces) ≡ touched l.place l.pieces;
+  more : l.count + passed l.place (drop l.count l.pieces) ≡ passed l.place l.pieces;
 }
 
 abbrev pub decreases-loop-count : goal.decreases-loop-count
