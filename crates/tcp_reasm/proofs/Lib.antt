@@ -1,5 +1,6 @@
 pub mod Lookups
 pub mod Held
+pub mod Counts
 pub mod Missing
 pub mod Placed
 pub mod Ready

@@ -1,5 +1,5 @@
 -- Pieces put among others that they don't overlap.
-use Rattle.std.proofs.Common.{◌≡◌, ℕ, suc, ◌+◌, ◌-◌, ◌<◌, ◌≤◌, List, [], ◌∷◌, ◌++◌, length, take, drop, Option, Some, None, Result, true, false, refl, sym, ap, subst, ◌∙◌, arith, ◌⊎◌, inl, inr, get_or}
+use Rattle.std.proofs.Common.{◌≡◌, ℕ, suc, ◌+◌, ◌-◌, ◌<◌, ◌≤◌, List, [], ◌∷◌, ◌++◌, length, Option, Some, None, Result, true, false, refl, sym, ap, subst, ◌∙◌, arith, ◌⊎◌, inl, inr, get_or}
 use Rattle.std.specs.Prelude.{if◌then◌else◌, is_some, is_ok, IsOk, insert}
 use Rattle.std.proofs.lemmas.Bool.{cases_lt, lt-ltb, le-ltb}
 use Rattle.std.proofs.lemmas.Option.{none-some}
@@ -8,7 +8,7 @@ use Rattle.tcp_seq.specs.declared.state.Piece.{Piece}
 use Rattle.tcp_reasm.specs.Runs.{byte_from, held, AreRuns}
 use Rattle.tcp_reasm.specs.Steps.{begun}
 use Rattle.tcp_reasm.proofs.Lookups.{or_assoc, or_none, or_swap}
-use Rattle.tcp_reasm.proofs.Held.{byte_within, byte_past, byte_below, held_below, held-append, held_here}
+use Rattle.tcp_reasm.proofs.Held.{byte_within, byte_past, byte_below, held-append, held_here}
 
 -- what has no byte where another has one, the other way round
 apart : (a b : Option ℕ) → (is_some b ≡ true → a ≡ None) → (a ≡ None) ⊎ (b ≡ None)

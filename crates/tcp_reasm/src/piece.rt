@@ -14,26 +14,20 @@ pub const WINDOW: u32 = 16_384;
 
 /// How many of the first pieces end at or below a place.
 fn passed_count(pieces: &[Piece], place: usize) -> usize
+    requires { AreRuns 0 pieces.now }
     ensures count { result ≡ passed place pieces.now }
     ensures within { result ≤ length pieces.now }
 {
-    let mut count = 0;
-    while count < pieces.len() && pieces[count].end() <= place {
-        count += 1;
-    }
-    count
+    pieces.partition_point(|piece| piece.end() <= place)
 }
 
 /// How many of the first pieces begin below a place.
 fn begun_count(pieces: &[Piece], place: usize) -> usize
+    requires { AreRuns 0 pieces.now }
     ensures count { result ≡ begun place pieces.now }
     ensures within { result ≤ length pieces.now }
 {
-    let mut count = 0;
-    while count < pieces.len() && (pieces[count].place as usize) < place {
-        count += 1;
-    }
-    count
+    pieces.partition_point(|piece| (piece.place as usize) < place)
 }
 
 /// The bytes from one index up to another, as far as there are any.

@@ -1,10 +1,17 @@
-use Rattle.std.proofs.Common.{◌≡◌, ℕ, ◌∙◌, ap, refl, subst, sym, List, length}
+use Rattle.std.proofs.Common.{◌∙◌, ap, refl, subst, sym, List, length, drop, ◌-◌}
 use Rattle.std.proofs.lemmas.Result.{IfOk-weaker}
 use Rattle.tcp_seq.specs.declared.state.Piece.{Piece}
-use Rattle.tcp_reasm.specs.Runs.{AreRuns, held, byte_from}
-use Rattle.tcp_reasm.specs.Steps.{runs_outside, where_none}
-use Rattle.tcp_reasm.proofs.Missing.{missing_runs, missing_held, near, near_is}
+use Rattle.tcp_reasm.specs.Runs.{AreRuns, held}
+use Rattle.tcp_reasm.specs.Steps.{runs_outside}
+use Rattle.tcp_reasm.proofs.Held.{runs-take, runs-drop}
+use Rattle.tcp_reasm.proofs.Missing.{missing_runs, missing_held, near_is}
 use Rattle.tcp_reasm.proofs.piece.missing.Goals as goal
+
+pub begun_count-requires : goal.begun_count-requires
+begun_count-requires c =
+    let from = c.passed_count.result in
+    let ps = c.args.pieces.now in
+    runs-take 0 (length ps - from) (drop from ps) (runs-drop 0 from ps c.requires.runs)
 
 pub returns-clause-runs : goal.returns-clause-runs
 returns-clause-runs c = IfOk-weaker c.runs_outside.result _ _

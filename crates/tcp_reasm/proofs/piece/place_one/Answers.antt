@@ -1,4 +1,4 @@
-use Rattle.std.proofs.Common.{◌∙◌, arith}
+use Rattle.std.proofs.Common.{◌∙◌}
 use Rattle.std.specs.Prelude.{insert}
 use Rattle.tcp_reasm.proofs.Placed.{placed_at, if_ok}
 use Rattle.tcp_reasm.proofs.piece.place_one.Goals as goal
