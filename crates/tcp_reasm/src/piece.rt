@@ -111,6 +111,7 @@ fn place_one(pieces: &mut Vec<Piece>, piece: Piece)
     ensures capacity { vec_capacity pieces.old ≤ vec_capacity pieces.new }
 {
     let index = begun_count(pieces.as_slice(), piece.place as usize);
+    // where there is room, this takes no memory and succeeds
     let _ = pieces.insert(index, piece);
 }
 
@@ -137,6 +138,7 @@ pub(crate) fn insert(pieces: &mut Vec<Piece>, place: u32, bytes: &[u8]) -> Resul
     ensures err { OnErr result (pieces.new.items ≡ pieces.old.items) }
 {
     let runs = missing(*pieces.allocator(), pieces.as_slice(), place, bytes)?;
+    // nothing is put before there is memory for all
     pieces.reserve(runs.len())?;
     place_all(pieces, runs);
     Ok(())
@@ -168,6 +170,7 @@ fn extend_all(out: &mut Vec<u8>, pieces: &[Piece], len: usize) -> Result<(), All
 {
     out.reserve(len)?;
     for piece in pieces {
+        // where there is room, this takes no memory and succeeds
         let _ = out.extend_from_slice(piece.bytes.as_slice());
     }
     Ok(())
