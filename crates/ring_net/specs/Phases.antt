@@ -5,6 +5,7 @@ use Rattle.ring_net.specs.declared.entry.JournalEntry.{JournalEntry}
 use Rattle.ring_net.specs.declared.entry.Stamped.{Stamped}
 use Rattle.ring_net.specs.Deeds.{Deed, Noted, Makes, Replay, IsOwn, TakesNone, Counted, entries_of, sent_by, sent_to, taken_from}
 use Rattle.ring_net.specs.Turns.{ActorDid}
+use Rattle.ring_net.specs.Journals.{IsJournal}
 
 -- whether an edge leads from a to b
 abbrev pub is_edge : List (ℕ × ℕ) → ℕ → ℕ → Bool
@@ -41,6 +42,11 @@ pub record CountsAll {A I : Type 0} (v : View A I) (count : ℕ) : Type 0 where
   pub size : length each ≡ length v.actors
   pub lengths : (k : ℕ) → k < length v.actors → slice_index_or each k 0 ≡ length (v.journal k)
   pub total : count ≡ min (sum each) (2 ^ 64 - 1)
+
+-- each actor has a journal, with no clock above the actor's
+pub record InOrder {A I : Type 0} (v : View A I) : Type 0 where
+  pub journals : (k : ℕ) → IsJournal k (v.journal k)
+  pub clocks : (k : ℕ) → k < length v.actors → AllByRecursion (λ e. e.clock ≤ v.clock k) (v.journal k)
 
 -- each clock stands at this value
 abbrev pub AllAt : {A I : Type 0} → View A I → ℕ → Type 0

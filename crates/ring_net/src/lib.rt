@@ -8,6 +8,7 @@ mod cell;
 mod clocks;
 mod edges;
 mod entry;
+mod finish;
 mod looks;
 mod net;
 mod parts;
@@ -16,7 +17,7 @@ mod post;
 pub use actor::Actor;
 pub use entry::{JournalEntry, Stamp, Stamped};
 pub use net::Net;
-pub use parts::{Actors, Journal, Left, Lefts, Mark, Marks};
+pub use parts::{Actors, Journal, Journals, Left, Lefts, Mark, Marks, Parts};
 pub use post::Post;
 
 #[cfg(test)]
