@@ -3,6 +3,7 @@ use Rattle.std.proofs.Common.{◌≡◌, ◌≤◌, ◌<◌, ℕ, zero, suc, Boo
 use Rattle.std.specs.Prelude.{slice_get}
 use Rattle.std.specs.List.{AllByRecursion}
 use Rattle.std.proofs.lemmas.Bool.Decides.{eqb_tells}
+use Rattle.std.proofs.lemmas.List.{append-nil}
 use Rattle.ring_net.specs.declared.entry.JournalEntry.{JournalEntry}
 use Rattle.ring_net.specs.declared.cell.Cell.{Cell}
 use Rattle.ring_net.specs.Deeds.{Deed, Makes, IsOwn, Rising, deeds}
@@ -76,12 +77,14 @@ module _ {A I : Type 0} where
   pub order_new : (actors : List A) (edges : List (ℕ × ℕ)) (v : View A I) → IsNew actors edges v → InOrder v
   order_new actors edges v h = record {
     journals = λ k. rw (h.journals k) (record { own = tt; rising = tt });
+    none = λ k past. h.journals k;
     clocks = λ k k_in. rw (h.journals k) tt;
   }
 
   pub order_level : (old new : View A I) → Levelled old new → InOrder old → InOrder new
   order_level old new l h = record {
     journals = λ k. rw (l.only.journals k) (h.journals k);
+    none = λ k past. l.only.journals k ∙ h.none k (omega (arith, past, ap (λ (xs : List A). length xs) l.only.actors));
     clocks = λ k k_in. let k_old : k < length old.actors = omega (arith, k_in, ap (λ (xs : List A). length xs) l.only.actors) in
         rw (l.only.journals k, l.level k k_in) (below (old.clock k) l.clock (old.journal k) (l.greatest.bound k k_old) (h.clocks k k_old));
   }
@@ -109,7 +112,7 @@ module _ {A I : Type 0} where
 
 module _ {A P I : Type 0} (part : A → P) (makes : Makes P I) where
   pub order_phase : (took : A → ℕ → I → List (Deed I) → A → Type 0) (turned : A → List (Deed I) → A → Type 0) (old new : View A I) → Phase part makes took turned old new → InOrder old → InOrder new
-  order_phase took turned old new p h = record { journals = λ k. journals k (below_or_past k (length old.actors)); clocks = clocks }
+  order_phase took turned old new p h = record { journals = λ k. journals k (below_or_past k (length old.actors)); none = none; clocks = clocks }
     where
       journal : (k : ℕ) → new.journal k ≡ old.journal k ++ entries (deeds (p.notes k))
       journal k = p.journals k ∙ ap (λ xs. old.journal k ++ xs) (sym (entries_deeds (p.notes k)))
@@ -117,11 +120,10 @@ module _ {A P I : Type 0} (part : A → P) (makes : Makes P I) where
       journals : (k : ℕ) → (k < length old.actors) ⊎ (length old.actors ≤ k) → IsJournal k (new.journal k)
       journals k (inl k_in) = let did = p.actors k (some_of old.actors k k_in) k_in in
           rw (journal k) (grown k (old.clock k) (new.clock k) (old.journal k) (deeds (p.notes k)) (h.journals k) (h.clocks k k_in) did.own did.rising)
-      journals k (inr past) = rw (p.journals k, p.none k past, append_none (old.journal k)) (h.journals k)
-        where
-          append_none : (xs : List JournalEntry) → xs ++ [] ≡ xs
-          append_none [] = refl
-          append_none (x ∷ xs) = ap (λ ys. x ∷ ys) (append_none xs)
+      journals k (inr past) = rw (p.journals k, p.none k past, append-nil (old.journal k)) (h.journals k)
+
+      none : (k : ℕ) → length new.actors ≤ k → new.journal k ≡ []
+      none k past = let old_past : length old.actors ≤ k = omega (arith, past, p.size) in rw (p.journals k, p.none k old_past, append-nil (old.journal k)) (h.none k old_past)
 
       clocks : (k : ℕ) → k < length new.actors → AllByRecursion (λ (e : JournalEntry). e.clock ≤ new.clock k) (new.journal k)
       clocks k k_in = let k_old : k < length old.actors = omega (arith, k_in, p.size) in let did = p.actors k (some_of old.actors k k_old) k_old in
@@ -133,6 +135,7 @@ module _ {A P I : Type 0} (part : A → P) (makes : Makes P I) where
       | inl s ↦ subst (λ n. IsJournal n (new.journal n)) (sym s.1) (rw (p.journal) (grown k p.from p.to (old.journal k) p.deeds (h.journals k) from_below p.own rising))
       | inr ne ↦ rw (p.journals j ne.1) (h.journals j)
     ];
+    none = λ j past. let old_past : length old.actors ≤ j = omega (arith, past, p.size) in p.journals j (λ s. absurd (omega (arith, s, k_old, old_past))) ∙ h.none j old_past;
     clocks = λ j j_in. let j_old : j < length old.actors = omega (arith, j_in, p.size) in rw (p.level j j_in) (elim (eqb_tells j k) [
       | inl s ↦ subst (λ n. AllByRecursion (λ (e : JournalEntry). e.clock ≤ p.to) (new.journal n)) (sym s.1) (rw (p.journal) (grown_below p.from p.to (old.journal k) p.deeds from_below rising))
       | inr ne ↦ rw (p.journals j ne.1) (below (old.clock j) p.to (old.journal j) (high j j_old) (h.clocks j j_old))

@@ -9,6 +9,7 @@ mod clocks;
 mod edges;
 mod entry;
 mod finish;
+mod laws;
 mod looks;
 mod net;
 mod parts;
@@ -16,6 +17,7 @@ mod post;
 
 pub use actor::Actor;
 pub use entry::{JournalEntry, Stamp, Stamped};
+pub use laws::two_phases_drain;
 pub use net::Net;
 pub use parts::{Actors, Journal, Journals, Left, Lefts, Mark, Marks, Parts};
 pub use post::Post;
