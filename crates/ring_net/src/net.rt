@@ -102,7 +102,7 @@ pub struct Net<A: Actor> {
 impl<A: Actor> Net<A> {
     ghost use Rattle.std.specs.Prelude.{◌≡◌, ◌≤◌, ◌<◌, ◌+◌, ◌++◌, ◌∷◌, [], ℕ, true, false, length, map, OnOk, OnErr, IsErr, IfOk, slice_get, Some};
     ghost use Rattle.ring_net.specs.Shown.{view, marks, edge_list, has_failed};
-    ghost use Rattle.ring_net.specs.Phases.{IsNew, Marked, CountsAll, Levelled, Between, Phase};
+    ghost use Rattle.ring_net.specs.Phases.{IsNew, InOrder, Marked, CountsAll, Levelled, Between, Phase};
     ghost use Rattle.ring_net.specs.Fresh.{AreEdges};
     ghost use Rattle.ring_net.specs.Left.{HasJournals, left_of};
 
@@ -179,6 +179,7 @@ impl<A: Actor> Net<A> {
     /// Sets every clock to the greatest one.
     pub fn level(&mut self)
         ensures level { Levelled (view self.old) (view self.new) }
+        ensures order { has_failed self.old ≡ false → InOrder (view self.new) }
         ensures marks { marks self.new ≡ marks self.old }
         ensures same { (edge_list self.new ≡ edge_list self.old) × (has_failed self.new ≡ has_failed self.old) }
     {
@@ -190,6 +191,7 @@ impl<A: Actor> Net<A> {
     pub fn between(&mut self, k: usize) -> Result<bool, NoMemory>
         requires { k < length (view self.old).actors }
         ensures between { IfOk result (Between A.part A.makes A.paused k (view self.old) (view self.new)) }
+        ensures order { OnOk result (has_failed self.old ≡ false → InOrder (view self.new)) }
         ensures failed { OnErr result (has_failed self.new ≡ true) }
         ensures marks { marks self.new ≡ marks self.old }
         ensures same { edge_list self.new ≡ edge_list self.old }
