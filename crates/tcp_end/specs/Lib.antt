@@ -1,0 +1,5 @@
+pub mod State
+pub mod Inner
+pub mod Arriving
+pub mod Standing
+pub mod Joined

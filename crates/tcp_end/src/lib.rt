@@ -1,0 +1,12 @@
+//! The endpoint of a connection: the stream that it sends, what of it was emitted and acknowledged,
+//! what it received of the other stream, and how it is handed over (RFC 9293, section 3.4).
+#![tactic(auto)]
+
+mod ahead;
+mod arrival;
+mod byte_queue;
+mod end;
+
+pub use arrival::{Arrival, SendStop};
+pub use end::End;
+pub use tcp_seq::{EndState, Piece, Pieces};
