@@ -84,15 +84,16 @@ pub record IsSending (s : EndState) : Type 0 where
   pub stream : stream_length s ≤ 2 ^ 20
   pub at_turn : s.acked_at_turn ≤ s.acked
 
--- Pieces stand ahead of a hole: none is empty, each lies above `low` and above the end of the one before, and ends at or below
--- `high`.
-abbrev pub LieAhead : ℕ → ℕ → List Piece → Type 0
-LieAhead low high [] = Unit {0}
-LieAhead low high (p ∷ ps) =
-    (low < p.place) × (0 < length p.bytes) × (p.place + length p.bytes ≤ high) × LieAhead (p.place + length p.bytes) high ps
+-- Pieces stand from a place on: none is empty, each begins at the end of the one before or above, and ends at or below `high`.
+abbrev pub LieFrom : ℕ → ℕ → List Piece → Type 0
+LieFrom low high [] = Unit {0}
+LieFrom low high (p ∷ ps) =
+    (low ≤ p.place) × (0 < length p.bytes) × (p.place + length p.bytes ≤ high) × LieFrom (p.place + length p.bytes) high ps
 
 -- what a state at rest meets
 pub record IsEndState (s : EndState) : Type 0 where
   pub sending : IsSending s
   pub received : got s ≤ 2 ^ 20
-  pub ahead : LieAhead (got s) (got s + 16384) s.ahead
+
+  -- the pieces stand above the place expected next, which has no byte, and in the window
+  pub ahead : LieFrom (got s + 1) (got s + 16384) s.ahead

@@ -1,19 +1,17 @@
 //! Endpoints.
 
 ghost use Rattle.std.specs.Prelude.{ℕ, ◌≡◌, ◌≢◌, ◌<◌, ◌≤◌, ◌+◌, ◌-◌, ◌^◌, ◌↔◌, ◌⊎◌, ◌++◌, length, take, drop, true, false, IsNone, IsSome, IfSome, IfOk, OnOk, OnErr};
-ghost use Rattle.std.specs.Bool.{OnTrue, OnFalse};
 ghost use Rattle.tcp_seq.specs.Numbers.{plus};
-ghost use Rattle.tcp_end.specs.Arriving.{IsArrival, Leaves, Says, BringsNewByte, Receives, newly_acked};
+ghost use Rattle.tcp_end.specs.Arriving.{IsArrival, Leaves, TakenIn, Says};
 ghost use Rattle.tcp_end.specs.State.{fresh, stream_length, unsent, outstanding, got, segment_at, next_length, again_length, IsSending, IsEndState};
 
-use crate::ahead::{add_in_order, count_from, has_hole, in_window, raise, reached_count, skipped};
+use crate::ahead::{count_from, raise, receive};
 use crate::arrival::{Arrival, SendStop};
 use crate::byte_queue::ByteQueue;
 use graft_edge::{Items, NoMemory, Octets, PeeringId};
 use std::alloc::Global;
 use std::marker::Model;
 use tcp_reasm::{Reasm, WINDOW};
-use std::mem;
 use tcp_seq::{AckKind, EndState, Segment, Seq, Way, acceptable, ack_kind};
 
 /// How many bytes may be outstanding.
@@ -203,58 +201,18 @@ impl End {
         ack_kind(una, self.send_first.plus(self.sent), segment.ack)
     }
 
-    /// Forgets bytes that are acknowledged.
-    fn acknowledge(&mut self, count: u32)
-        requires { count ≤ outstanding self.old }
-        ensures { self.new ≡ record self.old { acked = self.old.acked + count; waiting = drop count self.old.waiting } }
-    {
-        self.waiting.drop_front(count as usize);
-        self.acked += count;
-    }
-
-    /// Makes bytes from the place expected next on ready, and those that stand behind them.
-    fn receive_in_order(&mut self, bytes: &[u8]) -> Result<(), NoMemory> {
-        let reached = reached_count(self.ahead.pieces(), bytes.len());
-        let before = self.ready.len();
-        add_in_order(&mut self.ready, &self.ahead.pieces()[..reached], bytes)?;
-        let count = (self.ready.len() - before) as u32;
-        let nothing = Reasm::new(self.ready.allocator(), self.receive_first);
-        self.ahead = skipped(mem::replace(&mut self.ahead, nothing), reached, count);
-        Ok(())
-    }
-
-    /// Keeps the bytes of an acceptable segment that stand in the window, and answers whether one of
-    /// them is new.
-    fn receive(&mut self, segment: &Segment) -> Result<bool, NoMemory>
-        requires { length segment.now.bytes < 2 ^ 16 }
-        ensures new { IfOk result (λ new. OnTrue new (BringsNewByte self.old segment.now)) }
-        ensures old { IfOk result (λ new. OnFalse new (¬ BringsNewByte self.old segment.now)) }
-        ensures received { OnOk result (Receives self.old segment.now self.new) }
-        ensures kept { self.new ≡ record self.old { ready = self.new.ready; ahead = self.new.ahead } }
-        ensures unchanged { IfOk result (λ new. OnFalse new (self.new ≡ self.old)) }
+    /// Takes a segment in that is acceptable, and of which so many outstanding bytes are acknowledged.
+    fn take_in(&mut self, segment: &Segment, acked: u32) -> Result<Arrival, NoMemory>
+        requires len { length segment.now.bytes < 2 ^ 16 }
+        requires acked { acked ≤ outstanding self.old }
+        ensures arrival { IfOk result (λ arrival. TakenIn arrival self.old segment.now acked self.new) }
         ensures err { OnErr result (self.new ≡ self.old) }
     {
-        let (place, kept) = in_window(self.ahead.next(), segment.seq, segment.bytes.as_slice());
-        if kept.is_empty() {
-            return Ok(false);
-        }
-        let place = place as usize;
-        if !has_hole(self.ahead.pieces(), place, place + kept.len()) {
-            return Ok(false);
-        }
-        if place == 0 {
-            self.receive_in_order(kept)?;
-        } else {
-            self.ahead.put(segment.seq, segment.bytes.as_slice())?;
-        }
-        Ok(true)
-    }
-
-    /// Takes an acceptable segment in, of which so many outstanding bytes are acknowledged.
-    fn take_in(&mut self, segment: &Segment, acked: u32) -> Result<Arrival, NoMemory> {
-        let brings = self.receive(segment)?;
-        self.acknowledge(acked);
-        self.owed = self.owed || !segment.bytes.is_empty();
+        let bytes = segment.bytes.as_slice();
+        let brings = receive(&mut self.ready, &mut self.ahead, segment.seq, bytes)?;
+        self.waiting.drop_front(acked as usize);
+        self.acked += acked;
+        self.owed = self.owed || !bytes.is_empty();
         if brings || acked > 0 {
             Ok(Arrival::Accepted)
         } else {

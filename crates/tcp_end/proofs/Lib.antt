@@ -1,0 +1,6 @@
+pub mod Lookups
+pub mod Held
+pub mod Counted
+pub mod Holes
+pub mod Filled
+pub mod InOrder
