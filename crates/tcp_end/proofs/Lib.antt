@@ -4,3 +4,5 @@ pub mod Counted
 pub mod Holes
 pub mod Filled
 pub mod InOrder
+pub mod Handed
+pub mod Taken

@@ -1,6 +1,6 @@
 //! Endpoints.
 
-ghost use Rattle.std.specs.Prelude.{ℕ, ◌≡◌, ◌≢◌, ◌<◌, ◌≤◌, ◌+◌, ◌-◌, ◌^◌, ◌↔◌, ◌⊎◌, ◌++◌, length, take, drop, true, false, IsNone, IsSome, IfSome, IfOk, OnOk, OnErr};
+ghost use Rattle.std.specs.Prelude.{ℕ, ◌≡◌, ◌≢◌, ◌<◌, ◌≤◌, ◌+◌, ◌-◌, ◌^◌, ◌↔◌, ◌⊎◌, ◌++◌, length, take, drop, true, false, IsNone, IsSome, IfSome, IfOk, OnOk, OnErr, nat_lt, ◌||◌, if◌then◌else◌};
 ghost use Rattle.tcp_seq.specs.Numbers.{plus};
 ghost use Rattle.tcp_end.specs.Arriving.{IsArrival, Leaves, TakenIn, Says};
 ghost use Rattle.tcp_end.specs.State.{fresh, stream_length, unsent, outstanding, got, segment_at, next_length, again_length, IsSending, IsEndState};
@@ -50,6 +50,24 @@ impl Model for End {
     ghost view = { state_of };
 
     ghost invariant = { Keeps };
+}
+
+/// Whether an answer is owed after a segment with these bytes was taken in.
+fn owes(owed: bool, bytes: &[u8]) -> bool
+    ensures { result ≡ owed || nat_lt 0 (length bytes.now) }
+{
+    owed || !bytes.is_empty()
+}
+
+/// What a segment was that was taken in.
+fn taken_as(brings: bool, acked: u32) -> Arrival
+    ensures { result ≡ (if brings || nat_lt 0 acked then Arrival.Accepted else Arrival.Duplicate) }
+{
+    if brings || acked > 0 {
+        Arrival::Accepted
+    } else {
+        Arrival::Duplicate
+    }
 }
 
 impl End {
@@ -212,12 +230,8 @@ impl End {
         let brings = receive(&mut self.ready, &mut self.ahead, segment.seq, bytes)?;
         self.waiting.drop_front(acked as usize);
         self.acked += acked;
-        self.owed = self.owed || !bytes.is_empty();
-        if brings || acked > 0 {
-            Ok(Arrival::Accepted)
-        } else {
-            Ok(Arrival::Duplicate)
-        }
+        self.owed = owes(self.owed, bytes);
+        Ok(taken_as(brings, acked))
     }
 
     /// A segment arrives. Its bytes that stand in the window of 16,384 places from the one expected
