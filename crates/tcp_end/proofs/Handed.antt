@@ -9,6 +9,7 @@ use Rattle.tcp_end.specs.State.{IsEndState, expected, got, counted_from, raised,
 use Rattle.tcp_end.specs.Inner.{state_of, Keeps}
 use Rattle.tcp_end.specs.Arriving.{ahead_of}
 use Rattle.tcp_end.specs.declared.end.End.TheInside.{Inside}
+use Rattle.tcp_end.proofs.Held.{runs_from}
 
 -- counted from a place and back
 pub counted-raised : (base low : ℕ) (ps : List Piece) → base < 2 ^ 32 → AreRuns low ps → counted_from base (raised base ps) ≡ ps
@@ -47,8 +48,69 @@ ahead_is e next runs =
     ∙ ap (λ (ps : List Piece). let r : Reassembly = record { next = e.ahead.next; pieces = ps } in r) (counted-raised base 1 e.ahead.pieces (omega arith) runs)
 
 -- what is exported can be imported, where at most 1 MiB was received
-pub exported : (e : Inside) (after : EndState) (waiting ready : List ℕ) (ahead lifted vec pieces : List Piece) (base next : ℕ) → Keeps e → waiting ≡ e.waiting → ready ≡ e.ready → ahead ≡ lifted → lifted ≡ raised base vec → vec ≡ pieces → pieces ≡ e.ahead.pieces
-    → base ≡ offset_from next e.receive_first.0 → next ≡ e.ahead.next
-    → got (record (state_of e) { waiting = waiting; ready = ready; ahead = ahead }) ≤ 2 ^ 20 → IsEndState (record (state_of e) { waiting = waiting; ready = ready; ahead = ahead })
-exported e after waiting ready ahead lifted vec pieces base next keeps waits readies is lifts opens takes bases nexts few =
-    ?
+lies : (e : Inside) → Keeps e → got (state_of e) ≤ 2 ^ 20 → IsEndState (state_of e)
+lies e keeps few =
+    let base : (e.taken + length e.ready) % 2 ^ 32 ≡ e.taken + length e.ready = omega (arith, few) in
+    record {
+      sending = keeps.sending;
+      received = few;
+      ahead = lie-raised ((e.taken + length e.ready) % 2 ^ 32) 1 (e.taken + length e.ready + 1) (e.taken + length e.ready + 16384) e.ahead.pieces
+        (omega (arith, base, few)) (omega (arith, base)) (omega (arith, base)) keeps.runs;
+    }
+
+pub exported : (e : Inside) (s : EndState) → s ≡ state_of e → Keeps e → got s ≤ 2 ^ 20 → IsEndState s
+exported e s is keeps few = subst IsEndState (sym is) (lies e keeps (subst (λ (t : EndState). got t ≤ 2 ^ 20) is few))
+
+-- the fields of what is imported
+abbrev pub inside_of : EndState → Reassembly → Inside
+inside_of s r = record {
+  way = s.way;
+  peering = s.peering;
+  send_first = s.send_first;
+  acked = s.acked;
+  sent = s.sent;
+  waiting = s.waiting;
+  receive_first = s.receive_first;
+  taken = s.taken;
+  ready = s.ready;
+  ahead = r;
+  acked_at_turn = s.acked_at_turn;
+  owed = s.owed;
+}
+
+pub imported_runs : (s : EndState) (vec counted ahead : List Piece) (len low : ℕ) → IsEndState s → low ≤ 1 → len ≡ length s.ready → vec ≡ s.ahead → counted ≡ counted_from (s.taken + len) vec → ahead ≡ counted → AreRuns low ahead
+imported_runs s vec counted ahead len low rests le lens vecs counts is =
+    let base = s.taken + len in
+    rw (is ∙ counts ∙ ap (counted_from base) vecs) (runs_from low 1 (counted_from base s.ahead) le
+      (runs-counted_back base 1 (got s + 1) (got s + 16384) s.ahead (omega (arith, lens, rests.received)) (omega (arith, lens)) (omega (arith, lens)) rests.ahead))
+
+made_is : (s : EndState) (r : Reassembly) (next len : ℕ) (vec counted ahead : List Piece) → len ≡ length s.ready → vec ≡ s.ahead → counted ≡ counted_from (s.taken + len) vec → ahead ≡ counted → next ≡ plus s.receive_first.0 (s.taken + len) → r ≡ record { next = next; pieces = ahead }
+    → r ≡ record { next = plus s.receive_first.0 (got s); pieces = counted_from (got s) s.ahead }
+made_is s r next len vec counted ahead lens vecs counts is nexts made =
+    made ∙ ap (λ (n : ℕ). let q : Reassembly = record { next = n; pieces = ahead } in q) (nexts ∙ ap (λ (n : ℕ). plus s.receive_first.0 (s.taken + n)) lens)
+    ∙ ap (λ (ps : List Piece). let q : Reassembly = record { next = plus s.receive_first.0 (got s); pieces = ps } in q)
+      (is ∙ counts ∙ ap (λ (n : ℕ). counted_from (s.taken + n) vec) lens ∙ ap (counted_from (got s)) vecs)
+
+-- what is imported is kept, and seen as it was
+pub imported_keeps : (s : EndState) → IsEndState s → Keeps (inside_of s (record { next = plus s.receive_first.0 (got s); pieces = counted_from (got s) s.ahead }))
+imported_keeps s rests = record {
+  sending = record { acked = rests.sending.acked; flight = rests.sending.flight; emitted = rests.sending.emitted; stream = rests.sending.stream; at_turn = rests.sending.at_turn };
+  next = refl;
+  runs = imported_runs s s.ahead (counted_from (got s) s.ahead) (counted_from (got s) s.ahead) (length s.ready) 1 rests (omega arith) refl refl refl refl;
+}
+
+pub imported_is : (s : EndState) → IsEndState s → state_of (inside_of s (record { next = plus s.receive_first.0 (got s); pieces = counted_from (got s) s.ahead })) ≡ s
+imported_is s rests =
+    let same : got s % 2 ^ 32 ≡ got s = omega (arith, rests.received) in
+    ap (λ (ps : List Piece). let t : EndState = record s { ahead = ps } in t)
+      (ap (λ (n : ℕ). raised n (counted_from (got s) s.ahead)) same
+      ∙ raised-counted (got s) (got s + 1) (got s + 16384) s.ahead (omega arith) (omega (arith, rests.received)) rests.ahead)
+
+-- the fields as the calls answered them
+pub fields_are : (s : EndState) (waiting ready : List ℕ) (r : Reassembly) (next len : ℕ) (vec counted ahead : List Piece) → waiting ≡ s.waiting → ready ≡ s.ready
+    → len ≡ length s.ready → vec ≡ s.ahead → counted ≡ counted_from (s.taken + len) vec → ahead ≡ counted → next ≡ plus s.receive_first.0 (s.taken + len) → r ≡ record { next = next; pieces = ahead }
+    → record (inside_of s r) { waiting = waiting; ready = ready } ≡ inside_of s (record { next = plus s.receive_first.0 (got s); pieces = counted_from (got s) s.ahead })
+fields_are s waiting ready r next len vec counted ahead waits readies lens vecs counts is nexts made =
+    ap (λ (w : List ℕ). let e : Inside = record (inside_of s r) { waiting = w; ready = ready } in e) waits
+    ∙ ap (λ (bytes : List ℕ). let e : Inside = record (inside_of s r) { ready = bytes } in e) readies
+    ∙ ap (inside_of s) (made_is s r next len vec counted ahead lens vecs counts is nexts made)
