@@ -92,6 +92,20 @@ impl End {
         })
     }
 
+    /// The side that it sends to.
+    pub fn way(&self) -> Way
+        ensures { result ≡ self.now.way }
+    {
+        self.way
+    }
+
+    /// The peering that its connection belongs to.
+    pub fn peering(&self) -> PeeringId
+        ensures { result ≡ self.now.peering }
+    {
+        self.peering
+    }
+
     /// The length of the stream that it sends.
     pub fn stream_len(&self) -> u32
         ensures { result ≡ stream_length self.now }

@@ -6,6 +6,10 @@ mod ahead;
 mod arrival;
 mod byte_queue;
 mod end;
+#[cfg(test)]
+mod lossy_tests;
+#[cfg(test)]
+mod tests;
 
 pub use arrival::{Arrival, SendStop};
 pub use end::End;

@@ -1,0 +1,146 @@
+//! Two ends over a link that loses, repeats and reorders what it is given.
+
+use crate::tests::{byte_at, moved, stream, take, two_ends};
+use crate::End;
+use graft_edge::{NoMemory, TryCopy};
+use std::alloc::Global;
+use std::process::Abort;
+use std::test::Fail;
+use tcp_seq::Segment;
+
+/// The length of each stream.
+const LENGTH: u32 = 100_000;
+
+/// Numbers that look random: a linear congruence modulo 2^64.
+#[derive(Drop)]
+struct Random(u64);
+
+impl Random {
+    fn below(&mut self, n: u32) -> u32 {
+        self.0 = self.0.wrapping_mul(6_364_136_223_846_793_005).wrapping_add(1_442_695_040_888_963_407);
+        (self.0 >> 33) as u32 % n.max(1)
+    }
+}
+
+/// One side: its end, how much of the other side's stream it read, and the segments that it sent and
+/// that didn't arrive.
+#[derive(Drop)]
+struct Side {
+    end: End,
+    read: u32,
+    link: Vec<Segment>,
+}
+
+/// Puts a segment on the link: it is lost, put twice, or put. A full link loses all.
+fn put(link: &mut Vec<Segment>, segment: Segment, random: &mut Random) -> Result<(), NoMemory> {
+    match random.below(8) {
+        _ if link.len() > 40 => {}
+        0 => {}
+        1 => {
+            link.push(segment.copy()?)?;
+            link.push(segment)?;
+        }
+        _ => link.push(segment)?,
+    }
+    Ok(())
+}
+
+/// What a side sends in a turn: the first outstanding bytes again, up to four new slices, and the
+/// answer that is owed.
+fn emit(side: &mut Side, random: &mut Random) -> Result<(), NoMemory> {
+    if random.below(3) == 0 {
+        if let Some(again) = side.end.turn()? {
+            put(&mut side.link, again, random)?;
+        }
+    }
+    for _ in 0..4 {
+        if let Some(next) = side.end.next_segment()? {
+            put(&mut side.link, next, random)?;
+        }
+    }
+    if let Some(answer) = side.end.answer() {
+        put(&mut side.link, answer, random)?;
+    }
+    Ok(())
+}
+
+/// Some of the segments on a link arrive, in whatever order. One in sixteen stays there too.
+fn deliver(rt: &impl Abort, link: &mut Vec<Segment>, end: &mut End, random: &mut Random) -> Result<(), NoMemory> {
+    for _ in 0..8 {
+        let len = link.len();
+        if len > 0 {
+            let place = random.below(len.min(8) as u32) as usize;
+            if place < link.len() {
+                take(rt, end, &link[place])?;
+                if random.below(16) > 0 {
+                    link.remove(place);
+                }
+            }
+        }
+    }
+    Ok(())
+}
+
+/// Reads what is ready, and compares it with the stream that the other side sends.
+fn read(rt: &impl Abort, side: &mut Side, salt: u32) {
+    let ready = side.end.ready();
+    let count = ready.len();
+    let mut same = true;
+    for (k, byte) in ready.iter().enumerate() {
+        same = same && *byte == byte_at(side.read.wrapping_add(k as u32), salt);
+    }
+    assert!(rt; same);
+    side.end.read(count);
+    side.read = side.read.wrapping_add(count as u32);
+}
+
+fn sending(alloc: Global, end: End, salt: u32) -> Result<Side, Fail> {
+    let mut end = end;
+    end.send(stream(alloc, 0, LENGTH, salt)?.as_slice())?;
+    Ok(Side { end, read: 0, link: Vec::new(alloc) })
+}
+
+fn handed_over(rt: &impl Abort, side: Side) -> Side {
+    let Side { end, read, link } = side;
+    Side { end: moved(rt, end), read, link }
+}
+
+/// Whether a side's stream was acknowledged whole, and the other one read whole.
+fn is_through(side: &Side) -> bool {
+    side.end.acked() == LENGTH && side.read == LENGTH
+}
+
+/// Both streams go through.
+fn go_through(rt: &(impl Abort + AllocGlobal), seed: u32) -> Result<(), Fail> {
+    let mut random = Random(u64::from(seed));
+    let first = 4_294_967_295 - seed * 600;
+    let (remote, home) = two_ends(rt.alloc(), first, random.below(4_294_967_295))?;
+    let mut far = sending(rt.alloc(), remote, 1)?;
+    let mut near = sending(rt.alloc(), home, 2)?;
+    for step in 0..10_000u32 {
+        emit(&mut far, &mut random)?;
+        emit(&mut near, &mut random)?;
+        deliver(rt, &mut far.link, &mut near.end, &mut random)?;
+        deliver(rt, &mut near.link, &mut far.end, &mut random)?;
+        read(rt, &mut far, 2);
+        read(rt, &mut near, 1);
+        if step % 20 == 0 {
+            far = handed_over(rt, far);
+        } else if step % 10 == 0 {
+            near = handed_over(rt, near);
+        }
+        if is_through(&far) && is_through(&near) {
+            return Ok(());
+        }
+    }
+    assert!(rt; false, "seed {seed} is through");
+    Ok(())
+}
+
+#[test]
+fn streams_go_through_losses_repeats_and_hand_overs(rt: HostRuntime) -> Result<(), Fail> {
+    for seed in 0..200 {
+        go_through(&rt, seed)?;
+    }
+    Ok(())
+}
