@@ -6,3 +6,4 @@ pub mod Filled
 pub mod InOrder
 pub mod Handed
 pub mod Taken
+pub mod Steps

@@ -1,9 +1,9 @@
 -- Which endpoint over whole numbers a state of 32-bit numbers and buffers stands for.
-use Rattle.std.specs.Prelude.{ℕ, ◌≡◌, ◌⊎◌, ◌↔◌, ◌<◌, ◌≤◌, ◌+◌, ◌-◌, ◌^◌, List, length, take, drop, Contains, Some, IsSome, slice_get}
+use Rattle.std.specs.Prelude.{ℕ, ◌≡◌, ◌⊎◌, ◌↔◌, ◌<◌, ◌≤◌, ◌+◌, ◌-◌, ◌^◌, List, length, take, drop, Contains, Option, Some, None, IsSome, slice_get}
 use Rattle.std.specs.List.Sorted.{IsStrictlyIncreasing}
 use Rattle.tcp_seq.specs.Numbers.{number}
 use Rattle.tcp_seq.specs.Rules.{IsInStream}
-use Rattle.tcp_seq.specs.Endpoint.{Endpoint, PlacedSegment, received}
+use Rattle.tcp_seq.specs.Endpoint.{Endpoint, PlacedSegment, received, Takes}
 use Rattle.tcp_seq.specs.declared.segment.Segment.{Segment}
 use Rattle.tcp_seq.specs.declared.state.EndState.{EndState}
 use Rattle.tcp_reasm.specs.Runs.{held}
@@ -44,16 +44,17 @@ pub record IsSlice (stream : List ℕ) (p : PlacedSegment) : Type 0 where
   pub bytes : p.bytes ≡ take (length p.bytes) (drop p.place stream)
   pub ack : IsInStream p.ack
 
--- whatever endpoint the state before stands for, it becomes by the step one for which the state after stands
+-- a state stands for an endpoint that another becomes by a step
 pub record Becomes (Step : Endpoint → Endpoint → Type 0) (e : Endpoint) (after : EndState) (theirs : List ℕ) : Type 0 where
   pub end : Endpoint
   pub step : Step e end
   pub stands : Stands after end theirs
 
+-- whatever endpoint the state before stands for, the state after stands for one that it becomes by the step
 abbrev pub StepsBy : (Endpoint → Endpoint → Type 0) → EndState → EndState → Type 0
 StepsBy Step before after = (e : Endpoint) (theirs : List ℕ) → Stands before e theirs → Becomes Step e after theirs
 
--- the same for a step that emits a segment
+-- the same of a step that emits a segment
 pub record Emits (Step : Endpoint → PlacedSegment → Endpoint → Type 0) (before : EndState) (e : Endpoint) (g : Segment) (after : EndState) (theirs : List ℕ) : Type 0 where
   pub segment : PlacedSegment
   pub end : Endpoint
@@ -61,5 +62,13 @@ pub record Emits (Step : Endpoint → PlacedSegment → Endpoint → Type 0) (be
   pub numbered : Numbered before.send_first.0 before.receive_first.0 g segment
   pub stands : Stands after end theirs
 
-abbrev pub EmitsBy : (Endpoint → PlacedSegment → Endpoint → Type 0) → EndState → Segment → EndState → Type 0
-EmitsBy Step before g after = (e : Endpoint) (theirs : List ℕ) → Stands before e theirs → Emits Step before e g after theirs
+-- with no segment the endpoint stays
+abbrev pub EmitsBy : (Endpoint → PlacedSegment → Endpoint → Type 0) → EndState → Option Segment → EndState → Type 0
+EmitsBy Step before (Some g) after = (e : Endpoint) (theirs : List ℕ) → Stands before e theirs → Emits Step before e g after theirs
+EmitsBy Step before None after = (e : Endpoint) (theirs : List ℕ) → Stands before e theirs → Stands after e theirs
+
+-- the same of a segment that arrives, which is a slice of the other side's stream
+abbrev pub TakesBy : EndState → Segment → EndState → Type 0
+TakesBy before g after =
+    (e : Endpoint) (theirs : List ℕ) (p : PlacedSegment) → Stands before e theirs
+    → Numbered before.receive_first.0 before.send_first.0 g p → IsSlice theirs p → Becomes (λ e' e''. Takes e' p e'') e after theirs

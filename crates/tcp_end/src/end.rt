@@ -2,6 +2,8 @@
 
 ghost use Rattle.std.specs.Prelude.{ℕ, ◌≡◌, ◌≢◌, ◌<◌, ◌≤◌, ◌+◌, ◌-◌, ◌^◌, ◌↔◌, ◌⊎◌, ◌++◌, length, take, drop, true, false, IsNone, IsSome, IfSome, IfOk, OnOk, OnErr, nat_lt, ◌||◌, if◌then◌else◌};
 ghost use Rattle.tcp_seq.specs.Numbers.{plus};
+ghost use Rattle.tcp_seq.specs.Endpoint.{Sends, EmitsNext, EmitsAgain, Answers, Reads};
+ghost use Rattle.tcp_end.specs.Standing.{StepsBy, EmitsBy, TakesBy};
 ghost use Rattle.tcp_end.specs.Arriving.{IsArrival, Leaves, TakenIn, Says};
 ghost use Rattle.tcp_end.specs.State.{fresh, stream_length, unsent, outstanding, got, segment_at, next_length, again_length, IsSending, IsEndState};
 
@@ -136,6 +138,7 @@ impl End {
         ensures full { 2 ^ 20 < stream_length self.old + length bytes.now → result ≡ Err (SendStop.Full (stream_length self.old + length bytes.now)) }
         ensures only_full { (n : ℕ) → result ≡ Err (SendStop.Full n) → (n ≡ stream_length self.old + length bytes.now) × (2 ^ 20 < n) }
         ensures err { OnErr result (self.new ≡ self.old) }
+        ensures step { OnOk result (StepsBy (λ e e'. Sends e bytes.now e') self.old self.new) }
     {
         let length = self.acked as usize + self.waiting.len() + bytes.len();
         if length > STREAM {
@@ -178,6 +181,7 @@ impl End {
         ensures slice { IfOk result (λ answer. IfSome answer (λ segment. segment ≡ segment_at self.old self.old.sent (next_length self.old))) }
         ensures after { OnOk result (self.new ≡ record self.old { sent = self.old.sent + next_length self.old }) }
         ensures err { OnErr result (self.new ≡ self.old) }
+        ensures step { IfOk result (λ answer. EmitsBy EmitsNext self.old answer self.new) }
     {
         let len = self.next_len();
         if len == 0 {
@@ -195,6 +199,7 @@ impl End {
         ensures slice { IfOk result (λ answer. IfSome answer (λ segment. segment ≡ segment_at self.old self.old.acked (again_length self.old))) }
         ensures after { OnOk result (self.new ≡ record self.old { acked_at_turn = self.old.acked }) }
         ensures err { OnErr result (self.new ≡ self.old) }
+        ensures step { IfOk result (λ answer. EmitsBy EmitsAgain self.old answer self.new) }
     {
         let len = PAYLOAD.min(self.sent - self.acked);
         if len == 0 || self.acked_at_turn < self.acked {
@@ -210,6 +215,7 @@ impl End {
         ensures some { IsSome result ↔ (self.old.owed ≡ true) }
         ensures empty { IfSome result (λ segment. segment ≡ segment_at self.old self.old.sent 0) }
         ensures after { self.new ≡ record self.old { owed = false } }
+        ensures step { EmitsBy Answers self.old result self.new }
     {
         if !self.owed {
             return None;
@@ -238,6 +244,7 @@ impl End {
         requires len { length segment.now.bytes < 2 ^ 16 }
         requires acked { acked ≤ outstanding self.old }
         ensures arrival { IfOk result (λ arrival. TakenIn arrival self.old segment.now acked self.new) }
+        ensures at_rest { OnOk result (got self.new ≤ 2 ^ 20 → IsEndState self.new) }
         ensures err { OnErr result (self.new ≡ self.old) }
     {
         let bytes = segment.bytes.as_slice();
@@ -259,6 +266,7 @@ impl End {
         ensures arrival { IfOk result (λ arrival. IsArrival arrival self.old segment.now) }
         ensures after { IfOk result (λ arrival. Leaves arrival self.old segment.now self.new) }
         ensures err { OnErr result (self.new ≡ self.old) }
+        ensures step { OnOk result (TakesBy self.old segment.now self.new) }
     {
         let len = segment.bytes.len() as u32;
         if !acceptable(self.ahead.next(), WINDOW, segment.seq, len) {
@@ -288,7 +296,8 @@ impl End {
     /// Reads the first of the ready bytes, which are ready no more.
     pub fn read(&mut self, n: usize)
         requires { n ≤ length self.old.ready }
-        ensures { self.new ≡ record self.old { taken = plus self.old.taken n; ready = drop n self.old.ready } }
+        ensures after { self.new ≡ record self.old { taken = plus self.old.taken n; ready = drop n self.old.ready } }
+        ensures step { StepsBy (λ e e'. Reads e n e') self.old self.new }
     {
         self.ready.drop_front(n);
         self.taken = self.taken.wrapping_add((n % (1 << 32)) as u32);

@@ -6,7 +6,7 @@ use std::test::Fail;
 use tcp_seq::{Segment, Seq, Way};
 
 /// The byte of a stream at a place.
-pub(crate) fn byte_at(place: u32, salt: u32) -> u8 {
+fn byte_at(place: u32, salt: u32) -> u8 {
     (place % 251) as u8 ^ (salt % 256) as u8
 }
 
