@@ -37,7 +37,7 @@ runs-counted base low (p ∷ ps) runs =
     (omega (arith, at, runs.0), runs.1, omega (arith, at, runs.2, runs.0),
     runs-counted base (offset_from p.place base + length p.bytes) ps (subst (λ (n : ℕ). AreRuns n ps) next runs.3))
 
-byte_counted : (base place moved : ℕ) (bytes : List ℕ) (k : ℕ) → base ≤ place → moved ≡ place - base → byte_from moved bytes k ≡ byte_from place bytes (base + k)
+pub byte_counted : (base place moved : ℕ) (bytes : List ℕ) (k : ℕ) → base ≤ place → moved ≡ place - base → byte_from moved bytes k ≡ byte_from place bytes (base + k)
 byte_counted base place moved bytes k le is = elim (cases_lt k moved) [
   | inl below ↦ byte_below moved bytes k below ∙ sym (byte_below place bytes (base + k) (omega (arith, below, is)))
   | inr there ↦ byte_there moved bytes k there ∙ ap (slice_get bytes) (let e : k - moved ≡ base + k - place = omega (arith, there, le, is) in e)

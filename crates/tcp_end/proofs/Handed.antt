@@ -48,7 +48,7 @@ ahead_is e next runs =
     ∙ ap (λ (ps : List Piece). let r : Reassembly = record { next = e.ahead.next; pieces = ps } in r) (counted-raised base 1 e.ahead.pieces (omega arith) runs)
 
 -- what is exported can be imported, where at most 1 MiB was received
-lies : (e : Inside) → Keeps e → got (state_of e) ≤ 2 ^ 20 → IsEndState (state_of e)
+pub lies : (e : Inside) → Keeps e → got (state_of e) ≤ 2 ^ 20 → IsEndState (state_of e)
 lies e keeps few =
     let base : (e.taken + length e.ready) % 2 ^ 32 ≡ e.taken + length e.ready = omega (arith, few) in
     record {

@@ -8,15 +8,17 @@ use Rattle.tcp_seq.specs.declared.segment.Segment.{Segment}
 use Rattle.tcp_seq.specs.declared.state.EndState.{EndState}
 use Rattle.tcp_reasm.specs.Runs.{held, AreRuns}
 use Rattle.tcp_reasm.specs.Reassembly.{Reassembly, byte_ahead, brought}
-use Rattle.tcp_end.specs.State.{IsSending, expected}
+use Rattle.std.proofs.lemmas.List.{length-drop}
+use Rattle.tcp_end.specs.State.{IsSending, IsEndState, expected, got}
 use Rattle.tcp_end.specs.Inner.{state_of, Keeps}
 use Rattle.tcp_end.specs.Receiving.{BringsByte, byte_then, Receives, Received}
-use Rattle.tcp_end.specs.Arriving.{ahead_of, BringsNewByte, TakesSegment, TakenIn}
+use Rattle.tcp_end.specs.Arriving.{ahead_of, BringsNewByte, TakesSegment, TakenIn, IsArrival, IsAcceptableTo, Says}
 use Rattle.tcp_end.specs.declared.arrival.Arrival.{Arrival}
-use Rattle.tcp_end.specs.declared.arrival.Arrival.TheVariants.{Accepted, Duplicate}
+use Rattle.tcp_end.specs.declared.arrival.Arrival.TheVariants.{Outside, Ahead, Accepted, Duplicate}
+use Rattle.tcp_seq.specs.declared.rules.AckKind.TheVariants.{New, Old, Beyond}
 use Rattle.tcp_end.specs.declared.end.End.TheInside.{Inside}
 use Rattle.tcp_end.proofs.Held.{held_below}
-use Rattle.tcp_end.proofs.Handed.{ahead_is}
+use Rattle.tcp_end.proofs.Handed.{ahead_is, lies}
 
 none_or : {X : Type 0} (o : Option X) → ¬ IsSome o → o ≡ None
 none_or None h = refl
@@ -105,3 +107,56 @@ took before e ready waiting r g acked brings owed bytes answer was keeps runs is
     (subst (λ (w : List ℕ). TakenIn (taken_as (brings || nat_lt 0 acked)) (state_of e) g acked (state_of (record e { acked = e.acked + acked; waiting = w; ready = ready; ahead = r; owed = owed }))) (sym drops)
     (subst (λ (o : Bool). TakenIn (taken_as (brings || nat_lt 0 acked)) (state_of e) g acked (state_of (record e { acked = e.acked + acked; waiting = drop acked e.waiting; ready = ready; ahead = r; owed = o }))) (sym owes')
     (taken_in e ready r g acked brings keeps runs is'))))
+
+receives_either : (brings : Bool) (e : Inside) (ready : List ℕ) (r : Reassembly) (g : Segment) → Keeps e → Received brings e.ahead r e.ready ready g.seq.0 g.bytes → Receives e.ahead r e.ready ready g.seq.0 g.bytes
+receives_either true e ready r g keeps is = is.1
+receives_either false e ready r g keeps is = old_bytes e ready r g keeps is
+
+-- what is left can be handed over
+rests_taken : (e : Inside) (ready : List ℕ) (r : Reassembly) (g : Segment) (acked : ℕ) → acked ≤ e.sent - e.acked → Keeps e → AreRuns 1 r.pieces → Receives e.ahead r e.ready ready g.seq.0 g.bytes
+    → got (state_of (taken e ready r g acked)) ≤ 2 ^ 20 → IsEndState (state_of (taken e ready r g acked))
+rests_taken e ready r g acked within keeps runs is few =
+    let n : length (drop acked e.waiting) ≡ length e.waiting - acked = length-drop acked e.waiting in
+    let s : IsSending (state_of e) = keeps.sending in
+    lies (taken e ready r g acked) (record {
+      sending = record {
+        acked = omega (arith, within, s.acked);
+        flight = omega (arith, s.flight);
+        emitted = omega (arith, n, s.emitted, s.acked, within);
+        stream = omega (arith, n, s.stream, s.emitted, s.acked, within);
+        at_turn = omega (arith, s.at_turn);
+      };
+      next = next_after e ready r g acked keeps is;
+      runs = runs;
+    }) few
+
+pub rests_took : (e : Inside) (ready waiting : List ℕ) (r : Reassembly) (g : Segment) (acked : ℕ) (brings owed : Bool) (bytes : List ℕ) → acked ≤ e.sent - e.acked
+    → Keeps e → AreRuns 1 r.pieces → Received brings e.ahead r e.ready ready g.seq.0 bytes → bytes ≡ g.bytes → waiting ≡ drop acked e.waiting → owed ≡ (e.owed || nat_lt 0 (length bytes))
+    → got (state_of (record e { acked = e.acked + acked; waiting = waiting; ready = ready; ahead = r; owed = owed })) ≤ 2 ^ 20 → IsEndState (state_of (record e { acked = e.acked + acked; waiting = waiting; ready = ready; ahead = r; owed = owed }))
+rests_took e ready waiting r g acked brings owed bytes within keeps runs is same drops owes few =
+    let is' : Received brings e.ahead r e.ready ready g.seq.0 g.bytes = subst (λ (b : List ℕ). Received brings e.ahead r e.ready ready g.seq.0 b) same is in
+    let owes' : owed ≡ (e.owed || nat_lt 0 (length g.bytes)) = owes ∙ ap (λ (b : List ℕ). e.owed || nat_lt 0 (length b)) same in
+    subst (λ (w : List ℕ). IsEndState (state_of (record e { acked = e.acked + acked; waiting = w; ready = ready; ahead = r; owed = owed }))) (sym drops)
+    (subst (λ (o : Bool). IsEndState (state_of (record e { acked = e.acked + acked; waiting = drop acked e.waiting; ready = ready; ahead = r; owed = o }))) (sym owes')
+    (rests_taken e ready r g acked within keeps runs (receives_either brings e ready r g keeps is') few))
+
+-- an owed answer doesn't hinder
+pub rests_owing : (e : Inside) → Keeps e → got (state_of (record e { owed = true })) ≤ 2 ^ 20 → IsEndState (state_of (record e { owed = true }))
+rests_owing e keeps few =
+    let rests : IsEndState (state_of e) = lies e keeps few in
+    record {
+      sending = record { acked = rests.sending.acked; flight = rests.sending.flight; emitted = rests.sending.emitted; stream = rests.sending.stream; at_turn = rests.sending.at_turn };
+      received = rests.received;
+      ahead = rests.ahead;
+    }
+
+old_not_beyond : (s : EndState) (g : Segment) → Says Old s g → Says Beyond s g → ⊥
+old_not_beyond s g (inl none) beyond = omega (arith, none, beyond.0)
+old_not_beyond s g (inr far) beyond = omega (arith, far, beyond.1)
+
+-- an acknowledgement that is old is neither new nor beyond
+pub old_arrival : (s : EndState) (g : Segment) (after : EndState) (arrival : Arrival) → IsAcceptableTo s g → Says Old s g → TakenIn arrival s g 0 after → IsArrival arrival s g
+old_arrival s g after Outside acceptable old is = absurd is
+old_arrival s g after (Ahead ack) acceptable old is = absurd is
+old_arrival s g after Duplicate acceptable old is = (acceptable, (λ beyond. old_not_beyond s g old beyond), (λ new. ?), is.1)
+old_arrival s g after Accepted acceptable old is = (acceptable, (λ beyond. old_not_beyond s g old beyond), elim is.0 [ inl none ↦ absurd (omega (arith, none)) | inr brings ↦ inr brings ])

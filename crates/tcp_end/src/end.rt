@@ -255,18 +255,13 @@ impl End {
         Ok(taken_as(brings, acked))
     }
 
-    /// A segment arrives. Its bytes that stand in the window of 16,384 places from the one expected
-    /// next on are kept, and its acknowledgement counts where it is new. An answer is owed where it has
-    /// bytes, isn't acceptable, or acknowledges what wasn't emitted. For want of memory nothing is
-    /// changed.
-    pub fn arrive(&mut self, segment: &Segment) -> Result<Arrival, NoMemory>
-        requires peering { segment.now.peering ≡ self.old.peering }
-        requires way { segment.now.way ≢ self.old.way }
-        requires len { length segment.now.bytes < 2 ^ 16 }
+    /// Tests an arriving segment by its numbers, and takes it in or drops it.
+    fn arrive_by_numbers(&mut self, segment: &Segment) -> Result<Arrival, NoMemory>
+        requires { length segment.now.bytes < 2 ^ 16 }
         ensures arrival { IfOk result (λ arrival. IsArrival arrival self.old segment.now) }
         ensures after { IfOk result (λ arrival. Leaves arrival self.old segment.now self.new) }
+        ensures at_rest { OnOk result (got self.new ≤ 2 ^ 20 → IsEndState self.new) }
         ensures err { OnErr result (self.new ≡ self.old) }
-        ensures step { OnOk result (TakesBy self.old segment.now self.new) }
     {
         let len = segment.bytes.len() as u32;
         if !acceptable(self.ahead.next(), WINDOW, segment.seq, len) {
@@ -284,6 +279,22 @@ impl End {
             }
             AckKind::Old => self.take_in(segment, 0),
         }
+    }
+
+    /// A segment arrives. Its bytes that stand in the window of 16,384 places from the one expected
+    /// next on are kept, and its acknowledgement counts where it is new. An answer is owed where it has
+    /// bytes, isn't acceptable, or acknowledges what wasn't emitted. For want of memory nothing is
+    /// changed.
+    pub fn arrive(&mut self, segment: &Segment) -> Result<Arrival, NoMemory>
+        requires peering { segment.now.peering ≡ self.old.peering }
+        requires way { segment.now.way ≢ self.old.way }
+        requires len { length segment.now.bytes < 2 ^ 16 }
+        ensures arrival { IfOk result (λ arrival. IsArrival arrival self.old segment.now) }
+        ensures after { IfOk result (λ arrival. Leaves arrival self.old segment.now self.new) }
+        ensures err { OnErr result (self.new ≡ self.old) }
+        ensures step { OnOk result (TakesBy self.old segment.now self.new) }
+    {
+        self.arrive_by_numbers(segment)
     }
 
     /// The bytes that were received in order and not yet read.
