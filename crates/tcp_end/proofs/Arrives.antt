@@ -1,25 +1,31 @@
 -- What a state stands for after a segment arrived.
 use Rattle.std.proofs.Common.{◌≡◌, ℕ, zero, suc, ◌+◌, ◌-◌, ◌^◌, ◌%◌, ◌<◌, ◌≤◌, max, List, [], ◌∷◌, ◌++◌, length, take, drop, get_or, Bool, true, false, Option, None, Some, refl, sym, ap, subst, ◌∙◌, arith, ◌⊎◌, inl, inr, ◌↔◌, length-append}
-use Rattle.std.specs.Prelude.{Contains, IsSome, nat_lt, ◌||◌, if◌then◌else◌}
+use Rattle.std.specs.Prelude.{Contains, IsSome, nat_lt, nat_le, ◌||◌, if◌then◌else◌, Result, Ok, Err, IfOk, OnOk}
 use Rattle.std.specs.List.{slice_get}
 use Rattle.std.specs.Option.{option_or}
 use Rattle.std.proofs.lemmas.Bool.{cases_lt, lt-ltb, le-ltb}
 use Rattle.std.proofs.lemmas.List.{length-drop, length-take, drop-drop, ext_get_or}
 use Rattle.std.proofs.lemmas.Option.{slice_get_past, slice_get-get_or, slice_get_within, get_or_from_slice_get}
-use Rattle.tcp_seq.specs.Numbers.{plus, number}
+use Rattle.tcp_seq.specs.Numbers.{plus, offset_from, number}
+use Rattle.tcp_seq.specs.Rules.{Acceptable, AcceptablePlace, IsAck}
+use Rattle.tcp_seq.specs.declared.rules.AckKind.TheVariants.{New, Beyond}
 use Rattle.tcp_seq.specs.Endpoint.{Endpoint, PlacedSegment, received, Takes, Drops, TakesIn, Brings, Gathers, IsAcceptable, IsBeyond}
 use Rattle.tcp_seq.specs.declared.segment.Segment.{Segment}
 use Rattle.tcp_seq.specs.declared.state.EndState.{EndState}
 use Rattle.tcp_reasm.specs.Runs.{byte_from, held}
-use Rattle.tcp_reasm.specs.Reassembly.{Reassembly, brought}
-use Rattle.tcp_end.specs.State.{IsEndState, IsSending, expected, got, counted_from, LieFrom}
+use Rattle.tcp_reasm.specs.Reassembly.{Reassembly, byte_ahead, brought}
+use Rattle.tcp_end.specs.State.{IsEndState, IsSending, expected, got, own_number, counted_from, LieFrom}
 use Rattle.tcp_end.specs.Receiving.{byte_then, Receives}
-use Rattle.tcp_end.specs.Arriving.{ahead_of, TakesSegment, newly_acked}
-use Rattle.tcp_end.specs.Standing.{Stands, Numbered, IsSlice, Becomes}
+use Rattle.tcp_end.specs.Arriving.{ahead_of, TakesSegment, newly_acked, IsAcceptableTo, Says, BringsNewByte, IsArrival, Leaves}
+use Rattle.tcp_end.specs.Standing.{Stands, Numbered, IsSlice, Becomes, TakesBy}
+use Rattle.tcp_end.specs.declared.arrival.Arrival.{Arrival}
+use Rattle.tcp_end.specs.declared.arrival.Arrival.TheVariants.{Outside, Ahead, Duplicate, Accepted}
+use Rattle.graft_edge.specs.declared.memory.NoMemory.{NoMemory}
+use Rattle.tcp_end.proofs.Steps.{owes, stream_is}
 use Rattle.tcp_end.proofs.Lookups.{get-drop, get-take}
 use Rattle.tcp_end.proofs.Held.{byte_there, byte_within, byte_below, byte_past}
 use Rattle.tcp_end.proofs.Arrived.{Has, held_within, places_of, places_rising, places_has, has_places, places_received}
-use Rattle.tcp_end.proofs.Places.{brought_place, held_from}
+use Rattle.tcp_end.proofs.Places.{brought_place, held_from, acceptable_place, place_acceptable, beyond_place, place_beyond, newly_place, new_place}
 
 -- the byte that a placed segment brings to a place of the window
 abbrev pub brought_to : EndState → PlacedSegment → ℕ → Option ℕ
@@ -179,27 +185,28 @@ with_byte : (s : EndState) (e : Endpoint) (theirs : List ℕ) (p : PlacedSegment
 with_byte s e theirs p k byte stands slice is =
     either_byte (held s.ahead k) (brought_to s p k) theirs k byte (λ x there. stands.ahead k x there) (λ x there. brought_byte (nat_lt k (got s + 16384)) theirs p k x slice there) is
 
-given_byte : (s after : EndState) (e : Endpoint) (theirs : List ℕ) (p : PlacedSegment) (given : List ℕ) (k : ℕ) → Stands s e theirs → IsSlice theirs p → Hears s after p given → k < length given → slice_get theirs (got s + k) ≡ Some (get_or given k 0)
-given_byte s after e theirs p given k stands slice h below =
-    with_byte s e theirs p (got s + k) (get_or given k 0) stands slice (h.each k below ∙ slice_get-get_or given k 0 below)
+given_byte : (s : EndState) (e : Endpoint) (theirs : List ℕ) (p : PlacedSegment) (given : List ℕ) (k : ℕ) → Stands s e theirs → IsSlice theirs p → ((k : ℕ) → k < length given → with_ s p (got s + k) ≡ slice_get given k) → k < length given
+    → slice_get theirs (got s + k) ≡ Some (get_or given k 0)
+given_byte s e theirs p given k stands slice each below =
+    with_byte s e theirs p (got s + k) (get_or given k 0) stands slice (each k below ∙ slice_get-get_or given k 0 below)
 
-given_within : (s after : EndState) (e : Endpoint) (theirs : List ℕ) (p : PlacedSegment) (given : List ℕ) → Stands s e theirs → IsSlice theirs p → Hears s after p given → got s + length given ≤ length theirs
-given_within s after e theirs p given stands slice h = elim (cases_lt 0 (length given)) [
+given_within : (s : EndState) (e : Endpoint) (theirs : List ℕ) (p : PlacedSegment) (given : List ℕ) → Stands s e theirs → IsSlice theirs p → ((k : ℕ) → k < length given → with_ s p (got s + k) ≡ slice_get given k) → got s + length given ≤ length theirs
+given_within s e theirs p given stands slice each = elim (cases_lt 0 (length given)) [
   | inl some ↦
       let last = length given - 1 in
-      let inside : got s + last < length theirs = slice_get_within theirs (got s + last) (get_or given last 0) (given_byte s after e theirs p given last stands slice h (omega (arith, some))) in
+      let inside : got s + last < length theirs = slice_get_within theirs (got s + last) (get_or given last 0) (given_byte s e theirs p given last stands slice each (omega (arith, some))) in
       omega (arith, inside, some)
   | inr none ↦ omega (arith, none, stands.received_within)
 ]
 
 given_is : (s after : EndState) (e : Endpoint) (theirs : List ℕ) (p : PlacedSegment) (given : List ℕ) → Stands s e theirs → IsSlice theirs p → Hears s after p given → given ≡ take (length given) (drop (got s) theirs)
 given_is s after e theirs p given stands slice h =
-    let within : got s + length given ≤ length theirs = given_within s after e theirs p given stands slice h in
+    let within : got s + length given ≤ length theirs = given_within s e theirs p given stands slice h.each in
     let n : length given ≡ length (take (length given) (drop (got s) theirs)) =
       omega (arith, within, length-take (length given) (drop (got s) theirs), length-drop (got s) theirs) in
     ext_get_or 0 given (take (length given) (drop (got s) theirs)) n
     (λ i below. sym (get_or_from_slice_get (take (length given) (drop (got s) theirs)) i (get_or given i 0) 0
-      (get-take (length given) (drop (got s) theirs) i below ∙ get-drop (got s) theirs i (got s + i) refl ∙ given_byte s after e theirs p given i stands slice h below)))
+      (get-take (length given) (drop (got s) theirs) i below ∙ get-drop (got s) theirs i (got s + i) refl ∙ given_byte s e theirs p given i stands slice h.each below)))
 
 take_none : (n : ℕ) → take n (let none : List ℕ = [] in none) ≡ []
 take_none zero = refl
@@ -230,3 +237,163 @@ ahead_byte s after e theirs p given stands rests slice h place byte is =
     let same : got s + (length given + j) ≡ place = omega (arith, at, h.received) in
     with_byte s e theirs p place byte stands slice
       (ap (with_ s p) (sym same) ∙ sym (h.ahead j) ∙ ap (held after.ahead) at ∙ is)
+
+-- The tests of numbers and of places
+acceptable_to : (s : EndState) (e : Endpoint) (theirs : List ℕ) (g : Segment) (p : PlacedSegment) → Stands s e theirs → Numbered s.receive_first.0 s.send_first.0 g p → IsSlice theirs p → length g.bytes < 2 ^ 16 → IsAcceptable e p → IsAcceptableTo s g
+acceptable_to s e theirs g p stands numbered slice short is =
+    let n : length g.bytes ≡ length p.bytes = ap length numbered.bytes in
+    let by_number : Acceptable (number s.receive_first.0 (got s)) 16384 (number s.receive_first.0 p.place) (length p.bytes) =
+      place_acceptable s.receive_first.0 (got s) p.place (length p.bytes) (omega (arith, stands.sound.received)) (omega (arith, slice.within, stands.theirs_within)) (omega (arith, n, short))
+        (subst (λ (m : ℕ). AcceptablePlace m 16384 p.place (length p.bytes)) stands.received is) in
+    subst (λ (m : ℕ). Acceptable (expected s) 16384 m (length g.bytes)) (sym numbered.seq)
+    (subst (λ (m : ℕ). Acceptable (expected s) 16384 (number s.receive_first.0 p.place) m) (sym n) by_number)
+
+acceptable_for : (s : EndState) (e : Endpoint) (theirs : List ℕ) (g : Segment) (p : PlacedSegment) → Stands s e theirs → Numbered s.receive_first.0 s.send_first.0 g p → IsSlice theirs p → length g.bytes < 2 ^ 16 → IsAcceptableTo s g → IsAcceptable e p
+acceptable_for s e theirs g p stands numbered slice short is =
+    let n : length g.bytes ≡ length p.bytes = ap length numbered.bytes in
+    let by_number : Acceptable (number s.receive_first.0 (got s)) 16384 (number s.receive_first.0 p.place) (length p.bytes) =
+      subst (λ (m : ℕ). Acceptable (expected s) 16384 m (length p.bytes)) numbered.seq (subst (λ (m : ℕ). Acceptable (expected s) 16384 g.seq.0 m) n is) in
+    subst (λ (m : ℕ). AcceptablePlace m 16384 p.place (length p.bytes)) (sym stands.received)
+    (acceptable_place s.receive_first.0 (got s) p.place (length p.bytes) (omega (arith, stands.sound.received)) (omega (arith, slice.within, stands.theirs_within)) (omega (arith, n, short)) by_number)
+
+emitted_small : (s : EndState) → IsSending s → s.sent < 2 ^ 30
+emitted_small s sending = omega (arith, sending.emitted, sending.stream)
+
+ack_small : (theirs : List ℕ) (p : PlacedSegment) → IsSlice theirs p → p.ack < 2 ^ 30
+ack_small theirs p slice = omega (arith, slice.ack)
+
+beyond_for : (s : EndState) (e : Endpoint) (theirs : List ℕ) (g : Segment) (p : PlacedSegment) → Stands s e theirs → Numbered s.receive_first.0 s.send_first.0 g p → IsSlice theirs p → Says Beyond s g → IsBeyond e p
+beyond_for s e theirs g p stands numbered slice is =
+    let past : s.sent < p.ack = beyond_place s.send_first.0 s.acked s.sent p.ack stands.sound.sending.acked (emitted_small s stands.sound.sending) (ack_small theirs p slice)
+      (subst (λ (m : ℕ). IsAck Beyond (own_number s s.acked) (own_number s s.sent) m) numbered.ack is) in
+    omega (arith, past, stands.emitted)
+
+beyond_to : (s : EndState) (e : Endpoint) (theirs : List ℕ) (g : Segment) (p : PlacedSegment) → Stands s e theirs → Numbered s.receive_first.0 s.send_first.0 g p → IsSlice theirs p → IsBeyond e p → Says Beyond s g
+beyond_to s e theirs g p stands numbered slice is =
+    subst (λ (m : ℕ). IsAck Beyond (own_number s s.acked) (own_number s s.sent) m) (sym numbered.ack)
+    (place_beyond s.send_first.0 s.acked s.sent p.ack stands.sound.sending.acked (emitted_small s stands.sound.sending) (ack_small theirs p slice) (omega (arith, is, stands.emitted)))
+
+within_sent : (s : EndState) (e : Endpoint) (theirs : List ℕ) (g : Segment) (p : PlacedSegment) → Stands s e theirs → Numbered s.receive_first.0 s.send_first.0 g p → IsSlice theirs p → ¬ Says Beyond s g → p.ack ≤ s.sent
+within_sent s e theirs g p stands numbered slice none = elim (cases_lt s.sent p.ack) [
+  | inl past ↦ absurd (none (beyond_to s e theirs g p stands numbered slice (omega (arith, past, stands.emitted))))
+  | inr within ↦ within
+]
+
+-- an owed answer
+owed_is : (s : EndState) (e : Endpoint) (theirs : List ℕ) (g : Segment) (p : PlacedSegment) → Stands s e theirs → g.bytes ≡ p.bytes → (e.owed || nat_lt 0 (length p.bytes)) ≡ (s.owed || nat_lt 0 (length g.bytes))
+owed_is s e theirs g p stands same = ap (λ (b : Bool). b || nat_lt 0 (length p.bytes)) stands.owed ∙ ap (λ (xs : List ℕ). s.owed || nat_lt 0 (length xs)) (sym same)
+
+-- a segment that is dropped
+dropped : (s after : EndState) (g : Segment) (e : Endpoint) (theirs : List ℕ) (p : PlacedSegment) → Stands s e theirs → (¬ IsAcceptable e p) ⊎ IsBeyond e p → after ≡ record s { owed = true } → Becomes (λ e' e''. Takes e' p e'') e after theirs
+dropped s after g e theirs p stands cause is = record {
+  end = record e { owed = true };
+  step = inl (record { cause = cause; stays = refl });
+  stands = owes s after true is e theirs stands;
+}
+
+some_or_none : (o : Option ℕ) → IsSome o ⊎ (o ≡ None)
+some_or_none None = inr refl
+some_or_none (Some x) = inl refl
+
+-- nothing that is brought is new
+nothing_new : (s : EndState) (e : Endpoint) (theirs : List ℕ) (g : Segment) (p : PlacedSegment) (k : ℕ) → Stands s e theirs → Numbered s.receive_first.0 s.send_first.0 g p → IsSlice theirs p → length g.bytes < 2 ^ 16 → ¬ BringsNewByte s g → Brings e p k → Contains e.arrived k
+nothing_new s e theirs g p k stands numbered slice short none brings = elim (some_or_none (held s.ahead k)) [
+  | inl some ↦ (stands.arrived k).1 (inr some)
+  | inr empty ↦
+      let from : got s ≤ k = omega (arith, brings.2.0, stands.received) in
+      let j = k - got s in
+      let at : got s + j ≡ k = omega (arith, from) in
+      let n : length g.bytes ≡ length p.bytes = ap length numbered.bytes in
+      let old : byte_ahead (ahead_of s) j ≡ None =
+        ap (λ (m : ℕ). held (counted_from m s.ahead) j) (let small : got s % 2 ^ 32 ≡ got s = omega (arith, stands.sound.received) in small)
+        ∙ held_from (got s) (got s + 1) (got s + 16384) s.ahead j (omega arith) (omega (arith, stands.sound.received)) stands.sound.ahead ∙ ap (held s.ahead) at ∙ empty in
+      let both : byte_then (ahead_of s) g.seq.0 g.bytes j ≡ with_ s p k =
+        byte_then_is s g p j stands.sound numbered (omega (arith, slice.within, stands.theirs_within)) (omega (arith, n, short)) ∙ ap (with_ s p) at in
+      let new : brought (expected s) g.seq.0 g.bytes j ≡ with_ s p k = ap (λ (o : Option ℕ). option_or o (brought (expected s) g.seq.0 g.bytes j)) (sym old) ∙ both in
+      absurd (none (j, old, subst (λ (o : Option ℕ). IsSome o) (sym new) (right_some (held s.ahead k) (brought_to s p k) (brings_some s e p k stands.received brings))))
+]
+
+-- a segment that brings nothing new
+repeated : (s after : EndState) (g : Segment) (e : Endpoint) (theirs : List ℕ) (p : PlacedSegment) → Stands s e theirs → Numbered s.receive_first.0 s.send_first.0 g p → IsSlice theirs p → length g.bytes < 2 ^ 16
+    → IsArrival Duplicate s g → Leaves Duplicate s g after → Becomes (λ e' e''. Takes e' p e'') e after theirs
+repeated s after g e theirs p stands numbered slice short is leaves =
+    let within : p.ack ≤ s.sent = within_sent s e theirs g p stands numbered slice is.1 in
+    let old : p.ack ≤ s.acked = new_place s.send_first.0 s.acked s.sent p.ack stands.sound.sending.acked (emitted_small s stands.sound.sending) (ack_small theirs p slice) within
+      (λ new. is.2 (subst (λ (m : ℕ). IsAck New (own_number s s.acked) (own_number s s.sent) m) (sym numbered.ack) new)) in
+    let same : max e.acked p.ack ≡ e.acked = omega (arith, old, stands.acked) in
+    let owed : (e.owed || nat_lt 0 (length p.bytes)) ≡ (s.owed || nat_lt 0 (length g.bytes)) = owed_is s e theirs g p stands numbered.bytes in
+    record {
+      end = record e { acked = max e.acked p.ack; owed = e.owed || nat_lt 0 (length p.bytes) };
+      step = inr (record {
+        acceptable = acceptable_for s e theirs g p stands numbered slice short is.0;
+        within = λ beyond. is.1 (beyond_to s e theirs g p stands numbered slice beyond);
+        arrived = record {
+          rising = stands.rising;
+          places = λ k. ((λ here. inl here), (λ here. elim here [ inl old_place ↦ old_place | inr brings ↦ nothing_new s e theirs g p k stands numbered slice short is.3 brings ]));
+        };
+        changed = refl;
+      });
+      stands = subst (λ (m : ℕ). Stands after (record e { acked = m; owed = e.owed || nat_lt 0 (length p.bytes) }) theirs) (sym same)
+        (subst (λ (b : Bool). Stands after (record e { owed = b }) theirs) (sym owed) (owes s after (s.owed || nat_lt 0 (length g.bytes)) leaves e theirs stands));
+    }
+
+-- a segment that is taken in
+taken_in : (s after : EndState) (g : Segment) (e : Endpoint) (theirs : List ℕ) (p : PlacedSegment) → Stands s e theirs → Numbered s.receive_first.0 s.send_first.0 g p → IsSlice theirs p → length g.bytes < 2 ^ 16
+    → IsArrival Accepted s g → TakesSegment s g (newly_acked s g) after → (got after ≤ 2 ^ 20 → IsEndState after) → Becomes (λ e' e''. Takes e' p e'') e after theirs
+taken_in s after g e theirs p stands numbered slice short is takes at_rest =
+    let n : length g.bytes ≡ length p.bytes = ap length numbered.bytes in
+    let fits : p.place < 2 ^ 30 = omega (arith, slice.within, stands.theirs_within) in
+    let r = takes.received in
+    let each : (k : ℕ) → k < length r.given → with_ s p (got s + k) ≡ slice_get r.given k =
+      λ k below. sym (byte_then_is s g p k stands.sound numbered fits (omega (arith, n, short))) ∙ r.each k below in
+    let grown : got s + length r.given ≤ length theirs = given_within s e theirs p r.given stands slice each in
+    let taken : after.taken ≡ s.taken = ap (λ (t : EndState). t.taken) takes.changed in
+    let ready_length : length after.ready ≡ length s.ready + length r.given = ap length r.appended ∙ length-append s.ready r.given in
+    let few : got after ≤ 2 ^ 20 = omega (arith, taken, ready_length, grown, stands.theirs_within) in
+    let rests : IsEndState after = at_rest few in
+    let h : Hears s after p r.given = hears s after g p stands.sound rests numbered fits (omega (arith, n, short)) taken r in
+    let within : p.ack ≤ s.sent = within_sent s e theirs g p stands numbered slice is.1 in
+    let acked : s.acked + newly_acked s g ≡ max e.acked p.ack =
+      ap (λ (m : ℕ). s.acked + (let ahead = offset_from m (own_number s s.acked) in if nat_le ahead (s.sent - s.acked) then ahead else 0)) numbered.ack
+      ∙ newly_place s.send_first.0 s.acked s.sent p.ack stands.sound.sending.acked (emitted_small s stands.sound.sending) (ack_small theirs p slice) within
+      ∙ ap (λ (m : ℕ). max m p.ack) (sym stands.acked) in
+    record {
+      end = record e { acked = max e.acked p.ack; arrived = places_of after; owed = e.owed || nat_lt 0 (length p.bytes) };
+      step = inr (record {
+        acceptable = acceptable_for s e theirs g p stands numbered slice short is.0;
+        within = λ beyond. is.1 (beyond_to s e theirs g p stands numbered slice beyond);
+        arrived = gathers s after e theirs p r.given stands rests h;
+        changed = refl;
+      });
+      stands = record {
+        sound = rests;
+        acked = sym acked ∙ sym (ap (λ (t : EndState). t.acked) takes.changed);
+        emitted = stands.emitted ∙ sym (ap (λ (t : EndState). t.sent) takes.changed);
+        read = stands.read ∙ sym taken;
+        owed = owed_is s e theirs g p stands numbered.bytes ∙ sym (ap (λ (t : EndState). t.owed) takes.changed);
+        acked_within = omega (arith, within, stands.emitted, stands.acked_within, stream_is s e theirs stands, stands.sound.sending.emitted);
+        waiting = ap (λ (t : EndState). t.waiting) takes.changed ∙ ap (drop (newly_acked s g)) stands.waiting ∙ drop-drop (newly_acked s g) e.acked e.stream
+            ∙ ap (λ (m : ℕ). drop m e.stream) (ap (λ (m : ℕ). m + newly_acked s g) stands.acked ∙ acked);
+        rising = places_rising after;
+        received = places_received after rests.ahead;
+        received_within = omega (arith, h.received, grown);
+        theirs_within = stands.theirs_within;
+        ready = ready_is s after e theirs p r.given stands slice h;
+        arrived = λ place. (places_has after place, has_places after place rests.ahead);
+        ahead = ahead_byte s after e theirs p r.given stands rests slice h;
+      };
+    }
+
+-- whatever the segment was
+pub arrives : (s after : EndState) (g : Segment) (arrival : Arrival) → length g.bytes < 2 ^ 16 → IsArrival arrival s g → Leaves arrival s g after → (got after ≤ 2 ^ 20 → IsEndState after) → TakesBy s g after
+arrives s after g Outside short is leaves at_rest e theirs p stands numbered slice =
+    dropped s after g e theirs p stands (inl (λ acceptable. is (acceptable_to s e theirs g p stands numbered slice short acceptable))) leaves
+arrives s after g (Ahead ack) short is leaves at_rest e theirs p stands numbered slice =
+    dropped s after g e theirs p stands (inr (beyond_for s e theirs g p stands numbered slice is.1)) leaves
+arrives s after g Duplicate short is leaves at_rest e theirs p stands numbered slice = repeated s after g e theirs p stands numbered slice short is leaves
+arrives s after g Accepted short is leaves at_rest e theirs p stands numbered slice = taken_in s after g e theirs p stands numbered slice short is leaves at_rest
+
+pub arrives_if_ok : (s after : EndState) (g : Segment) (result : Result Arrival NoMemory) → length g.bytes < 2 ^ 16 → IfOk result (λ a. IsArrival a s g) → IfOk result (λ a. Leaves a s g after) → OnOk result (got after ≤ 2 ^ 20 → IsEndState after)
+    → OnOk result (TakesBy s g after)
+arrives_if_ok s after g (Ok arrival) short is leaves at_rest = arrives s after g arrival short is leaves at_rest
+arrives_if_ok s after g (Err error) short is leaves at_rest = tt

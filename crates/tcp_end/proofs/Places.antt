@@ -87,6 +87,10 @@ new_place f acked emitted ack le small fits within none = elim (cases_lt acked a
   | inr not ↦ not
 ]
 
+-- the flight keeps the numbers of what is outstanding together
+pub flight_offset : (f acked emitted : ℕ) → acked ≤ emitted → emitted ≤ acked + 15360 → offset_from (number f emitted) (number f acked) ≤ 15360
+flight_offset f acked emitted le within = omega (arith, le, within)
+
 -- the bytes of a segment stand at their places
 pub brought_place : (f next place : ℕ) (bytes : List ℕ) (k : ℕ) → next < 2 ^ 30 → place < 2 ^ 30 → length bytes < 2 ^ 16
     → brought (number f next) (number f place) bytes k ≡ (if nat_lt k 16384 then byte_from place bytes (next + k) else None)

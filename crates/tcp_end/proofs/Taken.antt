@@ -19,6 +19,7 @@ use Rattle.tcp_seq.specs.declared.rules.AckKind.TheVariants.{New, Old, Beyond}
 use Rattle.tcp_end.specs.declared.end.End.TheInside.{Inside}
 use Rattle.tcp_end.proofs.Held.{held_below}
 use Rattle.tcp_end.proofs.Handed.{ahead_is, lies}
+use Rattle.tcp_end.proofs.Places.{flight_offset}
 
 none_or : {X : Type 0} (o : Option X) → ¬ IsSome o → o ≡ None
 none_or None h = refl
@@ -154,9 +155,13 @@ old_not_beyond : (s : EndState) (g : Segment) → Says Old s g → Says Beyond s
 old_not_beyond s g (inl none) beyond = omega (arith, none, beyond.0)
 old_not_beyond s g (inr far) beyond = omega (arith, far, beyond.1)
 
+old_not_new : (s : EndState) (g : Segment) → IsSending s → Says Old s g → Says New s g → ⊥
+old_not_new s g sending (inl none) new = omega (arith, none, new.0)
+old_not_new s g sending (inr far) new = omega (arith, far, new.1, flight_offset s.send_first.0 s.acked s.sent sending.acked sending.flight)
+
 -- an acknowledgement that is old is neither new nor beyond
-pub old_arrival : (s : EndState) (g : Segment) (after : EndState) (arrival : Arrival) → IsAcceptableTo s g → Says Old s g → TakenIn arrival s g 0 after → IsArrival arrival s g
-old_arrival s g after Outside acceptable old is = absurd is
-old_arrival s g after (Ahead ack) acceptable old is = absurd is
-old_arrival s g after Duplicate acceptable old is = (acceptable, (λ beyond. old_not_beyond s g old beyond), (λ new. ?), is.1)
-old_arrival s g after Accepted acceptable old is = (acceptable, (λ beyond. old_not_beyond s g old beyond), elim is.0 [ inl none ↦ absurd (omega (arith, none)) | inr brings ↦ inr brings ])
+pub old_arrival : (s : EndState) (g : Segment) (after : EndState) (arrival : Arrival) → IsSending s → IsAcceptableTo s g → Says Old s g → TakenIn arrival s g 0 after → IsArrival arrival s g
+old_arrival s g after Outside sending acceptable old is = absurd is
+old_arrival s g after (Ahead ack) sending acceptable old is = absurd is
+old_arrival s g after Duplicate sending acceptable old is = (acceptable, (λ beyond. old_not_beyond s g old beyond), (λ new. old_not_new s g sending old new), is.1)
+old_arrival s g after Accepted sending acceptable old is = (acceptable, (λ beyond. old_not_beyond s g old beyond), elim is.0 [ inl none ↦ absurd (omega (arith, none)) | inr brings ↦ inr brings ])
