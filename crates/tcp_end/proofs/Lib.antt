@@ -10,3 +10,5 @@ pub mod Steps
 pub mod Arrived
 pub mod Places
 pub mod Arrives
+pub mod Grown
+pub mod Carried

@@ -6,6 +6,7 @@ mod ahead;
 mod arrival;
 mod byte_queue;
 mod end;
+mod laws;
 #[cfg(test)]
 mod lossy_tests;
 #[cfg(test)]
@@ -13,4 +14,5 @@ mod tests;
 
 pub use arrival::{Arrival, SendStop};
 pub use end::End;
+pub use laws::{received_is_a_front, received_was_emitted, stands_as_the_stream_grows};
 pub use tcp_seq::{EndState, Piece, Pieces};
