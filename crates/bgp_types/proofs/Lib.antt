@@ -1,6 +1,7 @@
 pub mod Lengths
 pub mod Rows
 pub mod TextLemmas
+pub mod PrintedTexts
 pub mod ManyLaws
 pub mod FrameLaws
 pub mod AttrLaws
@@ -19,3 +20,4 @@ pub mod AttrsWritten
 pub mod WrittenLaws
 pub mod FaultRows
 pub mod ReadRows
+pub mod TableLaws

@@ -115,7 +115,7 @@ NoSlash-dotted a b c d fa fb fc fd =
     let dd = NoSlash-decimal d (omega arith) in
     NoSlash-append _ _ (NoSlash-append _ _ (NoSlash-append _ _ (NoSlash-append _ _ (NoSlash-append _ _ (NoSlash-append _ _ da dot) db) dot) dc) dot) dd
 
-NoSlash-address : (address : ℕ) → NoSlash (address_text address)
+pub NoSlash-address : (address : ℕ) → NoSlash (address_text address)
 NoSlash-address address = NoSlash-dotted (address / 16777216 % 256) (address / 65536 % 256) (address / 256 % 256) (address % 256) (omega arith) (omega arith) (omega arith) (omega arith)
 
 no_slash_at : (xs : List ℕ) → NoSlash xs → (i : ℕ) → i < length xs → get_or xs i 0 ≢ 47

@@ -15,6 +15,7 @@ pub mod Prefixes
 pub mod Reads
 pub mod Rising
 pub mod Spelling
+pub mod Tables
 pub mod Texts
 pub mod UpdateBody
 pub mod Values

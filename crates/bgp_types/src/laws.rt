@@ -1,15 +1,27 @@
-//! What holds of the definitions of the wire format.
+//! What holds of the definitions of texts and of the wire format.
 
-ghost use Rattle.std.specs.Prelude.{◌≡◌, ◌↔◌, ℕ, List, [], Bool, Some, None};
+ghost use Rattle.std.specs.Prelude.{◌≡◌, ◌↔◌, ◌<◌, ◌^◌, ℕ, List, [], Bool, Some, None};
 ghost use Rattle.bgp_types.specs.declared.fault.Expected.{Expected};
 ghost use Rattle.bgp_types.specs.declared.message.Message.{Message};
 ghost use Rattle.bgp_types.specs.Expect.{ReadsExpected};
 ghost use Rattle.bgp_types.specs.FirstFault.{first_fault};
 ghost use Rattle.bgp_types.specs.Header.{frame_at};
 ghost use Rattle.bgp_types.specs.OctetLists.{AreOctets};
+ghost use Rattle.bgp_types.specs.Prefixes.{PrefixValue, IsPrefix};
 ghost use Rattle.bgp_types.specs.Reads.{Reads};
 ghost use Rattle.bgp_types.specs.Spelling.{spell};
+ghost use Rattle.bgp_types.specs.Texts.{IsAddressText, IsPrefixText, address_text, prefix_text};
 ghost use Rattle.bgp_types.specs.Writable.{IsWritable};
+
+/// The text of an address is read as that address, and as no other.
+pub fn printed_address_reads()
+    ensures { (address other : ℕ) → address < 2 ^ 32 → IsAddressText (address_text address) other ↔ (other ≡ address) }
+{}
+
+/// The text of a prefix is read as that prefix, and as no other.
+pub fn printed_prefix_reads()
+    ensures { (p q : PrefixValue) → IsPrefix p → IsPrefixText (prefix_text p) q ↔ (q ≡ p) }
+{}
 
 /// A frame reads as at most one message in a width.
 pub fn reads_once()

@@ -10,18 +10,22 @@ mod message;
 mod path;
 mod prefix;
 mod rank;
+mod table;
 mod text;
 
 pub use attrs::{Aggregator, Attrs, Origin, RawAttr, RawAttrs, Route};
 pub use fault::{Expected, FoundAttrs, HeaderFault};
 pub use graft_edge::{Items, Name, NoMemory, Octets, PeeringId, RouterId, TryCopy};
-pub use laws::{reads_once, reads_without_fault, written_reads};
+pub use laws::{
+    printed_address_reads, printed_prefix_reads, reads_once, reads_without_fault, written_reads,
+};
 pub use length::message_len;
 pub use message::{Cap, Caps, Message, Notice, OpenMsg, SessionState, Update};
 pub use path::{AsList, AsPath, PathPart, holds_as, neighbour, path_len};
 pub use prefix::{Prefix, PrefixList};
 pub use rank::{From, Rank};
-pub use text::{is_host, read_address, read_prefix};
+pub use table::{SpareTable, Table, prefix_order};
+pub use text::{Address, is_host, read_address, read_prefix};
 
 #[cfg(test)]
 mod tests;

@@ -146,3 +146,82 @@ fn prefixes_and_long_values(rt: HostRuntime) -> Result<(), Fail> {
     }
     Ok(())
 }
+
+/// Texts with the addresses that they write, and texts that write none.
+const ADDRESSES: [(&str, Option<u32>); 16] = [
+    ("0.0.0.0", Some(0)),
+    ("10.255.0.1", Some(0x0AFF_0001)),
+    ("192.0.2.1", Some(0xC000_0201)),
+    ("255.255.255.255", Some(0xFFFF_FFFF)),
+    ("", None),
+    ("10.0.0", None),
+    ("10.0.0.0.0", None),
+    ("10..0.0", None),
+    ("10.0.0.256", None),
+    ("10.0.0.01", None),
+    ("10.0.0.00", None),
+    (" 10.0.0.0", None),
+    ("10.0.0.0 ", None),
+    ("10.0.0.+1", None),
+    ("10.0.0.-1", None),
+    ("0xA.0.0.0", None),
+];
+
+#[test]
+fn texts_of_addresses(rt: HostRuntime) -> Result<(), Fail> {
+    for (text, address) in ADDRESSES {
+        assert_eq!(rt; read_address(text), address, "{text}");
+        if let Some(address) = address {
+            let printed = format!(in rt.alloc(); "{}", Address(address))?;
+            assert_eq!(rt; printed.as_str(), text);
+        }
+    }
+    for (address, host) in [
+        (0u32, false),
+        (1, true),
+        (0xDFFF_FFFF, true),
+        (0xE000_0000, false),
+    ] {
+        assert_eq!(rt; is_host(address), host);
+    }
+    Ok(())
+}
+
+/// Texts with the prefixes that they write, each with how it is printed, and texts that write none.
+const PREFIXES: [(&str, Option<(u32, u8)>, &str); 16] = [
+    ("0.0.0.0/0", Some((0, 0)), "0.0.0.0/0"),
+    ("10.0.0.0/8", Some((0x0A00_0000, 8)), "10.0.0.0/8"),
+    ("10.1.2.3/8", Some((0x0A00_0000, 8)), "10.0.0.0/8"),
+    ("255.255.255.255/1", Some((0x8000_0000, 1)), "128.0.0.0/1"),
+    ("192.0.2.1/31", Some((0xC000_0200, 31)), "192.0.2.0/31"),
+    ("192.0.2.1/32", Some((0xC000_0201, 32)), "192.0.2.1/32"),
+    ("", None, ""),
+    ("10.0.0.0", None, ""),
+    ("10.0.0.0/", None, ""),
+    ("/8", None, ""),
+    ("10.0.0.0/33", None, ""),
+    ("10.0.0.0/08", None, ""),
+    ("10.0.0.0/+8", None, ""),
+    ("10.0.0.0/8/8", None, ""),
+    ("10.0.0.0 /8", None, ""),
+    ("10.0.0/8", None, ""),
+];
+
+/// How a prefix is printed, or nothing.
+fn printed(alloc: Global, prefix: &Option<Prefix>) -> Result<String, Fail> {
+    match prefix {
+        Some(prefix) => Ok(format!(in alloc; "{prefix}")?),
+        None => Ok(String::new(alloc)),
+    }
+}
+
+#[test]
+fn texts_of_prefixes(rt: HostRuntime) -> Result<(), Fail> {
+    for (text, value, again) in PREFIXES {
+        let prefix = read_prefix(text);
+        assert_eq!(rt; prefix.map(|p| (p.address(), p.len())), value, "{text}");
+        let text = printed(rt.alloc(), &prefix)?;
+        assert_eq!(rt; text.as_str(), again);
+    }
+    Ok(())
+}

@@ -1,9 +1,9 @@
 //! Addresses and prefixes as texts.
 
-ghost use Rattle.std.specs.Prelude.{◌≡◌, ◌↔◌, IsTrue, Some, MatchOption};
+ghost use Rattle.std.specs.Prelude.{◌≡◌, ◌↔◌, IsTrue, Some};
 ghost use Rattle.bgp_types.specs.Finds.{Finds};
 ghost use Rattle.bgp_types.specs.Prefixes.{IsPrefix};
-ghost use Rattle.bgp_types.specs.Texts.{IsAddressText, IsPrefixText, IsLengthText, IsHost, BeginsPlainly, prefix_text};
+ghost use Rattle.bgp_types.specs.Texts.{IsAddressText, IsPrefixText, IsLengthText, IsHost, BeginsPlainly, address_text, prefix_text};
 
 use crate::prefix::Prefix;
 use std::fmt;
@@ -63,11 +63,24 @@ pub fn read_prefix(text: &str) -> Option<Prefix>
     Prefix::new(address, len)
 }
 
+/// An address as it is printed: four decimals, joined by dots.
+#[derive(Clone, Copy, Debug, PartialEq, Eq, PartialOrd, Ord, Hash)]
+pub struct Address(pub u32);
+
+impl fmt::Display for Address {
+    ghost output = { λ a. Some (address_text a.0) };
+
+    fn fmt<W: fmt::Write>(&self, f: &mut fmt::Formatter<W>) -> fmt::Result {
+        let address = Ipv4Addr::from_bits(self.0);
+        write!(f, "{address}")
+    }
+}
+
 impl fmt::Display for Prefix {
     ghost output = { λ p. Some (prefix_text p) };
 
     fn fmt<W: fmt::Write>(&self, f: &mut fmt::Formatter<W>) -> fmt::Result {
-        let address = Ipv4Addr::from_bits(self.address());
+        let address = Address(self.address());
         let len = self.len();
         write!(f, "{address}/{len}")
     }

@@ -130,10 +130,10 @@ ranks_left-IsPermutation ranks others h =
 
 -- ---- two that are left are equal by all rules
 
-Contains-filter : {X : Type 0} (p : X → Bool) (xs : List X) (x : X) → Contains (filter p xs) x → Contains xs x
+pub Contains-filter : {X : Type 0} (p : X → Bool) (xs : List X) (x : X) → Contains (filter p xs) x → Contains xs x
 Contains-filter p xs x there = All-contains (Contains xs) (filter p xs) x (All-filter p (Contains xs) xs (All-contains_itself xs)) there
 
-Contains-keep : {X : Type 0} (rule : X → X → Bool) (xs : List X) (x : X) → Contains (keep rule xs) x → Contains xs x
+pub Contains-keep : {X : Type 0} (rule : X → X → Bool) (xs : List X) (x : X) → Contains (keep rule xs) x → Contains xs x
 unfolding keep
 Contains-keep rule xs x there = Contains-filter (λ z. not (list_any (λ y. rule y z) xs)) xs x there
 
@@ -141,14 +141,14 @@ none_at : (b c : Bool) → not c ≡ true → (b ≡ true → c ≡ true) → b 
 none_at true c none where_true = let h = where_true refl in cc
 none_at false c none where_true = refl
 
-keep-unbeaten : {X : Type 0} (rule : X → X → Bool) (xs : List X) (x y : X) → Contains (keep rule xs) x → Contains xs y → rule y x ≡ false
+pub keep-unbeaten : {X : Type 0} (rule : X → X → Bool) (xs : List X) (x y : X) → Contains (keep rule xs) x → Contains xs y → rule y x ≡ false
 unfolding keep
 keep-unbeaten {X} rule xs x y kept (k, within, is) =
     let test = λ (z : X). not (list_any (λ w. rule w z) xs) in
     let passes = All-contains (λ z. test z ≡ true) (filter test xs) x (filter_passes test xs) kept in
     none_at (rule y x) (list_any (λ w. rule w x) xs) passes (λ beaten. list_any_at (λ w. rule w x) xs k y within (ap (λ w. rule w x) is ∙ beaten))
 
-in_turn-equal : (rab rba sab sba : Bool) → (rab || (not rba && sab)) ≡ false → (rba || (not rab && sba)) ≡ false → (rab ≡ false) × (rba ≡ false) × (sab ≡ false) × (sba ≡ false)
+pub in_turn-equal : (rab rba sab sba : Bool) → (rab || (not rba && sab)) ≡ false → (rba || (not rab && sba)) ≡ false → (rab ≡ false) × (rba ≡ false) × (sab ≡ false) × (sba ≡ false)
 in_turn-equal true rba sab sba h k = cc
 in_turn-equal false true sab sba h k = cc
 in_turn-equal false false sab sba h k = (refl, refl, h, k)

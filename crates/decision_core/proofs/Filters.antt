@@ -44,7 +44,7 @@ not_itself : (b : Bool) → (b ≡ true → b ≡ false) → b ≡ false
 not_itself true h = h refl
 not_itself false h = refl
 
-irreflexive : {X : Type 0} (lt : X → X → Bool) → IsStrictWeakOrder lt → (x : X) → lt x x ≡ false
+pub irreflexive : {X : Type 0} (lt : X → X → Bool) → IsStrictWeakOrder lt → (x : X) → lt x x ≡ false
 irreflexive lt o x = not_itself (lt x x) (o.one_way x x)
 
 -- ---- a rule and then others, as the code tests it

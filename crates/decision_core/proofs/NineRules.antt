@@ -52,14 +52,14 @@ is_nearer_order =
 abbrev pub on : {K : Type 0} → Rule → K × Rank → K × Rank → Bool
 on rule c d = rule c.1 d.1
 
-on_order : {K : Type 0} (rule : Rule) → IsStrictWeakOrder rule → IsStrictWeakOrder (on {K = K} rule)
+pub on_order : {K : Type 0} (rule : Rule) → IsStrictWeakOrder rule → IsStrictWeakOrder (on {K = K} rule)
 on_order {K} rule o = IsStrictWeakOrder-on (λ (c : K × Rank). c.1) rule o
 
-keep_on : {K : Type 0} (r s : Rule) → IsStrictWeakOrder r → IsStrictWeakOrder s → (cs : List (K × Rank)) → keep (on s) (keep (on r) cs) ≡ keep (on (in_turn r s)) cs
+pub keep_on : {K : Type 0} (r s : Rule) → IsStrictWeakOrder r → IsStrictWeakOrder s → (cs : List (K × Rank)) → keep (on s) (keep (on r) cs) ≡ keep (on (in_turn r s)) cs
 keep_on r s o p cs = keep-keep (on r) (on s) (on_order r o) (on_order s p) cs
 
 -- four rules, one after the other
-keep_four : {K : Type 0} (r s t u : Rule) → IsStrictWeakOrder r → IsStrictWeakOrder s → IsStrictWeakOrder t → IsStrictWeakOrder u → (cs : List (K × Rank)) → keep (on u) (keep (on t) (keep (on s) (keep (on r) cs))) ≡ keep (on (in_turn r (in_turn s (in_turn t u)))) cs
+pub keep_four : {K : Type 0} (r s t u : Rule) → IsStrictWeakOrder r → IsStrictWeakOrder s → IsStrictWeakOrder t → IsStrictWeakOrder u → (cs : List (K × Rank)) → keep (on u) (keep (on t) (keep (on s) (keep (on r) cs))) ≡ keep (on (in_turn r (in_turn s (in_turn t u)))) cs
 keep_four r s t u or os ot ou cs =
     let last = IsStrictWeakOrder-in_turn t u ot ou in
     keep_on t u ot ou (keep (on s) (keep (on r) cs))

@@ -7,7 +7,7 @@ ghost use Rattle.decision_core.specs.Search.{leads as leads_lem, is_nearer as is
 use bgp_types::Rank;
 
 /// Whether the first rank is better by the rules that come before MED, the earlier rule first.
-fn leads(a: &Rank, b: &Rank) -> bool
+pub fn leads(a: &Rank, b: &Rank) -> bool
     ensures { result ≡ leads_lem a.now b.now }
 {
     if a.own != b.own {
@@ -30,7 +30,7 @@ fn has_lower_med(a: &Rank, b: &Rank) -> bool
 }
 
 /// Whether the first rank is better by the rules that come after MED, the earlier rule first.
-fn is_nearer(a: &Rank, b: &Rank) -> bool
+pub fn is_nearer(a: &Rank, b: &Rank) -> bool
     ensures { result ≡ is_nearer_lem a.now b.now }
 {
     if a.external != b.external {
@@ -373,6 +373,93 @@ mod tests {
         for (letters, place) in longer {
             assert_eq!(rt;
                 best(&routes(rt.alloc(), letters)?),
+                Some(place),
+                "{letters}"
+            );
+        }
+        Ok(())
+    }
+
+    /// A route at the greatest or least value of a number.
+    fn route_at_an_end(letter: u8) -> Rank {
+        match letter {
+            b'P' => Rank {
+                pref: u32::MAX,
+                ..WORST
+            },
+            b'Q' => Rank {
+                pref: u32::MAX - 1,
+                path_len: 0,
+                origin: 0,
+                ..BASE
+            },
+            b'S' => Rank {
+                pref: 100,
+                path_len: 0,
+                ..WORST
+            },
+            b'M' => Rank {
+                med: u32::MAX,
+                ..BASE
+            },
+            b'N' => Rank {
+                med: u32::MAX - 1,
+                ..LOW_MED
+            },
+            b'I' => Rank {
+                identifier: u32::MAX,
+                address: 0,
+                ..BASE
+            },
+            b'J' => Rank {
+                identifier: u32::MAX - 1,
+                address: u32::MAX,
+                ..BASE
+            },
+            _ => route(letter),
+        }
+    }
+
+    fn routes_with_ends(alloc: Global, letters: &str) -> Result<Vec<Rank>, AllocError> {
+        let mut list = Vec::new(alloc);
+        for letter in letters.as_bytes() {
+            list.push(route_at_an_end(*letter))?;
+        }
+        Ok(list)
+    }
+
+    #[test]
+    fn chooses_the_next_when_the_best_goes(rt: HostRuntime) -> Result<(), Fail> {
+        let lists = [
+            // one route fewer in each, and then the one that the rules leave of the others
+            ("wxhcba.nlqzmispo", 15),
+            ("wxhcba.nlqzmisp", 14),
+            ("wxhcba.nlqzmis", 13),
+            ("wxhcba.nlqzmi", 12),
+            ("wxhcba.nlqzm", 7),
+            ("wxhcba.lqzm", 9),
+            ("wxhcba.lqm", 9),
+            ("wxhcba.lq", 3),
+            ("wxhba.lq", 3),
+            ("wxha.lq", 3),
+            ("wxh.lq", 3),
+            ("wxhlq", 1),
+            ("whlq", 1),
+            ("wlq", 1),
+            ("wq", 1),
+            // numbers at their ends
+            ("PQ", 0),
+            ("QP", 1),
+            ("Ss", 0),
+            ("sS", 1),
+            ("MN", 1),
+            ("NM", 0),
+            ("IJ", 1),
+            ("JI", 0),
+        ];
+        for (letters, place) in lists {
+            assert_eq!(rt;
+                best(&routes_with_ends(rt.alloc(), letters)?),
                 Some(place),
                 "{letters}"
             );

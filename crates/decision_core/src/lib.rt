@@ -3,4 +3,4 @@
 
 mod choice;
 
-pub use choice::{best, order_matters_only_among_equals};
+pub use choice::{best, is_nearer, leads, order_matters_only_among_equals};

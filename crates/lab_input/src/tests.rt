@@ -168,27 +168,26 @@ fn gives_the_values_of_the_keys(rt: HostRuntime) -> Result<(), Fail> {
     Ok(())
 }
 
-/// So many bytes, in pieces of 4,096.
-fn many(alloc: Global, byte: &str, pieces: usize) -> Result<String, AllocError> {
-    let mut piece = String::new(alloc);
-    for _ in 0..4096 {
-        piece.push_str(byte)?;
+/// The text with newlines behind it, so many bytes in all.
+fn padded(alloc: Global, text: &str, len: usize) -> Result<String, AllocError> {
+    let mut padded = String::from_str(alloc, text)?;
+    for _ in text.len()..len {
+        padded.push_str("\n")?;
     }
-    let mut text = String::new(alloc);
-    for _ in 0..pieces {
-        text.push_str(piece.as_str())?;
-    }
-    Ok(text)
+    Ok(padded)
 }
 
 #[test]
-fn refuses_more_than_four_mebibytes(rt: HostRuntime) -> Result<(), Fail> {
+fn takes_four_mebibytes_and_no_more(rt: HostRuntime) -> Result<(), Fail> {
     let alloc = rt.alloc();
-    let mut text = many(alloc, "\n", 4)?;
-    text.push_str(BASE)?;
-    assert!(rt; read_lab(alloc, text.as_bytes()).is_ok());
-    let mut text = String::from_str(alloc, BASE)?;
-    text.push_str(many(alloc, "\n", MOST_BYTES / 4096)?.as_str())?;
-    assert_eq!(rt; read_lab(alloc, text.as_bytes()).err(), Some(NOT_BUILT));
+    for (text, len, is_taken) in [
+        (BASE, MOST_BYTES, true),
+        (BASE, MOST_BYTES + 1, false),
+        ("", MOST_BYTES, false),
+        ("", MOST_BYTES + 1, false),
+    ] {
+        let text = padded(alloc, text, len)?;
+        assert_eq!(rt; read_lab(alloc, text.as_bytes()).is_ok(), is_taken, "{len}");
+    }
     Ok(())
 }

@@ -10,3 +10,5 @@ pub mod FreshCells
 pub mod News
 pub mod ClockLaws
 pub mod PostLaws
+pub mod Order
+pub mod Drains

@@ -1,5 +1,5 @@
 -- Lists that are read past their end, and lists that begin others.
-use Rattle.std.proofs.Common.{◌≡◌, ◌≤◌, ℕ, zero, suc, List, [], ◌∷◌, ◌++◌, length, get_or, refl, ap, sym, ◌∙◌, arith, append_assoc}
+use Rattle.std.proofs.Common.{◌≡◌, ◌≤◌, ℕ, zero, suc, List, [], ◌∷◌, ◌++◌, length, get_or, take, drop, refl, ap, sym, ◌∙◌, arith, append_assoc}
 use mathlib.Core.List.{IsPrefix}
 
 -- a default at the end changes nothing
@@ -25,3 +25,10 @@ prefix_within (k ∷ ks) (t ∷ ts) ahead p h =
     let tails : ks ++ p.0 ≡ ts ++ ahead = cc p.1 in
     let rest = prefix_within ks ts ahead (p.0, tails) (omega arith) in
     (rest.0, cc (p.1, rest.1))
+
+-- what a vector holds after its slice was written
+pub written_back : {X : Type 0} (n : ℕ) (new old : List X) → n ≡ length old → length new ≡ length old → take n (new ++ drop (length new) old) ≡ new
+written_back n [] [] h k = rw h refl
+written_back n [] (y ∷ ys) h k = absurd (omega arith)
+written_back n (x ∷ xs) [] h k = absurd (omega arith)
+written_back n (x ∷ xs) (y ∷ ys) h k = rw h (ap (λ zs. x ∷ zs) (written_back (length ys) xs ys refl (omega arith)))

@@ -69,9 +69,13 @@ module _ {A I : Type 0} where
     pub boxes : (a b : ℕ) → waits_of (slice_get cells a) b ≡ []
     pub rings : (a b : ℕ) → ring_known (in_end cells a b) ≡ []
 
+-- no edge stands twice
+abbrev pub EachOnce : List (ℕ × ℕ) → Type 0
+EachOnce edges = (i j : ℕ) → i < length edges → j < length edges → slice_index_or edges i (0, 0) ≡ slice_index_or edges j (0, 0) → i ≡ j
+
 -- each edge joins two actors of as many, and no edge stands twice
 pub record AreEdges (count : ℕ) (edges : List (ℕ × ℕ)) : Type 0 where
   pub from : (i : ℕ) → i < length edges → (slice_index_or edges i (0, 0)).0 < count
   pub to : (i : ℕ) → i < length edges → (slice_index_or edges i (0, 0)).1 < count
   pub apart : (i : ℕ) → i < length edges → (slice_index_or edges i (0, 0)).0 ≢ (slice_index_or edges i (0, 0)).1
-  pub once : (i j : ℕ) → i < length edges → j < length edges → slice_index_or edges i (0, 0) ≡ slice_index_or edges j (0, 0) → i ≡ j
+  pub once : EachOnce edges

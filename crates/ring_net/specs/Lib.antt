@@ -4,9 +4,11 @@ pub mod Turns
 pub mod Ends
 pub mod Takes
 pub mod Cells
+pub mod Journals
 pub mod Phases
 pub mod Nets
 pub mod Reads
 pub mod Shown
 pub mod Fresh
 pub mod Clocks
+pub mod Left

@@ -5,6 +5,7 @@ use Rattle.ring_net.specs.declared.entry.JournalEntry.{JournalEntry}
 use Rattle.ring_net.specs.declared.entry.Stamped.{Stamped}
 use Rattle.ring_net.specs.Deeds.{Deed, Noted, Makes, Replay, IsOwn, TakesNone, Counted, entries_of, sent_by, sent_to, taken_from}
 use Rattle.ring_net.specs.Turns.{ActorDid}
+use Rattle.ring_net.specs.Journals.{IsJournal}
 
 -- whether an edge leads from a to b
 abbrev pub is_edge : List (ℕ × ℕ) → ℕ → ℕ → Bool
@@ -41,6 +42,12 @@ pub record CountsAll {A I : Type 0} (v : View A I) (count : ℕ) : Type 0 where
   pub size : length each ≡ length v.actors
   pub lengths : (k : ℕ) → k < length v.actors → slice_index_or each k 0 ≡ length (v.journal k)
   pub total : count ≡ min (sum each) (2 ^ 64 - 1)
+
+-- each actor has a journal, with no clock above the actor's
+pub record InOrder {A I : Type 0} (v : View A I) : Type 0 where
+  pub journals : (k : ℕ) → IsJournal k (v.journal k)
+  pub none : (k : ℕ) → length v.actors ≤ k → v.journal k ≡ []
+  pub clocks : (k : ℕ) → k < length v.actors → AllByRecursion (λ e. e.clock ≤ v.clock k) (v.journal k)
 
 -- each clock stands at this value
 abbrev pub AllAt : {A I : Type 0} → View A I → ℕ → Type 0
@@ -104,3 +111,8 @@ module _ {A P I : Type 0} (part : A → P) (makes : Makes P I) where
     pub channel : (b : ℕ) → old.edge k b ≡ true → new.channel k b ≡ old.channel k b ++ sent_by b deeds
     pub channels : (a b : ℕ) → a ≢ k → new.channel a b ≡ old.channel a b
     pub rings : (a b : ℕ) → new.in_ring a b ≡ old.in_ring a b
+
+  -- In two phases, between which levels and calls at a mark may stand, at least the lesser of 256 and what a channel held before them is taken from it.
+  abbrev pub DrainsInTwo : (took : A → ℕ → I → List (Deed I) → A → Type 0) (turned : A → List (Deed I) → A → Type 0) → Type 0
+  DrainsInTwo took turned = (u v s t : View A I) (first : Phase took turned u v) (second : Phase took turned s t) → ((a b : ℕ) → s.in_ring a b ≡ v.in_ring a b)
+      → (a b : ℕ) → min 256 (length (u.channel a b)) ≤ length (taken_from a (first.notes b)) + length (taken_from a (second.notes b))

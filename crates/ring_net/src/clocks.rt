@@ -1,11 +1,11 @@
 //! Clocks that are levelled, and what an actor does at a mark.
 
-ghost use Rattle.std.specs.Prelude.{◌≡◌, ◌≢◌, ◌≤◌, ◌<◌, ◌+◌, ℕ, length, map, slice_index_or, slice_set, IfOk};
+ghost use Rattle.std.specs.Prelude.{◌≡◌, ◌≢◌, ◌≤◌, ◌<◌, ◌+◌, ℕ, length, map, slice_index_or, slice_set, OnOk, IfOk};
 ghost use Rattle.ring_net.specs.Posts.{clock_of, SameEdges, Pauses};
 ghost use Rattle.ring_net.specs.Cells.{with_clock};
 ghost use Rattle.ring_net.specs.Clocks.{LevelsAll, PausesAt, PausesCell, KeepsEnds};
 ghost use Rattle.ring_net.specs.Nets.{IsNet, view_of};
-ghost use Rattle.ring_net.specs.Phases.{Levelled, Between};
+ghost use Rattle.ring_net.specs.Phases.{InOrder, Levelled, Between};
 
 use crate::actor::Actor;
 use crate::cell::Cell;
@@ -55,6 +55,7 @@ pub(crate) fn level_all<A: Actor>(cells: &mut [Cell<A>], edges: &[(u16, u16)])
     requires some { 0 < length cells.old }
     requires net { IsNet cells.old edges.now }
     ensures net { IsNet cells.new edges.now }
+    ensures order { InOrder (view_of cells.old edges.now) → InOrder (view_of cells.new edges.now) }
     ensures level { Levelled (view_of cells.old edges.now) (view_of cells.new edges.now) }
 {
     let _edges = edges;
@@ -71,6 +72,7 @@ pub(crate) fn pause_all<A: Actor>(
     requires within { k < length cells.old }
     requires net { IsNet cells.old edges.now }
     ensures net { IsNet cells.new edges.now }
+    ensures order { OnOk result (InOrder (view_of cells.old edges.now) → InOrder (view_of cells.new edges.now)) }
     ensures pauses { IfOk result (Between A.part A.makes A.paused k (view_of cells.old edges.now) (view_of cells.new edges.now)) }
 {
     let _edges = edges;

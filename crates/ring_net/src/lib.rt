@@ -8,6 +8,8 @@ mod cell;
 mod clocks;
 mod edges;
 mod entry;
+mod finish;
+mod laws;
 mod looks;
 mod net;
 mod parts;
@@ -15,8 +17,9 @@ mod post;
 
 pub use actor::Actor;
 pub use entry::{JournalEntry, Stamp, Stamped};
+pub use laws::two_phases_drain;
 pub use net::Net;
-pub use parts::{Actors, Journal, Left, Lefts, Mark, Marks};
+pub use parts::{Actors, Journal, Journals, Left, Lefts, Mark, Marks, Parts};
 pub use post::Post;
 
 #[cfg(test)]

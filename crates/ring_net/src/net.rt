@@ -1,12 +1,15 @@
 //! The net: cells and the edges between them, turned in phases.
 
-ghost use Rattle.std.specs.Prelude.{◌≡◌, ◌≤◌, ◌<◌, ◌+◌, ◌++◌, ℕ, length, map, slice_index_or, slice_get, IfOk};
+ghost use Rattle.std.specs.Prelude.{◌≡◌, ◌≤◌, ◌<◌, ◌+◌, ◌++◌, ℕ, false, length, map, slice_index_or, slice_get, IfOk};
 ghost use Rattle.ring_net.specs.Posts.{entries_in};
 ghost use Rattle.std.specs.Bool.{OnTrue};
 ghost use Rattle.std.specs.List.{list_any};
 ghost use Rattle.ring_net.specs.declared.cell.Cell.{Cell};
 ghost use Rattle.ring_net.specs.Cells.{CellTurned};
-ghost use Rattle.ring_net.specs.Phases.{Phase};
+ghost use Rattle.ring_net.specs.Phases.{Phase, InOrder};
+ghost use Rattle.ring_net.specs.Fresh.{EachOnce};
+ghost use Rattle.ring_net.specs.Journals.{ClocksRise-prop};
+ghost use Rattle.std.proofs.Props.{props};
 ghost use Rattle.ring_net.specs.Nets.{IsNet, view_of};
 
 use crate::actor::Actor;
@@ -14,8 +17,9 @@ use crate::build::fresh_cells;
 use crate::cell::{Cell, turn};
 use crate::clocks::{level_all, pause_all};
 use crate::edges::read_all;
+use crate::finish::{drain_all, split};
 use crate::looks::{channel_count, entry_count, lengths};
-use crate::parts::{Actors, Marks};
+use crate::parts::{Actors, Journals, Marks, Parts};
 use graft_edge::{Gate, Items, NoMemory};
 use std::alloc::Global;
 use std::thread;
@@ -67,7 +71,9 @@ where
     A::Item: Send,
     requires workers { 0 < workers }
     requires net { IsNet cells.old edges.now }
+    requires order { InOrder (view_of cells.old edges.now) }
     ensures net { IsNet cells.new edges.now }
+    ensures order { OnTrue result (InOrder (view_of cells.new edges.now)) }
     ensures phase { OnTrue result (Phase A.part A.makes A.took A.turned (view_of cells.old edges.now) (view_of cells.new edges.now)) }
 {
     turn_all(rt, cells, workers, gate);
@@ -89,13 +95,16 @@ pub struct Net<A: Actor> {
     has_failed: bool,
     ghost sound: { IsNet cells.items edges.items },
     ghost some: { 0 < length cells.items },
+    ghost once: { EachOnce edges.items },
+    ghost ordered: { has_failed ≡ false → InOrder (view_of cells.items edges.items) } by { Prim.hlevel (props, ClocksRise-prop) },
 }
 
 impl<A: Actor> Net<A> {
     ghost use Rattle.std.specs.Prelude.{◌≡◌, ◌≤◌, ◌<◌, ◌+◌, ◌++◌, ◌∷◌, [], ℕ, true, false, length, map, OnOk, OnErr, IsErr, IfOk, slice_get, Some};
     ghost use Rattle.ring_net.specs.Shown.{view, marks, edge_list, has_failed};
-    ghost use Rattle.ring_net.specs.Phases.{IsNew, Marked, CountsAll, Levelled, Between, Phase};
+    ghost use Rattle.ring_net.specs.Phases.{IsNew, InOrder, Marked, CountsAll, Levelled, Between, Phase};
     ghost use Rattle.ring_net.specs.Fresh.{AreEdges};
+    ghost use Rattle.ring_net.specs.Left.{HasJournals, left_of};
 
     /// The net of these actors, numbered from 0, with an edge for each pair of a sender and a receiver.
     /// Its memory grows with the square of the number of actors. The marks begin with one in which
@@ -170,6 +179,7 @@ impl<A: Actor> Net<A> {
     /// Sets every clock to the greatest one.
     pub fn level(&mut self)
         ensures level { Levelled (view self.old) (view self.new) }
+        ensures order { has_failed self.old ≡ false → InOrder (view self.new) }
         ensures marks { marks self.new ≡ marks self.old }
         ensures same { (edge_list self.new ≡ edge_list self.old) × (has_failed self.new ≡ has_failed self.old) }
     {
@@ -181,6 +191,7 @@ impl<A: Actor> Net<A> {
     pub fn between(&mut self, k: usize) -> Result<bool, NoMemory>
         requires { k < length (view self.old).actors }
         ensures between { IfOk result (Between A.part A.makes A.paused k (view self.old) (view self.new)) }
+        ensures order { OnOk result (has_failed self.old ≡ false → InOrder (view self.new)) }
         ensures failed { OnErr result (has_failed self.new ≡ true) }
         ensures marks { marks self.new ≡ marks self.old }
         ensures same { edge_list self.new ≡ edge_list self.old }
@@ -215,5 +226,35 @@ impl<A: Actor> Net<A> {
         ensures { slice_get (view self.now).actors k ≡ Some result.now }
     {
         &self.cells[k].actor
+    }
+
+    /// What the net leaves: the actors, their journals and the marks, and for each edge the items that
+    /// are left in its channel, those of the ring first. A net that has failed answers want of memory.
+    /// After want of memory the net is gone.
+    pub fn finish(self) -> Result<Parts<A>, NoMemory>
+        ensures actors { IfOk result (λ parts. parts.actors ≡ (view self).actors) }
+        ensures journals { IfOk result (λ parts. HasJournals (view self) parts.journals) }
+        ensures marks { IfOk result (λ parts. parts.marks ≡ marks self) }
+        ensures left { IfOk result (λ parts. parts.left ≡ left_of (view self) (edge_list self)) }
+        ensures failed { has_failed self ≡ true → IsErr result }
+    {
+        let Net {
+            mut cells,
+            edges,
+            marks,
+            has_failed,
+        } = self;
+        if has_failed {
+            return Err(NoMemory);
+        }
+        let alloc = *cells.allocator();
+        let left = drain_all(alloc, cells.as_mut_slice(), edges.as_slice())?;
+        let (actors, journals) = split(alloc, cells)?;
+        Ok(Parts {
+            actors,
+            journals: Journals::from_items(journals),
+            marks,
+            left,
+        })
     }
 }

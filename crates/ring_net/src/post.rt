@@ -5,7 +5,8 @@ ghost use Rattle.std.specs.List.{list_any};
 ghost use Rattle.ring_net.specs.Posts.{actor_of, clock_of, entries_in, has_edge, waits, Notes, Sends, Wrote, SameEdges};
 
 use crate::entry::{JournalEntry, Stamp, Stamped};
-use graft_edge::NoMemory;
+use crate::parts::Journal;
+use graft_edge::{Items, NoMemory};
 use std::alloc::Global;
 use std::collections::VecDeque;
 
@@ -91,6 +92,14 @@ impl<I: Drop> Post<I> {
         ensures { result.now ≡ entries_in self.now }
     {
         self.entries.as_slice()
+    }
+
+    /// The entries alone. It takes no memory.
+    pub(crate) fn into_journal(self) -> Journal
+        ensures { result ≡ entries_in self }
+    {
+        let Post { entries, .. } = self;
+        Items::from_vec(entries)
     }
 
     /// Takes the head of the outbox for this receiver. There is none exactly where that outbox is empty

@@ -3,7 +3,7 @@
 ghost use Rattle.std.specs.Prelude.{ℕ, ◌≡◌, ◌+◌, ◌∷◌, [], Option, OnOk};
 ghost use Rattle.ring_net.specs.Posts.{actor_of, clock_of, Wrote, SameEdges};
 
-use crate::{Actor, Net, Post, Stamp};
+use crate::{Actor, Net, Parts, Post, Stamp};
 use graft_edge::{FreeGate, Gate, Items, NoMemory};
 use std::alloc::Global;
 use std::sync::atomic::{AtomicU64, Ordering};
@@ -105,17 +105,19 @@ fn an_outbox_drains_by_256(rt: HostRuntime) -> Result<(), Fail> {
     Ok(())
 }
 
-/// Holds the first actor until the second has passed, or the other way, for so many looks at most.
+/// Holds one actor until another one has passed, for so many looks at most.
 #[derive(Drop)]
 struct Hold {
     held: usize,
+    until: usize,
     passed: AtomicU64,
     missed: AtomicU64,
 }
 
-fn make_hold(held: usize) -> Hold {
+fn make_hold(held: usize, until: usize) -> Hold {
     Hold {
         held,
+        until,
         passed: AtomicU64::new(0),
         missed: AtomicU64::new(0),
     }
@@ -123,8 +125,10 @@ fn make_hold(held: usize) -> Hold {
 
 impl Gate for Hold {
     fn pass(&self, actor: usize) {
-        if actor != self.held {
+        if actor == self.until {
             self.passed.store(1, Ordering::SeqCst);
+        }
+        if actor != self.held {
             return;
         }
         for _ in 0..100_000_000u32 {
@@ -136,13 +140,28 @@ impl Gate for Hold {
     }
 }
 
-/// Two workers run at the same time: the first actor waits at the gate for the second one.
+/// Four toys, of which the first and the third send one item to one another.
+fn four(alloc: Global) -> Result<Net<Toy>, NoMemory> {
+    let mut actors = Items::new(alloc);
+    actors.push(make_toy(2, 1))?;
+    actors.push(make_toy(9, 0))?;
+    actors.push(make_toy(0, 1))?;
+    actors.push(make_toy(9, 0))?;
+    Net::build(alloc, actors, &[(0, 2), (2, 0)])
+}
+
+/// Two workers run at the same time: one of them is held until the other has gone past an actor that
+/// sends. What that actor pushed is taken in the same phase, in either direction.
 #[test]
-fn two_workers_meet(rt: HostRuntime) -> Result<(), Fail> {
-    let mut net = pair(rt.alloc(), 10)?;
-    let gate = make_hold(0);
-    net.phase(&rt, 2, &gate)?;
-    assert_eq!(rt; gate.missed.load(Ordering::SeqCst), 0);
+fn two_workers_hand_over(rt: HostRuntime) -> Result<(), Fail> {
+    for (held, until) in [(0usize, 3usize), (2, 1)] {
+        let mut net = four(rt.alloc())?;
+        let gate = make_hold(held, until);
+        net.phase(&rt, 2, &gate)?;
+        assert_eq!(rt; gate.missed.load(Ordering::SeqCst), 0);
+        assert_eq!(rt; net.in_flight(until - 1, held), 0);
+        assert_eq!(rt; net.events(), 3);
+    }
     Ok(())
 }
 
@@ -181,5 +200,35 @@ fn a_post_keeps_what_was_sent(rt: HostRuntime) -> Result<(), Fail> {
         sent.as_slice(),
         [(Stamp(8), 50), (Stamp(10), 51)].as_slice()
     );
+    Ok(())
+}
+
+/// A net leaves its actors, journals and marks, and the items of each channel in their order.
+#[test]
+fn a_net_leaves_its_parts(rt: HostRuntime) -> Result<(), Fail> {
+    let mut net = pair(rt.alloc(), 300)?;
+    net.phase(&rt, 1, &FreeGate)?;
+    net.mark()?;
+    let Parts {
+        actors,
+        journals,
+        marks,
+        left,
+    } = net.finish()?;
+    assert_eq!(rt; actors.len(), 2);
+    let lengths: [u64; 2] = [0, 300];
+    for (journal, mark) in journals.as_slice().iter().zip(&lengths) {
+        assert_eq!(rt; journal.len() as u64, *mark);
+    }
+    assert_eq!(rt; marks.len(), 2);
+    assert_eq!(rt; left.len(), 2);
+    let mut next = 0u32;
+    for channel in left.as_slice() {
+        for item in channel.items.as_slice() {
+            assert_eq!(rt; *item, next);
+            next = next.saturating_add(1);
+        }
+    }
+    assert_eq!(rt; next, 300);
     Ok(())
 }

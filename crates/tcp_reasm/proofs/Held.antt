@@ -1,5 +1,5 @@
 -- What lists of pieces hold.
-use Rattle.std.proofs.Common.{◌≡◌, ℕ, zero, suc, ◌+◌, ◌-◌, ◌<◌, ◌≤◌, List, [], ◌∷◌, ◌++◌, length, take, Some, None, refl, sym, ap, ◌∙◌, arith, get_or}
+use Rattle.std.proofs.Common.{◌≡◌, ℕ, zero, suc, ◌+◌, ◌-◌, ◌<◌, ◌≤◌, List, [], ◌∷◌, ◌++◌, length, take, drop, Some, None, refl, sym, ap, ◌∙◌, arith, get_or}
 use Rattle.std.specs.Prelude.{if◌then◌else◌}
 use Rattle.std.proofs.lemmas.Bool.{lt-ltb, le-ltb}
 use Rattle.std.proofs.lemmas.Option.{slice_get_past, slice_get-get_or}
@@ -29,17 +29,22 @@ pub held_below : (low : ℕ) (ps : List Piece) (k : ℕ) → AreRuns low ps → 
 held_below low [] k runs below = refl
 held_below low (p ∷ ps) k runs below =
     ap (λ o. option_or o (held ps k)) (byte_below p.place p.bytes k (omega (arith, runs.0, below)))
-    ∙ held_below (p.place + length p.bytes + 1) ps k runs.3 (omega (arith, runs.0, below))
+    ∙ held_below (p.place + length p.bytes) ps k runs.3 (omega (arith, runs.0, below))
 
 pub runs-take : (low n : ℕ) (ps : List Piece) → AreRuns low ps → AreRuns low (take n ps)
 runs-take low zero ps runs = tt
 runs-take low (suc n) [] runs = tt
-runs-take low (suc n) (p ∷ ps) runs = (runs.0, runs.1, runs.2, runs-take (p.place + length p.bytes + 1) n ps runs.3)
+runs-take low (suc n) (p ∷ ps) runs = (runs.0, runs.1, runs.2, runs-take (p.place + length p.bytes) n ps runs.3)
 
 -- a lower bound
 pub runs_from : (low high : ℕ) (ps : List Piece) → low ≤ high → AreRuns high ps → AreRuns low ps
 runs_from low high [] le runs = tt
 runs_from low high (p ∷ ps) le runs = (omega (arith, runs.0, le), runs.1, runs.2, runs.3)
+
+pub runs-drop : (low n : ℕ) (ps : List Piece) → AreRuns low ps → AreRuns low (drop n ps)
+runs-drop low zero ps runs = runs
+runs-drop low (suc n) [] runs = tt
+runs-drop low (suc n) (p ∷ ps) runs = runs_from low (p.place + length p.bytes) (drop n ps) (omega (arith, runs.0)) (runs-drop (p.place + length p.bytes) n ps runs.3)
 
 -- what a piece holds where it stands in front
 pub held_here : (p : Piece) (ps : List Piece) (k : ℕ) → p.place ≤ k → k < p.place + length p.bytes → held (p ∷ ps) k ≡ Some (get_or p.bytes (k - p.place) 0)

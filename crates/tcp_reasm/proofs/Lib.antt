@@ -1,6 +1,7 @@
 pub mod Lookups
 pub mod Held
-pub mod Filled
-pub mod Spliced
+pub mod Counts
+pub mod Missing
+pub mod Placed
 pub mod Ready
 pub mod Covered

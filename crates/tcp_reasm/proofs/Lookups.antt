@@ -1,5 +1,5 @@
 -- Look-ups in lists that are cut and joined, and in one option or another.
-use Rattle.std.proofs.Common.{◌≡◌, ℕ, zero, suc, ◌+◌, ◌-◌, ◌<◌, ◌≤◌, List, [], ◌∷◌, ◌++◌, length, take, drop, set, Option, Some, None, refl, sym, ap, ◌∙◌, arith, ◌⊎◌, inl, inr}
+use Rattle.std.proofs.Common.{◌≡◌, ℕ, zero, suc, ◌+◌, ◌<◌, List, [], ◌∷◌, ◌++◌, length, take, drop, Option, Some, None, refl, sym, ap, ◌∙◌, arith, ◌⊎◌, inl, inr}
 use Rattle.std.specs.List.{slice_get}
 use Rattle.std.specs.Option.{option_or}
 
@@ -38,17 +38,3 @@ pub or_swap : {X : Type 0} (a b c : Option X) → (b ≡ None) ⊎ (c ≡ None) 
 or_swap (Some x) b c apart = refl
 or_swap None b c (inl e) = ap (λ o. option_or o c) e ∙ sym (ap (option_or c) e ∙ or_none c)
 or_swap None b c (inr e) = (ap (option_or b) e ∙ or_none b) ∙ sym (ap (λ o. option_or o b) e)
-
--- one in the place of the last that was taken
-pub set-take : {X : Type 0} (i : ℕ) (xs ys : List X) (x : X) → i < length xs → set (take (suc i) xs ++ ys) i x ≡ take i xs ++ (x ∷ ys)
-set-take i [] ys x below = absurd (omega (arith, below))
-set-take zero (y ∷ xs) ys x below = refl
-set-take (suc i) (y ∷ xs) ys x below = ap (λ zs. y ∷ zs) (set-take i xs ys x (omega (arith, below)))
-
--- one in the place of some
-pub set_in_place : {X : Type 0} (from count : ℕ) (xs between : List X) (x : X) → 0 < count → from + count ≤ length xs → between ≡ take (from + 1) xs ++ drop (from + 1 + (count - 1)) xs
-    → set between from x ≡ take from xs ++ (x ∷ drop (from + count) xs)
-set_in_place from count xs between x some within is =
-    let next : from + 1 ≡ suc from = omega arith in
-    let last : from + 1 + (count - 1) ≡ from + count = omega (arith, some) in
-    ap (λ zs. set zs from x) (is ∙ ap (λ n. take (from + 1) xs ++ drop n xs) last ∙ ap (λ n. take n xs ++ drop (from + count) xs) next) ∙ set-take from xs (drop (from + count) xs) x (omega (arith, within, some))

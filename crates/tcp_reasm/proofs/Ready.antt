@@ -1,22 +1,24 @@
 -- What is taken from the front of a list of pieces.
-use Rattle.std.proofs.Common.{◌≡◌, ℕ, ◌+◌, ◌-◌, ◌^◌, ◌<◌, ◌≤◌, true, false, List, [], ◌∷◌, ◌++◌, length, take, drop, None, refl, sym, ap, subst, ◌∙◌, arith, inl, inr, append-nil, get_or, set}
+use Rattle.std.proofs.Common.{◌≡◌, ℕ, zero, suc, ◌+◌, ◌-◌, ◌<◌, ◌≤◌, List, [], ◌∷◌, ◌++◌, length, take, drop, None, refl, sym, ap, subst, ◌∙◌, arith, inl, inr, get_or, set, eq-eqb, length-append}
+use Rattle.std.specs.Prelude.{if◌then◌else◌}
 use Rattle.std.proofs.lemmas.List.Edits.{map_over_more}
-use Rattle.std.proofs.lemmas.Bool.{cases_lt, eqb-false, eqb-true}
+use Rattle.std.proofs.lemmas.Bool.{cases_lt, ne_eqb}
+use Rattle.std.proofs.lemmas.Option.{slice_get-get_or}
 use Rattle.std.specs.List.{slice_get}
 use Rattle.std.specs.Option.{option_or}
 use Rattle.tcp_seq.specs.Numbers.{plus}
 use Rattle.tcp_seq.specs.declared.state.Piece.{Piece}
 use Rattle.tcp_reasm.specs.Runs.{byte_from, held, AreRuns}
-use Rattle.tcp_reasm.specs.Joined.{lowered, begins_at_start}
-use Rattle.tcp_reasm.specs.Reassembly.{Reassembly, TakesReady}
-use Rattle.tcp_reasm.proofs.Held.{byte_there, byte_below, held_below, runs_from, held_later}
-use Rattle.tcp_reasm.proofs.Lookups.{or_none}
+use Rattle.tcp_reasm.specs.Steps.{in_order, bytes_of, lowered}
+use Rattle.tcp_reasm.specs.Reassembly.{TakesReady}
+use Rattle.tcp_reasm.proofs.Held.{byte_there, byte_below, held_below, runs_from, held_here, held_later}
+use Rattle.tcp_reasm.proofs.Lookups.{get-append_left, get-append_right}
 
 pub runs-lowered : (by low : ℕ) (ps : List Piece) → AreRuns (by + low) ps → AreRuns low (lowered by ps)
 runs-lowered by low [] runs = tt
 runs-lowered by low (p ∷ ps) runs =
-    let next : p.place + length p.bytes + 1 ≡ by + (p.place - by + length p.bytes + 1) = omega (arith, runs.0) in
-    (omega (arith, runs.0), runs.1, omega (arith, runs.2, runs.0), runs-lowered by (p.place - by + length p.bytes + 1) ps (subst (λ (n : ℕ). AreRuns n ps) next runs.3))
+    let next : p.place + length p.bytes ≡ by + (p.place - by + length p.bytes) = omega (arith, runs.0) in
+    (omega (arith, runs.0), runs.1, omega (arith, runs.2, runs.0), runs-lowered by (p.place - by + length p.bytes) ps (subst (λ (n : ℕ). AreRuns n ps) next runs.3))
 
 byte_lowered : (by place : ℕ) (bytes : List ℕ) (k : ℕ) → by ≤ place → byte_from (place - by) bytes k ≡ byte_from place bytes (by + k)
 byte_lowered by place bytes k le = elim (cases_lt k (place - by)) [
@@ -28,56 +30,87 @@ held-lowered : (by : ℕ) (ps : List Piece) (k : ℕ) → AreRuns by ps → held
 held-lowered by [] k runs = refl
 held-lowered by (p ∷ ps) k runs =
     ap (λ o. option_or o (held (lowered by ps) k)) (byte_lowered by p.place p.bytes k runs.0)
-    ∙ ap (option_or (byte_from p.place p.bytes (by + k))) (held-lowered by ps k (runs_from by (p.place + length p.bytes + 1) ps (omega (arith, runs.0)) runs.3))
+    ∙ ap (option_or (byte_from p.place p.bytes (by + k))) (held-lowered by ps k (runs_from by (p.place + length p.bytes) ps (omega (arith, runs.0)) runs.3))
 
--- the bytes of a piece that stands at the front
-takes_piece : (next after : ℕ) (p : Piece) (rest : List Piece) (out : List ℕ) → AreRuns 0 (p ∷ rest) → p.place ≡ 0 → after ≡ plus next (length p.bytes)
-    → TakesReady (record { next = next; pieces = p ∷ rest }) (record { next = after; pieces = lowered (length p.bytes) rest }) out (out ++ p.bytes) (length p.bytes)
-takes_piece next after p rest out runs first moves =
-    let end : p.place + length p.bytes ≡ length p.bytes = omega (arith, first) in
-    let above : AreRuns (length p.bytes + 1) rest = subst (λ (n : ℕ). AreRuns (n + 1) rest) end runs.3 in
+-- the first pieces have no more bytes than the window has places
+pub bytes_fit : (at n : ℕ) (ps : List Piece) → at ≤ 16384 → AreRuns at ps → at + length (bytes_of (take n ps)) ≤ 16384
+bytes_fit at zero ps fits runs = omega (arith, fits)
+bytes_fit at (suc n) [] fits runs = omega (arith, fits)
+bytes_fit at (suc n) (p ∷ ps) fits runs = omega (arith, length-append p.bytes (bytes_of (take n ps)), bytes_fit (p.place + length p.bytes) n ps runs.2 runs.3, runs.0)
+
+-- the first n pieces stand one behind the other from `at` on, and no byte stands behind them
+pub record InOrder (at : ℕ) (ps : List Piece) (n : ℕ) : Type 0 where
+  pub each : (k : ℕ) → at ≤ k → k < at + length (bytes_of (take n ps)) → held ps k ≡ slice_get (bytes_of (take n ps)) (k - at)
+  pub ends : held ps (at + length (bytes_of (take n ps))) ≡ None
+  pub behind : (k : ℕ) → at + length (bytes_of (take n ps)) ≤ k → held ps k ≡ held (drop n ps) k
+  pub runs : AreRuns (at + length (bytes_of (take n ps))) (drop n ps)
+
+-- a hole
+stops : (at : ℕ) (ps : List Piece) → AreRuns at ps → held ps at ≡ None → InOrder at ps 0
+stops at ps runs none =
+    let here : at + 0 ≡ at = omega arith in
     record {
-      given = p.bytes;
-      counted = refl;
-      appended = refl;
-      each = λ k below.
-          let here : byte_from p.place p.bytes k ≡ slice_get p.bytes k = byte_there p.place p.bytes k (omega (arith, first)) ∙ ap (slice_get p.bytes) (let e : k - p.place ≡ k = omega (arith, first) in e) in
-          let none : held rest k ≡ None = held_below (length p.bytes + 1) rest k above (omega (arith, below)) in
-          ap (λ o. option_or (byte_from p.place p.bytes k) o) none ∙ or_none (byte_from p.place p.bytes k) ∙ here;
-      ends = held_later p rest (length p.bytes) (omega (arith, end)) ∙ held_below (length p.bytes + 1) rest (length p.bytes) above (omega arith);
-      next = moves;
-      ahead = λ k. held-lowered (length p.bytes) rest k (runs_from (length p.bytes) (length p.bytes + 1) rest (omega arith) above) ∙ sym (held_later p rest (length p.bytes + k) (omega (arith, end)));
+      each = λ k from below. absurd (omega (arith, from, below));
+      ends = ap (held ps) here ∙ none;
+      behind = λ k past. refl;
+      runs = subst (λ (n : ℕ). AreRuns n ps) (sym here) runs;
     }
 
-pub takes_first_piece : (next after : ℕ) (ps left : List Piece) (p : Piece) (out out' : List ℕ) (count : ℕ) → AreRuns 0 ps → begins_at_start ps ≡ true → ps ≡ p ∷ drop 1 ps → left ≡ lowered (length p.bytes) (drop 1 ps) → after ≡ plus next (length p.bytes)
-    → out' ≡ out ++ p.bytes → count ≡ length p.bytes → TakesReady (record { next = next; pieces = ps }) (record { next = after; pieces = left }) out out' count
-takes_first_piece next after ps left p out out' count runs begins cut lowers moves appends counts =
-    let front : AreRuns 0 (p ∷ drop 1 ps) = subst (AreRuns 0) cut runs in
-    let first : p.place ≡ 0 = eqb-true p.place 0 (subst (λ (qs : List Piece). begins_at_start qs ≡ true) cut begins) in
-    rw (counts, appends, lowers) (subst (λ (qs : List Piece). TakesReady (record { next = next; pieces = qs }) (record { next = after; pieces = lowered (length p.bytes) (drop 1 ps) }) out (out ++ p.bytes) (length p.bytes)) (sym cut)
-    (takes_piece next after p (drop 1 ps) out front first moves))
+-- one more piece
+goes_on : (at : ℕ) (p : Piece) (ps : List Piece) (n : ℕ) → p.place ≡ at → 0 < length p.bytes → AreRuns (p.place + length p.bytes) ps → InOrder (at + length p.bytes) ps n → InOrder at (p ∷ ps) (suc n)
+goes_on at p ps n is some runs more =
+    let rest = bytes_of (take n ps) in
+    let end : at + length (p.bytes ++ rest) ≡ at + length p.bytes + length rest = omega (arith, length-append p.bytes rest) in
+    record {
+      each = λ k from below. elim (cases_lt k (at + length p.bytes)) [
+        | inl inside ↦ held_here p ps k (omega (arith, is, from)) (omega (arith, is, inside))
+            ∙ sym (slice_get-get_or p.bytes (k - p.place) 0 (omega (arith, is, from, inside)))
+            ∙ sym (get-append_left p.bytes rest (k - p.place) (omega (arith, is, from, inside)))
+            ∙ ap (slice_get (p.bytes ++ rest)) (let e : k - p.place ≡ k - at = omega (arith, is) in e)
+        | inr beyond ↦ held_later p ps k (omega (arith, is, beyond)) ∙ more.each k beyond (omega (arith, end, below))
+            ∙ sym (get-append_right p.bytes rest (k - at) (k - (at + length p.bytes)) (omega (arith, beyond)))
+      ];
+      ends = ap (held (p ∷ ps)) end ∙ held_later p ps (at + length p.bytes + length rest) (omega (arith, is)) ∙ more.ends;
+      behind = λ k past. held_later p ps k (omega (arith, is, past, end)) ∙ more.behind k (omega (arith, past, end));
+      runs = subst (λ (m : ℕ). AreRuns m (drop n ps)) (sym end) more.runs;
+    }
 
-pub runs_left : (ps left : List Piece) (p : Piece) → AreRuns 0 ps → ps ≡ p ∷ drop 1 ps → left ≡ lowered (length p.bytes) (drop 1 ps) → begins_at_start ps ≡ true → AreRuns 0 left
-runs_left ps left p runs cut lowers begins =
-    let front : AreRuns 0 (p ∷ drop 1 ps) = subst (AreRuns 0) cut runs in
-    rw lowers (runs-lowered (length p.bytes) 0 (drop 1 ps) (runs_from (length p.bytes + 0) (p.place + length p.bytes + 1) (drop 1 ps) (omega arith) front.3))
+pub are_in_order : (at : ℕ) (ps : List Piece) → AreRuns at ps → InOrder at ps (in_order at ps)
+are_in_order at [] runs = stops at [] tt refl
+are_in_order at (p ∷ ps) runs = elim (cases_lt at p.place) [
+  | inl above ↦
+      subst (λ b. InOrder at (p ∷ ps) (if b then suc (in_order (at + length p.bytes) ps) else 0)) (sym (ne_eqb p.place at (λ e. omega (arith, above, e))))
+      (stops at (p ∷ ps) runs (held_below p.place (p ∷ ps) at (omega arith, runs.1, runs.2, runs.3) above))
+  | inr le ↦
+      let is : p.place ≡ at = omega (arith, le, runs.0) in
+      let end : p.place + length p.bytes ≡ at + length p.bytes = omega (arith, is) in
+      subst (λ b. InOrder at (p ∷ ps) (if b then suc (in_order (at + length p.bytes) ps) else 0)) (sym (eq-eqb p.place at is))
+      (goes_on at p ps (in_order (at + length p.bytes) ps) is runs.1 runs.3
+      (are_in_order (at + length p.bytes) ps (subst (λ (n : ℕ). AreRuns n ps) end runs.3)))
+]
 
-none_at_start : (ps : List Piece) → AreRuns 0 ps → begins_at_start ps ≡ false → held ps 0 ≡ None
-none_at_start [] runs begins = refl
-none_at_start (p ∷ ps) runs begins =
-    let above : 0 < p.place = omega (arith, eqb-false p.place 0 begins) in
-    held_below p.place (p ∷ ps) 0 (omega arith, runs.1, runs.2, runs.3) above
+-- the pieces that are taken
+pub takes_ready : (next after : ℕ) (ps left : List Piece) (out out' : List ℕ) (count len : ℕ) → AreRuns 0 ps → count ≡ in_order 0 ps → len ≡ length (bytes_of (take count ps)) → out' ≡ out ++ bytes_of (take count ps)
+    → left ≡ lowered len (drop count ps) → after ≡ plus next len → TakesReady (record { next = next; pieces = ps }) (record { next = after; pieces = left }) out out' len
+takes_ready next after ps left out out' count len runs counts lens appends lowers moves =
+    let all : InOrder 0 ps count = subst (InOrder 0 ps) (sym counts) (are_in_order 0 ps runs) in
+    let end : 0 + length (bytes_of (take count ps)) ≡ len = omega (arith, lens) in
+    let above : AreRuns len (drop count ps) = subst (λ (n : ℕ). AreRuns n (drop count ps)) end all.runs in
+    record {
+      given = bytes_of (take count ps);
+      counted = sym lens;
+      appended = appends;
+      each = λ k below. all.each k (omega arith) (omega (arith, below, end)) ∙ ap (slice_get (bytes_of (take count ps))) (let e : k - 0 ≡ k = omega arith in e);
+      ends = ap (held ps) (sym end) ∙ all.ends;
+      next = moves;
+      ahead = λ k. ap (λ qs. held qs k) lowers ∙ held-lowered len (drop count ps) k above ∙ sym (all.behind (len + k) (omega (arith, end)));
+    }
 
-pub takes_nothing : (r : Reassembly) (out : List ℕ) → AreRuns 0 r.pieces → r.next < 2 ^ 32 → begins_at_start r.pieces ≡ false → TakesReady r r out out 0
-takes_nothing r out runs fits begins = record {
-  given = [];
-  counted = refl;
-  appended = sym (append-nil out);
-  each = λ k below. absurd (omega (arith, below));
-  ends = none_at_start r.pieces runs begins;
-  next = omega (arith, fits);
-  ahead = λ k. ap (held r.pieces) (let e : k ≡ 0 + k = omega arith in e);
-}
+pub runs_left : (ps left : List Piece) (count len : ℕ) → AreRuns 0 ps → count ≡ in_order 0 ps → len ≡ length (bytes_of (take count ps)) → left ≡ lowered len (drop count ps) → AreRuns 0 left
+runs_left ps left count len runs counts lens lowers =
+    let all : InOrder 0 ps count = subst (InOrder 0 ps) (sym counts) (are_in_order 0 ps runs) in
+    let end : 0 + length (bytes_of (take count ps)) ≡ len + 0 = omega (arith, lens) in
+    rw lowers (runs-lowered len 0 (drop count ps) (subst (λ (n : ℕ). AreRuns n (drop count ps)) end all.runs))
 
 -- one more piece is counted from later
 pub lowered_more : (by : ℕ) (xs ys : List Piece) (i : ℕ) (x : Piece) (place : ℕ) → i < length xs → ys ≡ lowered by (take i xs) ++ drop i xs → x ≡ get_or ys i x → place ≡ (get_or ys i x).place - by
@@ -86,7 +119,3 @@ lowered_more by xs ys i x place below is read moves =
     let f : Piece → Piece = λ p. record p { place = p.place - by } in
     let same : record { place = place; bytes = (get_or ys i x).bytes } ≡ f x = rw (moves, ← read) refl in
     ap (set ys i) same ∙ map_over_more f xs ys i x below is read
-
--- what is read at the front is the first piece
-pub read_first : (ps : List Piece) (p q : Piece) → ps ≡ p ∷ drop 1 ps → q ≡ get_or ps 0 q → q ≡ p
-read_first ps p q cut read = read ∙ ap (λ zs. get_or zs 0 q) cut

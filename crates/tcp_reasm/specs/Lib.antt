@@ -1,3 +1,3 @@
 pub mod Runs
-pub mod Joined
+pub mod Steps
 pub mod Reassembly

@@ -12,9 +12,9 @@ abbrev pub held : List Piece → ℕ → Option ℕ
 held [] k = None
 held (p ∷ ps) k = option_or (byte_from p.place p.bytes k) (held ps k)
 
--- The pieces are the runs of bytes without a gap, in rising order: none is empty, each begins at `low` or above, above the end of
--- the one before it, and ends in a window of 16,384.
+-- The pieces stand in rising order, none overlapping another: none is empty, each begins at `low` or above, at the end of the one
+-- before it or above, and ends in a window of 16,384.
 abbrev pub AreRuns : ℕ → List Piece → Type 0
 AreRuns low [] = Unit {0}
 AreRuns low (p ∷ ps) =
-    (low ≤ p.place) × (0 < length p.bytes) × (p.place + length p.bytes ≤ 16384) × AreRuns (p.place + length p.bytes + 1) ps
+    (low ≤ p.place) × (0 < length p.bytes) × (p.place + length p.bytes ≤ 16384) × AreRuns (p.place + length p.bytes) ps

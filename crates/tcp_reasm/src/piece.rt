@@ -1,39 +1,33 @@
 //! Pieces of a stream that stand ahead of the place expected next.
 
-ghost use Rattle.std.specs.Prelude.{ℕ, ◌≡◌, ◌<◌, ◌≤◌, ◌+◌, ◌-◌, ◌++◌, ◌∷◌, length, take, drop, map, IfOk, OnOk, OnErr};
+ghost use Rattle.std.specs.Prelude.{ℕ, ◌≡◌, ◌<◌, ◌≤◌, ◌+◌, ◌-◌, ◌^◌, ◌++◌, length, take, drop, None, true, is_some, vec_len, vec_capacity, IfOk, OnOk, OnErr};
 ghost use Rattle.std.specs.Option.{option_or};
 ghost use Rattle.tcp_reasm.specs.Runs.{AreRuns, byte_from, held};
-ghost use Rattle.tcp_reasm.specs.Joined.{skipped, touched, filled, start_of, begins_at_start, lowered};
+ghost use Rattle.tcp_reasm.specs.Steps.{passed, begun, run_between, runs_outside as runs_outside_lem, where_none, in_order, bytes_of, lowered};
 
 use graft_edge::{NoMemory, Octets};
-use std::alloc::Global;
+use std::alloc::{AllocError, Global};
 use tcp_seq::Piece;
 
 /// How many places from the one expected next on are kept.
 pub const WINDOW: u32 = 16_384;
 
-/// How many of the first pieces end before a place, so that a byte stands between them and it.
-fn skipped_count(pieces: &[Piece], place: usize) -> usize
-    ensures count { result ≡ skipped place pieces.now }
+/// How many of the first pieces end at or below a place.
+fn passed_count(pieces: &[Piece], place: usize) -> usize
+    requires { AreRuns 0 pieces.now }
+    ensures count { result ≡ passed place pieces.now }
     ensures within { result ≤ length pieces.now }
 {
-    let mut count = 0;
-    while count < pieces.len() && pieces[count].end() < place {
-        count += 1;
-    }
-    count
+    pieces.partition_point(|piece| piece.end() <= place)
 }
 
-/// How many of the first pieces begin at or below a place.
-fn touched_count(pieces: &[Piece], place: usize) -> usize
-    ensures count { result ≡ touched place pieces.now }
+/// How many of the first pieces begin below a place.
+fn begun_count(pieces: &[Piece], place: usize) -> usize
+    requires { AreRuns 0 pieces.now }
+    ensures count { result ≡ begun place pieces.now }
     ensures within { result ≤ length pieces.now }
 {
-    let mut count = 0;
-    while count < pieces.len() && pieces[count].place as usize <= place {
-        count += 1;
-    }
-    count
+    pieces.partition_point(|piece| (piece.place as usize) < place)
 }
 
 /// The bytes from one index up to another, as far as there are any.
@@ -45,87 +39,158 @@ fn part(bytes: &[u8], from: usize, to: usize) -> &[u8]
     &bytes[from..to]
 }
 
-/// One run of the bytes of pieces and of bytes from a place on, which fill what is missing between
-/// the pieces and after them.
-fn joined(alloc: Global, pieces: &[Piece], place: usize, bytes: &[u8]) -> Result<Octets, NoMemory>
-    ensures { IfOk result (λ run. run ≡ filled place bytes.now place pieces.now) }
+/// Adds a piece of the bytes that stand from a place on, those from `at` up to `to`, if there are any.
+fn add_run(
+    runs: &mut Vec<Piece>,
+    place: usize,
+    bytes: &[u8],
+    at: usize,
+    to: usize,
+) -> Result<(), NoMemory>
+    requires from { place ≤ at }
+    requires fits { to < 2 ^ 32 }
+    ensures { OnOk result (runs.new.items ≡ runs.old.items ++ run_between place bytes.now at to) }
 {
-    let mut run = Octets::new(alloc);
+    if at >= to {
+        return Ok(());
+    }
+    let bytes = part(bytes, at - place, to - place);
+    let bytes = Octets::from_slice(*runs.allocator(), bytes)?;
+    let place = at as u32;
+    Ok(runs.push(Piece { place, bytes })?)
+}
+
+/// The runs of bytes from a place on that stand between pieces and behind them.
+fn runs_outside(
+    alloc: Global,
+    pieces: &[Piece],
+    place: u32,
+    bytes: &[u8],
+) -> Result<Vec<Piece>, NoMemory>
+    requires { place + length bytes.now ≤ 16384 }
+    ensures { IfOk result (λ runs. runs.items ≡ runs_outside_lem place bytes.now place pieces.now) }
+{
+    let place = place as usize;
+    let mut runs = Vec::new(alloc);
     let mut at = place;
     for piece in pieces {
-        let from = at.saturating_sub(place);
-        let to = (piece.place as usize).saturating_sub(place);
-        run.extend(part(bytes, from, to))?;
-        run.extend(piece.bytes.as_slice())?;
-        at = piece.end();
+        add_run(&mut runs, place, bytes, at, piece.place as usize)?;
+        at = at.max(piece.end());
     }
-    run.extend(part(bytes, at.saturating_sub(place), bytes.len()))?;
-    Ok(run)
+    add_run(&mut runs, place, bytes, at, place + bytes.len())?;
+    Ok(runs)
 }
 
-/// Takes pieces out. The others keep their order.
-fn remove_some(pieces: &mut Vec<Piece>, from: usize, count: usize)
-    requires { from + count ≤ length pieces.old.items }
-    ensures { pieces.new.items ≡ take from pieces.old.items ++ drop (from + count) pieces.old.items }
+/// The bytes from a place on whose places no piece has, each run of them as one piece.
+fn missing(
+    alloc: Global,
+    pieces: &[Piece],
+    place: u32,
+    bytes: &[u8],
+) -> Result<Vec<Piece>, NoMemory>
+    requires within { place + length bytes.now ≤ 16384 }
+    requires runs { AreRuns 0 pieces.now }
+    ensures runs { IfOk result (λ runs. AreRuns 0 runs.items) }
+    ensures bytes { IfOk result (λ runs. (k : ℕ) → held runs.items k ≡ where_none (held pieces.now k) (byte_from place bytes.now k)) }
 {
-    let left = pieces.len() - count;
-    pieces.as_mut_slice()[from..].rotate_left(count);
-    pieces.truncate(left);
+    let rest = &pieces[passed_count(pieces, place as usize)..];
+    let near = &rest[..begun_count(rest, place as usize + bytes.len())];
+    runs_outside(alloc, near, place, bytes)
 }
 
-/// Puts a piece in the place of others.
-fn replace(pieces: &mut Vec<Piece>, from: usize, count: usize, piece: Piece) -> Result<(), NoMemory>
-    requires { from + count ≤ length pieces.old.items }
-    ensures ok { OnOk result (pieces.new.items ≡ take from pieces.old.items ++ (piece ∷ drop (from + count) pieces.old.items)) }
-    ensures err { OnErr result (pieces.new.items ≡ pieces.old.items) }
+/// Puts a piece among others, none of which it overlaps. There is room for it.
+fn place_one(pieces: &mut Vec<Piece>, piece: Piece)
+    requires room { vec_len pieces.old < vec_capacity pieces.old }
+    requires runs { AreRuns 0 pieces.old.items }
+    requires some { 0 < length piece.bytes }
+    requires within { piece.place + length piece.bytes ≤ 16384 }
+    requires free { (k : ℕ) → is_some (byte_from piece.place piece.bytes k) ≡ true → held pieces.old.items k ≡ None }
+    ensures runs { AreRuns 0 pieces.new.items }
+    ensures bytes { (k : ℕ) → held pieces.new.items k ≡ option_or (held pieces.old.items k) (byte_from piece.place piece.bytes k) }
+    ensures len { vec_len pieces.new ≡ vec_len pieces.old + 1 }
+    ensures capacity { vec_capacity pieces.old ≤ vec_capacity pieces.new }
 {
-    if count == 0 {
-        return Ok(pieces.insert(from, piece)?);
-    }
-    remove_some(pieces, from + 1, count - 1);
-    pieces[from] = piece;
-    Ok(())
+    let index = begun_count(pieces.as_slice(), piece.place as usize);
+    // where there is room, this takes no memory and succeeds
+    let _ = pieces.insert(index, piece);
 }
 
-/// The lower of a place and that of the first piece.
-fn start(pieces: &[Piece], place: u32) -> u32
-    ensures { result ≡ start_of place pieces.now }
+/// Puts pieces among others, none of which they overlap. There is room for them.
+fn place_all(pieces: &mut Vec<Piece>, mut more: Vec<Piece>)
+    requires room { vec_len pieces.old + vec_len more ≤ vec_capacity pieces.old }
+    requires runs { AreRuns 0 pieces.old.items }
+    requires more { AreRuns 0 more.items }
+    requires free { (k : ℕ) → is_some (held more.items k) ≡ true → held pieces.old.items k ≡ None }
+    ensures runs { AreRuns 0 pieces.new.items }
+    ensures bytes { (k : ℕ) → held pieces.new.items k ≡ option_or (held pieces.old.items k) (held more.items k) }
 {
-    match pieces.first() {
-        Some(piece) => place.min(piece.place),
-        None => place,
+    while let Some(piece) = more.pop() {
+        place_one(pieces, piece);
     }
 }
 
 /// Puts bytes from a place on among the pieces. What stands there already stays.
 pub(crate) fn insert(pieces: &mut Vec<Piece>, place: u32, bytes: &[u8]) -> Result<(), NoMemory>
-    requires some { 0 < length bytes.now }
     requires within { place + length bytes.now ≤ 16384 }
     requires runs { AreRuns 0 pieces.old.items }
     ensures ok { OnOk result ((k : ℕ) → held pieces.new.items k ≡ option_or (held pieces.old.items k) (byte_from place bytes.now k)) }
     ensures runs { AreRuns 0 pieces.new.items }
     ensures err { OnErr result (pieces.new.items ≡ pieces.old.items) }
 {
-    let all = pieces.as_slice();
-    let from = skipped_count(all, place as usize);
-    let near = &all[from..];
-    let count = touched_count(near, place as usize + bytes.len());
-    let touched = &near[..count];
-    let piece = Piece {
-        place: start(touched, place),
-        bytes: joined(*pieces.allocator(), touched, place as usize, bytes)?,
-    };
-    replace(pieces, from, count, piece)
+    let runs = missing(*pieces.allocator(), pieces.as_slice(), place, bytes)?;
+    // nothing is put before there is memory for all
+    pieces.reserve(runs.len())?;
+    place_all(pieces, runs);
+    Ok(())
 }
 
-/// Whether the first piece begins at the place that places are counted from.
-pub(crate) fn begins_now(pieces: &[Piece]) -> bool
-    ensures { result ≡ begins_at_start pieces.now }
+/// How many of the first pieces stand one behind the other from the place that places are counted from,
+/// and how many bytes they have.
+pub(crate) fn ready(pieces: &[Piece]) -> (usize, usize)
+    requires { AreRuns 0 pieces.now }
+    ensures count { result.0 ≡ in_order 0 pieces.now }
+    ensures within { result.0 ≤ length pieces.now }
+    ensures bytes { result.1 ≡ length (bytes_of (take result.0 pieces.now)) }
+    ensures fits { result.1 ≤ 16384 }
 {
-    match pieces.first() {
-        Some(piece) => piece.place == 0,
-        None => false,
+    let mut count = 0;
+    let mut end = 0;
+    while count < pieces.len() && pieces[count].place as usize == end {
+        end = pieces[count].end();
+        count += 1;
     }
+    (count, end)
+}
+
+/// Appends the bytes of pieces, of which there are `len`. For want of memory nothing is appended.
+fn extend_all(out: &mut Vec<u8>, pieces: &[Piece], len: usize) -> Result<(), AllocError>
+    requires { len ≡ length (bytes_of pieces.now) }
+    ensures ok { OnOk result (out.new.items ≡ out.old.items ++ bytes_of pieces.now) }
+    ensures err { OnErr result (out.new.items ≡ out.old.items) }
+{
+    out.reserve(len)?;
+    for piece in pieces {
+        // where there is room, this takes no memory and succeeds
+        let _ = out.extend_from_slice(piece.bytes.as_slice());
+    }
+    Ok(())
+}
+
+/// Appends the bytes of pieces, of which there are `len`. For want of memory nothing is appended.
+pub(crate) fn append(
+    alloc: Global,
+    out: &mut Octets,
+    pieces: &[Piece],
+    len: usize,
+) -> Result<(), NoMemory>
+    requires { len ≡ length (bytes_of pieces.now) }
+    ensures ok { OnOk result (out.new ≡ out.old ++ bytes_of pieces.now) }
+    ensures err { OnErr result (out.new ≡ out.old) }
+{
+    let mut bytes = std::mem::replace(out, Octets::new(alloc)).into_vec();
+    let appended = extend_all(&mut bytes, pieces, len);
+    *out = Octets::from_vec(bytes);
+    Ok(appended?)
 }
 
 /// Counts the places of pieces from a later one.
@@ -137,14 +202,13 @@ fn lower(pieces: &mut Vec<Piece>, by: u32)
     }
 }
 
-/// Takes the first piece out, and counts the places of the others from its end.
-pub(crate) fn take_first(pieces: &mut Vec<Piece>) -> Piece
-    requires some { 0 < length pieces.old.items }
-    requires runs { AreRuns 0 pieces.old.items }
-    ensures first { pieces.old.items ≡ result ∷ drop 1 pieces.old.items }
-    ensures others { pieces.new.items ≡ lowered (length result.bytes) (drop 1 pieces.old.items) }
+/// Removes the first pieces, and counts the places of the others from a later one.
+pub(crate) fn remove_first(pieces: &mut Vec<Piece>, count: usize, by: u32)
+    requires { count ≤ length pieces.old.items }
+    ensures { pieces.new.items ≡ lowered by (drop count pieces.old.items) }
 {
-    let first = pieces.remove(0);
-    lower(pieces, first.bytes.len() as u32);
-    first
+    let left = pieces.len() - count;
+    pieces.rotate_left(count);
+    pieces.truncate(left);
+    lower(pieces, by);
 }

@@ -4,7 +4,7 @@ ghost use Rattle.std.specs.Prelude.{ℕ, ◌≡◌, ◌<◌, ◌≤◌, ◌+◌,
 ghost use Rattle.tcp_reasm.specs.Runs.{AreRuns, byte_from};
 ghost use Rattle.tcp_reasm.specs.Reassembly.{Puts, TakesReady, brought};
 
-use crate::piece::{WINDOW, begins_now, insert, take_first};
+use crate::piece::{WINDOW, append, insert, ready, remove_first};
 use graft_edge::{Items, NoMemory, Octets};
 use std::alloc::Global;
 use std::marker::Model;
@@ -12,7 +12,7 @@ use tcp_seq::{Piece, Pieces, Seq};
 
 /// The bytes of a stream that arrived and weren't given out yet, at most 16,384 places from the one
 /// expected next on. Contracts see the number expected next and the pieces that stand ahead of it,
-/// each with its place counted from there: rising, apart from one another, none empty.
+/// each with its place counted from there: rising, none overlapping another, none empty.
 #[derive(Debug, Drop)]
 pub struct Reasm {
     next: Seq,
@@ -74,9 +74,6 @@ impl Reasm {
         ensures runs { AreRuns 0 self.new.pieces }
     {
         let (place, kept) = in_window(self.next, seq, bytes);
-        if kept.is_empty() {
-            return Ok(());
-        }
         insert(&mut self.pieces, place, kept)
     }
 
@@ -88,13 +85,11 @@ impl Reasm {
         ensures none { OnErr result (out.new ≡ out.old) }
         ensures runs { AreRuns 0 self.new.pieces }
     {
-        if !begins_now(self.pieces.as_slice()) {
-            return Ok(0);
-        }
-        out.extend(self.pieces[0].bytes.as_slice())?;
-        let count = take_first(&mut self.pieces).bytes.len();
-        self.next = self.next.plus(count as u32);
-        Ok(count)
+        let (count, len) = ready(self.pieces.as_slice());
+        append(*self.pieces.allocator(), out, &self.pieces[..count], len)?;
+        remove_first(&mut self.pieces, count, len as u32);
+        self.next = self.next.plus(len as u32);
+        Ok(len)
     }
 
     /// The pieces that stand ahead of the number expected next, each with its place counted from there.

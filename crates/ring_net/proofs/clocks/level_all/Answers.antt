@@ -1,4 +1,6 @@
 use Rattle.ring_net.proofs.ClockLaws.{levelled, net_keeps, keeps_level}
+use Rattle.ring_net.specs.Nets.{view_of}
+use Rattle.ring_net.proofs.Order.{order_level}
 use Rattle.ring_net.proofs.clocks.level_all.Goals as goal
 
 pub returns-clause-net : goal.returns-clause-net
@@ -6,3 +8,6 @@ returns-clause-net g c = net_keeps c.args.cells.now c.level_clocks.new.cells c.a
 
 pub returns-clause-level : goal.returns-clause-level
 returns-clause-level g c = levelled c.args.cells.now c.level_clocks.new.cells c.args.edges.now c.level_clocks.ensures
+
+pub returns-clause-order : goal.returns-clause-order
+returns-clause-order g c = order_level (view_of c.args.cells.now c.args.edges.now) (view_of c.level_clocks.new.cells c.args.edges.now) (levelled c.args.cells.now c.level_clocks.new.cells c.args.edges.now c.level_clocks.ensures)

@@ -1,5 +1,5 @@
 use Rattle.std.proofs.Common.{◌≡◌, ◌++◌, take, drop}
-use Rattle.tcp_reasm.specs.Joined.{lowered}
+use Rattle.tcp_reasm.specs.Steps.{lowered}
 use Rattle.tcp_reasm.proofs.piece.lower.Given as goal
 
 abbrev pub invariant-loop-piece : goal.invariant-loop-piece

@@ -1,0 +1,3 @@
+pub mod Order
+pub mod Champions
+pub mod Groups

@@ -1,0 +1,43 @@
+-- The order in which the candidates of a router stand, and lists of ranks in that order.
+use Rattle.std.specs.Prelude.{List, Option}
+use Rattle.std.specs.Ordering.{nat_cmp}
+use Rattle.std.specs.List.Sorted.{IsStrictlySortedBy}
+use Rattle.std.specs.Map.{lookup, keys_of, remove_entry}
+use Rattle.std.specs.BTreeMap.{is_at, insert_entry}
+use Rattle.std.specs.declared.cmp.Ordering.{Ordering}
+use Rattle.std.specs.declared.cmp.Ordering.TheVariants.{Less, Equal, Greater}
+use Rattle.bgp_types.specs.declared.rank.From.{From}
+use Rattle.bgp_types.specs.declared.rank.From.TheVariants.{Own, Peering, Router}
+use Rattle.bgp_types.specs.declared.rank.Rank.{Rank}
+
+-- the own network first, then peerings by rising number, then routers by rising number
+abbrev pub from_order : From → From → Ordering
+from_order Own Own = Equal
+from_order Own (Peering q) = Less
+from_order Own (Router s) = Less
+from_order (Peering p) Own = Greater
+from_order (Peering p) (Peering q) = nat_cmp p.0 q.0
+from_order (Peering p) (Router s) = Less
+from_order (Router r) Own = Greater
+from_order (Router r) (Peering q) = Greater
+from_order (Router r) (Router s) = nat_cmp r.0 s.0
+
+-- a rank beside where its route comes from
+abbrev pub Candidate : Type 0
+Candidate = From × Rank
+
+-- each in its place, and none twice
+abbrev pub IsInOrder : List Candidate → Type 0
+IsInOrder candidates = IsStrictlySortedBy from_order (keys_of candidates)
+
+-- the rank of what comes from there
+abbrev pub rank_of : List Candidate → From → Option Rank
+rank_of candidates from = lookup (is_at (from_order from)) candidates
+
+-- the list with this rank in its place: it takes the place of the rank that was there, if there was one
+abbrev pub with_rank : List Candidate → From → Rank → List Candidate
+with_rank candidates from rank = insert_entry from_order candidates from rank
+
+-- the list without what comes from there
+abbrev pub without : List Candidate → From → List Candidate
+without candidates from = remove_entry (is_at (from_order from)) candidates

@@ -1,0 +1,120 @@
+//! The ranks of the routes to one prefix.
+
+ghost use Rattle.std.specs.Prelude.{◌≡◌, ◌↔◌, [], length, IsTrue, IsSome, IsNone, OnOk, OnErr};
+ghost use Rattle.std.specs.Option.{option_copied};
+ghost use Rattle.decision_core.specs.Choice.{choice};
+ghost use Rattle.decision_groups.specs.Order.{IsInOrder, rank_of, with_rank, without};
+
+use crate::groups::{Groups, best_champion, join, leave};
+use crate::ranks::Ranks;
+use bgp_types::{From, NoMemory, Rank};
+use std::alloc::Global;
+use std::collections::BTreeMap;
+use std::marker::Model;
+
+/// The ranks of the routes to one prefix, at most one of each `From`. Contracts see the list of them
+/// in the order of candidates: the own network, then peerings by rising number, then routers by rising
+/// number. They are kept in groups by neighbour AS, each with its champion, so that a change of one
+/// rank looks at no rank of another neighbour.
+#[derive(Drop)]
+pub struct GroupSet {
+    alloc: Global,
+    ranks: Ranks,
+    groups: Groups,
+}
+
+impl Model for GroupSet {
+    ghost use Rattle.std.specs.Prelude.{List};
+    ghost use Rattle.decision_groups.specs.Order.{Candidate};
+    ghost use Rattle.decision_groups.specs.Groups.{AreGroupsOf};
+
+    ghost Value = { List Candidate };
+
+    ghost view = { λ s. s.ranks };
+
+    ghost invariant = { λ s. AreGroupsOf s.ranks s.groups };
+}
+
+impl GroupSet {
+    /// The set of no ranks.
+    pub fn new(alloc: Global) -> GroupSet
+        ensures { result ≡ [] }
+    {
+        GroupSet {
+            alloc,
+            ranks: Ranks::new(alloc),
+            groups: BTreeMap::new(alloc),
+        }
+    }
+
+    pub fn len(&self) -> usize
+        ensures len { result ≡ length self.now }
+        ensures in_order { IsInOrder self.now }
+    {
+        self.ranks.len()
+    }
+
+    pub fn is_empty(&self) -> bool
+        ensures { IsTrue result ↔ (self.now ≡ []) }
+    {
+        self.ranks.is_empty()
+    }
+
+    /// The rank of the route that comes from there.
+    pub fn get(&self, from: From) -> Option<&Rank>
+        ensures { option_copied result ≡ rank_of self.now from }
+    {
+        self.ranks.get(from)
+    }
+
+    /// Puts a rank in its place, where it replaces the one that came from there before.
+    pub fn set(&mut self, from: From, rank: Rank) -> Result<(), NoMemory>
+        ensures ok { OnOk result (self.new ≡ with_rank self.old from rank) }
+        ensures err { OnErr result (self.new ≡ self.old) }
+        ensures in_order { IsInOrder self.new }
+    {
+        join(&mut self.groups, self.alloc, from, rank)?;
+        match self.ranks.insert(from, rank) {
+            Ok(Some(old)) => {
+                if old.neighbour != rank.neighbour {
+                    leave(&mut self.groups, from, old.neighbour);
+                }
+                Ok(())
+            }
+            Ok(None) => Ok(()),
+            Err(no_memory) => {
+                leave(&mut self.groups, from, rank.neighbour);
+                Err(no_memory)
+            }
+        }
+    }
+
+    /// Takes out the rank of what comes from there, and answers whether there was one. It takes no
+    /// memory.
+    pub fn remove(&mut self, from: From) -> bool
+        ensures removed { IsTrue result ↔ IsSome (rank_of self.old from) }
+        ensures left { self.new ≡ without self.old from }
+        ensures in_order { IsInOrder self.new }
+    {
+        match self.ranks.remove(from) {
+            Some(held) => {
+                leave(&mut self.groups, from, held.neighbour);
+                true
+            }
+            None => false,
+        }
+    }
+
+    /// Where the route comes from that the nine rules of the decision process choose. Of ranks that are
+    /// equal by all nine the first in the order of candidates is chosen. It takes no memory.
+    pub fn best(&self) -> Option<From>
+        ensures empty { IsNone result ↔ (self.now ≡ []) }
+        ensures choice { result ≡ choice self.now }
+        ensures in_order { IsInOrder self.now }
+    {
+        match best_champion(&self.groups) {
+            Some((from, _)) => Some(from),
+            None => None,
+        }
+    }
+}

@@ -1,0 +1,16 @@
+//! The choice between the routes to one prefix, kept in groups by neighbour AS, so that a change of one
+//! rank looks at the ranks of its own neighbours alone (RFC 4271, section 9.1.2.2).
+#![tactic(auto)]
+
+mod group;
+mod group_set;
+mod groups;
+mod laws;
+mod ranks;
+
+pub use bgp_types::{From, NoMemory, PeeringId, Rank, RouterId};
+pub use group_set::GroupSet;
+pub use laws::champions_decide;
+
+#[cfg(test)]
+mod tests;

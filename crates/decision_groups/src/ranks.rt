@@ -1,0 +1,119 @@
+//! Ranks by where their routes come from.
+
+ghost use Rattle.std.specs.Prelude.{◌≡◌, ◌↔◌, [], IsTrue, IfOk, OnErr, OnOk, None, length};
+ghost use Rattle.std.specs.Option.{option_copied};
+ghost use Rattle.decision_groups.specs.Order.{IsInOrder, rank_of, with_rank, without};
+ghost use Rattle.decision_groups.specs.Groups.{champion_of, beats_champion as beats_champion_lem, beats as beats_lem};
+
+use bgp_types::{From, NoMemory, Rank};
+use decision_core::{is_nearer, leads};
+use std::alloc::Global;
+use std::collections::BTreeMap;
+use std::marker::Model;
+
+/// At most one rank of each `From`, in their order.
+#[derive(Drop)]
+pub(crate) struct Ranks {
+    map: BTreeMap<From, Rank>,
+}
+
+impl Model for Ranks {
+    ghost use Rattle.std.specs.Prelude.{List};
+    ghost use Rattle.decision_groups.specs.Order.{Candidate, IsInOrder};
+
+    ghost Value = { List Candidate };
+
+    ghost view = { λ s. s.map.entries };
+
+    ghost invariant = { λ s. IsInOrder s.map.entries };
+}
+
+/// Whether the first rank beats the second by the nine rules, where one neighbour AS told both. MEDs of
+/// one neighbour are compared, so that the rules are one order.
+fn beats(a: &Rank, b: &Rank) -> bool
+    ensures { result ≡ beats_lem a.now b.now }
+{
+    if leads(a, b) {
+        return true;
+    }
+    if leads(b, a) {
+        return false;
+    }
+    if a.med != b.med {
+        return a.med < b.med;
+    }
+    is_nearer(a, b)
+}
+
+/// Whether a rank beats that of the champion so far.
+fn beats_champion(champion: &Option<(From, Rank)>, rank: &Rank) -> bool
+    ensures { result ≡ beats_champion_lem champion.now rank.now }
+{
+    match champion {
+        Some((_, champion)) => beats(rank, champion),
+        None => true,
+    }
+}
+
+impl Ranks {
+    pub fn new(alloc: Global) -> Ranks
+        ensures { result ≡ [] }
+    {
+        Ranks {
+            map: BTreeMap::new(alloc),
+        }
+    }
+
+    pub fn len(&self) -> usize
+        ensures len { result ≡ length self.now }
+        ensures in_order { IsInOrder self.now }
+    {
+        self.map.len()
+    }
+
+    pub fn is_empty(&self) -> bool
+        ensures { IsTrue result ↔ (self.now ≡ []) }
+    {
+        self.map.is_empty()
+    }
+
+    pub fn get(&self, from: From) -> Option<&Rank>
+        ensures { option_copied result ≡ rank_of self.now from }
+    {
+        self.map.get(&from)
+    }
+
+    /// Puts a rank in its place, and answers the one that it replaces. Want of memory comes only where
+    /// there was none.
+    pub fn insert(&mut self, from: From, rank: Rank) -> Result<Option<Rank>, NoMemory>
+        ensures replaced { IfOk result (λ old. old ≡ rank_of self.old from) }
+        ensures ok { OnOk result (self.new ≡ with_rank self.old from rank) }
+        ensures absent { OnErr result (rank_of self.old from ≡ None) }
+        ensures err { OnErr result (self.new ≡ self.old) }
+        ensures in_order { IsInOrder self.new }
+    {
+        Ok(self.map.insert(from, rank)?)
+    }
+
+    /// Takes a rank out. It takes no memory.
+    pub fn remove(&mut self, from: From) -> Option<Rank>
+        ensures removed { result ≡ rank_of self.old from }
+        ensures left { self.new ≡ without self.old from }
+        ensures in_order { IsInOrder self.new }
+    {
+        self.map.remove(&from)
+    }
+
+    /// The first of the ranks that no other one beats, where one neighbour AS told them all.
+    pub fn champion(&self) -> Option<(From, Rank)>
+        ensures { result ≡ champion_of self.now }
+    {
+        let mut champion: Option<(From, Rank)> = None;
+        for (from, rank) in &self.map {
+            if beats_champion(&champion, rank) {
+                champion = Some((*from, *rank));
+            }
+        }
+        champion
+    }
+}

@@ -1,0 +1,56 @@
+-- The laws of merged journals.
+use Rattle.std.specs.Prelude.{ℕ, ◌≡◌, ◌==◌, ◌<◌, if◌then◌else◌, ◌↔◌, Bool, List, [], ◌++◌, length, map, take, slice_index_or}
+use Rattle.ring_net.specs.declared.entry.JournalEntry.{JournalEntry}
+use Rattle.ring_net.specs.Deeds.{Deed, Noted, Makes, entries_of}
+use Rattle.ring_net.specs.Journals.{AreJournals}
+use Rattle.ring_net.specs.Phases.{View, Phase, Between, Levelled, AllAt, InOrder}
+use Rattle.journal_merge.specs.Merges.{IsMerged, Interleaves, upto, IsCut}
+use Rattle.journal_merge.specs.Worlds.{World, Run}
+use Rattle.journal_merge.specs.Growth.{IsWorldOf, Grew, RunsTo}
+
+-- there is one merge
+abbrev pub MergedOnce : Type 0
+MergedOnce = (journals : List (List JournalEntry)) (xs ys : List JournalEntry) → IsMerged journals xs → IsMerged journals ys → xs ≡ ys
+
+abbrev pub InterleavedOnce : Type 0
+InterleavedOnce = (journals : ℕ → List JournalEntry) (xs ys : List JournalEntry) → Interleaves journals xs → Interleaves journals ys → xs ≡ ys
+
+-- in the merge of journals the entries of each actor are its journal, and no other list is so and sorted
+abbrev pub MergedEach : Type 0
+MergedEach = (journals : List (List JournalEntry)) (merged : List JournalEntry) → AreJournals journals → IsMerged journals merged ↔ Interleaves (λ k. slice_index_or journals k []) merged
+
+-- what stands before a mark is the merge of what each journal has before it
+abbrev pub MergedUpto : Type 0
+MergedUpto = (journals : ℕ → List JournalEntry) (merged : List JournalEntry) (mark : ℕ → ℕ) → Interleaves journals merged → Interleaves (λ k. take (mark k) (journals k)) (upto mark merged)
+
+-- a run behind a run is a run
+abbrev pub RunsJoin : {P I : Type 0} (makes : Makes P I) → Type 0
+RunsJoin {P} {I} makes = (w m v : World P I) (ds es : List (Deed I)) → Run makes w ds m → Run makes m es v → Run makes w (ds ++ es) v
+
+module _ {A P I : Type 0} (part : A → P) (makes : Makes P I) where
+  -- from where all clocks are level on, the merge of what the journals get stands behind the merge of what they had
+  abbrev pub CutsAtLevel : Type 0
+  CutsAtLevel = (u v : View A I) (notes : ℕ → List (Noted I)) (clock : ℕ) (merged : List JournalEntry) → InOrder u → AllAt u clock → Grew part makes u v notes
+      → Interleaves v.journal merged → IsCut u.journal (λ k. entries_of (notes k)) merged
+
+  -- the merge of what the journals got is a run
+  abbrev pub MergeRuns : Type 0
+  MergeRuns = (u v : View A I) (notes : ℕ → List (Noted I)) (merged : List JournalEntry) (w : World P I) → Grew part makes u v notes → Interleaves (λ k. entries_of (notes k)) merged
+      → IsWorldOf part u w → RunsTo part makes w notes merged u.edge v
+
+  -- one piece after another
+  abbrev pub GrowsOn : Type 0
+  GrowsOn = (u v t : View A I) (first second : ℕ → List (Noted I)) → Grew part makes u v first → Grew part makes v t second → Grew part makes u t (λ k. first k ++ second k)
+
+  abbrev pub LevelGrows : Type 0
+  LevelGrows = (u v : View A I) → Levelled u v → Grew part makes u v (λ k. [])
+
+  abbrev pub PhaseGrows : (took : A → ℕ → I → List (Deed I) → A → Type 0) (turned : A → List (Deed I) → A → Type 0) → Type 0
+  PhaseGrows took turned = (u v : View A I) (phase : Phase part makes took turned u v) → Grew part makes u v phase.notes
+
+  -- the events at a mark take nothing, so their stamps are 0
+  abbrev pub at_mark : ℕ → List (Deed I) → ℕ → List (Noted I)
+  at_mark k ds n = if n == k then map (λ d. record { deed = d; stamp = 0 }) ds else []
+
+  abbrev pub BetweenGrows : (paused : A → List (Deed I) → A → Type 0) → Type 0
+  BetweenGrows paused = (u v : View A I) (k : ℕ) (answer : Bool) → k < length u.actors → (did : Between part makes paused k u v answer) → Grew part makes u v (at_mark k did.deeds)

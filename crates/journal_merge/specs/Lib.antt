@@ -1,0 +1,4 @@
+pub mod Merges
+pub mod Worlds
+pub mod Growth
+pub mod Laws
