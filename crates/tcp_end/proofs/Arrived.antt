@@ -77,7 +77,7 @@ some_none (Some x) some none = cc
 pub held_within : (low high : ℕ) (ps : List Piece) (k : ℕ) → LieFrom low high ps → IsSome (held ps k) → (low ≤ k) × (k < high)
 held_within low high ps k lie some = (
   elim (cases_lt k low) [ inl below ↦ absurd (some_none (held ps k) some (held_low low high ps k lie below)) | inr from ↦ from ],
-  elim (cases_lt k high) [ inl below ↦ below | inr past ↦ absurd (some_none (held ps k) some (held_high low high ps k lie past)) ]
+  elim (cases_lt k high) [ inl below ↦ below | inr past ↦ absurd (some_none (held ps k) some (held_high low high ps k lie past)) ],
 )
 
 -- a place arrived: it is below the received length, or a piece has it

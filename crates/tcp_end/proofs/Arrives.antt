@@ -47,10 +47,10 @@ byte_then_is : (s : EndState) (g : Segment) (p : PlacedSegment) (k : ℕ) → Is
 byte_then_is s g p k rests numbered fits short =
     let small : got s % 2 ^ 32 ≡ got s = omega (arith, rests.received) in
     let old : held (counted_from (got s % 2 ^ 32) s.ahead) k ≡ held s.ahead (got s + k) =
-      ap (λ (n : ℕ). held (counted_from n s.ahead) k) small ∙ held_from (got s) (got s + 1) (got s + 16384) s.ahead k (omega arith) (omega (arith, rests.received)) rests.ahead in
+    ap (λ (n : ℕ). held (counted_from n s.ahead) k) small ∙ held_from (got s) (got s + 1) (got s + 16384) s.ahead k (omega arith) (omega (arith, rests.received)) rests.ahead in
     let new : brought (expected s) g.seq.0 g.bytes k ≡ (if nat_lt k 16384 then byte_from p.place p.bytes (got s + k) else None) =
-      ap (λ (n : ℕ). brought (expected s) n g.bytes k) numbered.seq ∙ ap (λ (xs : List ℕ). brought (expected s) (number s.receive_first.0 p.place) xs k) numbered.bytes
-      ∙ brought_place s.receive_first.0 (got s) p.place p.bytes k (omega (arith, rests.received)) fits short in
+    ap (λ (n : ℕ). brought (expected s) n g.bytes k) numbered.seq ∙ ap (λ (xs : List ℕ). brought (expected s) (number s.receive_first.0 p.place) xs k) numbered.bytes
+    ∙ brought_place s.receive_first.0 (got s) p.place p.bytes k (omega (arith, rests.received)) fits short in
     let window : nat_lt k 16384 ≡ nat_lt (got s + k) (got s + 16384) = elim (cases_lt k 16384) [
       | inl below ↦ lt-ltb k 16384 below ∙ sym (lt-ltb (got s + k) (got s + 16384) (omega (arith, below)))
       | inr past ↦ le-ltb k 16384 past ∙ sym (le-ltb (got s + k) (got s + 16384) (omega (arith, past)))
@@ -100,11 +100,10 @@ some_brings s e p k same from some =
       | inr past ↦ absurd (no_byte (brought_to s p k) some (ap (λ (b : Bool). if b then byte_from p.place p.bytes k else None) (le-ltb k (got s + 16384) past)))
     ] in
     let there : IsSome (byte_from p.place p.bytes k) =
-      subst (λ (b : Bool). IsSome (if b then byte_from p.place p.bytes k else None)) (lt-ltb k (got s + 16384) within) some in
-    (
+    subst (λ (b : Bool). IsSome (if b then byte_from p.place p.bytes k else None)) (lt-ltb k (got s + 16384) within) some in (
       elim (cases_lt k p.place) [ inl below ↦ absurd (no_byte (byte_from p.place p.bytes k) there (byte_below p.place p.bytes k below)) | inr above ↦ above ],
       elim (cases_lt k (p.place + length p.bytes)) [ inl below ↦ below | inr past ↦ absurd (no_byte (byte_from p.place p.bytes k) there (byte_past p.place p.bytes k past)) ],
-      (omega (arith, same, from), omega (arith, same, within))
+      (omega (arith, same, from), omega (arith, same, within)),
     )
 
 -- the places from the one expected next on
@@ -116,7 +115,7 @@ with_has s after p given k h from some = elim (cases_lt k (got after)) [
       let at : got after + j ≡ k = omega (arith, past) in
       let same : got s + (length given + j) ≡ k = omega (arith, at, h.received) in
       inr (subst (λ (n : ℕ). IsSome (held after.ahead n)) at
-        (subst (λ (o : Option ℕ). IsSome o) (sym (h.ahead j)) (subst (λ (n : ℕ). IsSome (with_ s p n)) (sym same) some)))
+      (subst (λ (o : Option ℕ). IsSome o) (sym (h.ahead j)) (subst (λ (n : ℕ). IsSome (with_ s p n)) (sym same) some)))
 ]
 
 has_with : (s after : EndState) (p : PlacedSegment) (given : List ℕ) (k : ℕ) → IsEndState after → Hears s after p given → Has after k → (k < got s) ⊎ IsSome (with_ s p k)
@@ -158,7 +157,7 @@ gathers s after e theirs p given stands rests h = record {
             with_has s after p given k h (omega (arith, from)) (left_some (held s.ahead k) (brought_to s p k) some)
       ]
       | inr new ↦ with_has s after p given k h (omega (arith, stands.received, new.2.0)) (right_some (held s.ahead k) (brought_to s p k) (brings_some s e p k stands.received new))
-    ]))
+    ])),
   );
 }
 
@@ -203,10 +202,10 @@ given_is : (s after : EndState) (e : Endpoint) (theirs : List ℕ) (p : PlacedSe
 given_is s after e theirs p given stands slice h =
     let within : got s + length given ≤ length theirs = given_within s e theirs p given stands slice h.each in
     let n : length given ≡ length (take (length given) (drop (got s) theirs)) =
-      omega (arith, within, length-take (length given) (drop (got s) theirs), length-drop (got s) theirs) in
+    omega (arith, within, length-take (length given) (drop (got s) theirs), length-drop (got s) theirs) in
     ext_get_or 0 given (take (length given) (drop (got s) theirs)) n
     (λ i below. sym (get_or_from_slice_get (take (length given) (drop (got s) theirs)) i (get_or given i 0) 0
-      (get-take (length given) (drop (got s) theirs) i below ∙ get-drop (got s) theirs i (got s + i) refl ∙ given_byte s e theirs p given i stands slice h.each below)))
+    (get-take (length given) (drop (got s) theirs) i below ∙ get-drop (got s) theirs i (got s + i) refl ∙ given_byte s e theirs p given i stands slice h.each below)))
 
 take_none : (n : ℕ) → take n (let none : List ℕ = [] in none) ≡ []
 take_none zero = refl
@@ -224,7 +223,7 @@ ready_is : (s after : EndState) (e : Endpoint) (theirs : List ℕ) (p : PlacedSe
 ready_is s after e theirs p given stands slice h =
     let n : length after.ready ≡ length s.ready + length given = ap length h.ready ∙ length-append s.ready given in
     let behind : drop (got s) theirs ≡ drop (length s.ready) (drop e.read theirs) =
-      sym (drop-drop (length s.ready) e.read theirs ∙ ap (λ (m : ℕ). drop m theirs) (let e' : e.read + length s.ready ≡ got s = omega (arith, stands.read) in e')) in
+    sym (drop-drop (length s.ready) e.read theirs ∙ ap (λ (m : ℕ). drop m theirs) (let e' : e.read + length s.ready ≡ got s = omega (arith, stands.read) in e')) in
     h.ready ∙ ap (λ (xs : List ℕ). xs ++ given) stands.ready ∙ ap (λ (xs : List ℕ). take (length s.ready) (drop e.read theirs) ++ xs) (given_is s after e theirs p given stands slice h)
     ∙ ap (λ (xs : List ℕ). take (length s.ready) (drop e.read theirs) ++ take (length given) xs) behind
     ∙ take_two (length s.ready) (length given) (length after.ready) (drop e.read theirs) n
@@ -236,15 +235,15 @@ ahead_byte s after e theirs p given stands rests slice h place byte is =
     let at : got after + j ≡ place = omega (arith, from) in
     let same : got s + (length given + j) ≡ place = omega (arith, at, h.received) in
     with_byte s e theirs p place byte stands slice
-      (ap (with_ s p) (sym same) ∙ sym (h.ahead j) ∙ ap (held after.ahead) at ∙ is)
+    (ap (with_ s p) (sym same) ∙ sym (h.ahead j) ∙ ap (held after.ahead) at ∙ is)
 
 -- The tests of numbers and of places
 acceptable_to : (s : EndState) (e : Endpoint) (theirs : List ℕ) (g : Segment) (p : PlacedSegment) → Stands s e theirs → Numbered s.receive_first.0 s.send_first.0 g p → IsSlice theirs p → length g.bytes < 2 ^ 16 → IsAcceptable e p → IsAcceptableTo s g
 acceptable_to s e theirs g p stands numbered slice short is =
     let n : length g.bytes ≡ length p.bytes = ap length numbered.bytes in
     let by_number : Acceptable (number s.receive_first.0 (got s)) 16384 (number s.receive_first.0 p.place) (length p.bytes) =
-      place_acceptable s.receive_first.0 (got s) p.place (length p.bytes) (omega (arith, stands.sound.received)) (omega (arith, slice.within, stands.theirs_within)) (omega (arith, n, short))
-        (subst (λ (m : ℕ). AcceptablePlace m 16384 p.place (length p.bytes)) stands.received is) in
+    place_acceptable s.receive_first.0 (got s) p.place (length p.bytes) (omega (arith, stands.sound.received)) (omega (arith, slice.within, stands.theirs_within)) (omega (arith, n, short))
+    (subst (λ (m : ℕ). AcceptablePlace m 16384 p.place (length p.bytes)) stands.received is) in
     subst (λ (m : ℕ). Acceptable (expected s) 16384 m (length g.bytes)) (sym numbered.seq)
     (subst (λ (m : ℕ). Acceptable (expected s) 16384 (number s.receive_first.0 p.place) m) (sym n) by_number)
 
@@ -252,7 +251,7 @@ acceptable_for : (s : EndState) (e : Endpoint) (theirs : List ℕ) (g : Segment)
 acceptable_for s e theirs g p stands numbered slice short is =
     let n : length g.bytes ≡ length p.bytes = ap length numbered.bytes in
     let by_number : Acceptable (number s.receive_first.0 (got s)) 16384 (number s.receive_first.0 p.place) (length p.bytes) =
-      subst (λ (m : ℕ). Acceptable (expected s) 16384 m (length p.bytes)) numbered.seq (subst (λ (m : ℕ). Acceptable (expected s) 16384 g.seq.0 m) n is) in
+    subst (λ (m : ℕ). Acceptable (expected s) 16384 m (length p.bytes)) numbered.seq (subst (λ (m : ℕ). Acceptable (expected s) 16384 g.seq.0 m) n is) in
     subst (λ (m : ℕ). AcceptablePlace m 16384 p.place (length p.bytes)) (sym stands.received)
     (acceptable_place s.receive_first.0 (got s) p.place (length p.bytes) (omega (arith, stands.sound.received)) (omega (arith, slice.within, stands.theirs_within)) (omega (arith, n, short)) by_number)
 
@@ -265,7 +264,7 @@ ack_small theirs p slice = omega (arith, slice.ack)
 beyond_for : (s : EndState) (e : Endpoint) (theirs : List ℕ) (g : Segment) (p : PlacedSegment) → Stands s e theirs → Numbered s.receive_first.0 s.send_first.0 g p → IsSlice theirs p → Says Beyond s g → IsBeyond e p
 beyond_for s e theirs g p stands numbered slice is =
     let past : s.sent < p.ack = beyond_place s.send_first.0 s.acked s.sent p.ack stands.sound.sending.acked (emitted_small s stands.sound.sending) (ack_small theirs p slice)
-      (subst (λ (m : ℕ). IsAck Beyond (own_number s s.acked) (own_number s s.sent) m) numbered.ack is) in
+    (subst (λ (m : ℕ). IsAck Beyond (own_number s s.acked) (own_number s s.sent) m) numbered.ack is) in
     omega (arith, past, stands.emitted)
 
 beyond_to : (s : EndState) (e : Endpoint) (theirs : List ℕ) (g : Segment) (p : PlacedSegment) → Stands s e theirs → Numbered s.receive_first.0 s.send_first.0 g p → IsSlice theirs p → IsBeyond e p → Says Beyond s g
@@ -305,10 +304,10 @@ nothing_new s e theirs g p k stands numbered slice short none brings = elim (som
       let at : got s + j ≡ k = omega (arith, from) in
       let n : length g.bytes ≡ length p.bytes = ap length numbered.bytes in
       let old : byte_ahead (ahead_of s) j ≡ None =
-        ap (λ (m : ℕ). held (counted_from m s.ahead) j) (let small : got s % 2 ^ 32 ≡ got s = omega (arith, stands.sound.received) in small)
-        ∙ held_from (got s) (got s + 1) (got s + 16384) s.ahead j (omega arith) (omega (arith, stands.sound.received)) stands.sound.ahead ∙ ap (held s.ahead) at ∙ empty in
+      ap (λ (m : ℕ). held (counted_from m s.ahead) j) (let small : got s % 2 ^ 32 ≡ got s = omega (arith, stands.sound.received) in small)
+      ∙ held_from (got s) (got s + 1) (got s + 16384) s.ahead j (omega arith) (omega (arith, stands.sound.received)) stands.sound.ahead ∙ ap (held s.ahead) at ∙ empty in
       let both : byte_then (ahead_of s) g.seq.0 g.bytes j ≡ with_ s p k =
-        byte_then_is s g p j stands.sound numbered (omega (arith, slice.within, stands.theirs_within)) (omega (arith, n, short)) ∙ ap (with_ s p) at in
+      byte_then_is s g p j stands.sound numbered (omega (arith, slice.within, stands.theirs_within)) (omega (arith, n, short)) ∙ ap (with_ s p) at in
       let new : brought (expected s) g.seq.0 g.bytes j ≡ with_ s p k = ap (λ (o : Option ℕ). option_or o (brought (expected s) g.seq.0 g.bytes j)) (sym old) ∙ both in
       absurd (none (j, old, subst (λ (o : Option ℕ). IsSome o) (sym new) (right_some (held s.ahead k) (brought_to s p k) (brings_some s e p k stands.received brings))))
 ]
@@ -319,7 +318,7 @@ repeated : (s after : EndState) (g : Segment) (e : Endpoint) (theirs : List ℕ)
 repeated s after g e theirs p stands numbered slice short is leaves =
     let within : p.ack ≤ s.sent = within_sent s e theirs g p stands numbered slice is.1 in
     let old : p.ack ≤ s.acked = new_place s.send_first.0 s.acked s.sent p.ack stands.sound.sending.acked (emitted_small s stands.sound.sending) (ack_small theirs p slice) within
-      (λ new. is.2 (subst (λ (m : ℕ). IsAck New (own_number s s.acked) (own_number s s.sent) m) (sym numbered.ack) new)) in
+    (λ new. is.2 (subst (λ (m : ℕ). IsAck New (own_number s s.acked) (own_number s s.sent) m) (sym numbered.ack) new)) in
     let same : max e.acked p.ack ≡ e.acked = omega (arith, old, stands.acked) in
     let owed : (e.owed || nat_lt 0 (length p.bytes)) ≡ (s.owed || nat_lt 0 (length g.bytes)) = owed_is s e theirs g p stands numbered.bytes in
     record {
@@ -334,7 +333,7 @@ repeated s after g e theirs p stands numbered slice short is leaves =
         changed = refl;
       });
       stands = subst (λ (m : ℕ). Stands after (record e { acked = m; owed = e.owed || nat_lt 0 (length p.bytes) }) theirs) (sym same)
-        (subst (λ (b : Bool). Stands after (record e { owed = b }) theirs) (sym owed) (owes s after (s.owed || nat_lt 0 (length g.bytes)) leaves e theirs stands));
+          (subst (λ (b : Bool). Stands after (record e { owed = b }) theirs) (sym owed) (owes s after (s.owed || nat_lt 0 (length g.bytes)) leaves e theirs stands));
     }
 
 -- a segment that is taken in
@@ -345,7 +344,7 @@ taken_in s after g e theirs p stands numbered slice short is takes at_rest =
     let fits : p.place < 2 ^ 30 = omega (arith, slice.within, stands.theirs_within) in
     let r = takes.received in
     let each : (k : ℕ) → k < length r.given → with_ s p (got s + k) ≡ slice_get r.given k =
-      λ k below. sym (byte_then_is s g p k stands.sound numbered fits (omega (arith, n, short))) ∙ r.each k below in
+    λ k below. sym (byte_then_is s g p k stands.sound numbered fits (omega (arith, n, short))) ∙ r.each k below in
     let grown : got s + length r.given ≤ length theirs = given_within s e theirs p r.given stands slice each in
     let taken : after.taken ≡ s.taken = ap (λ (t : EndState). t.taken) takes.changed in
     let ready_length : length after.ready ≡ length s.ready + length r.given = ap length r.appended ∙ length-append s.ready r.given in
@@ -354,9 +353,9 @@ taken_in s after g e theirs p stands numbered slice short is takes at_rest =
     let h : Hears s after p r.given = hears s after g p stands.sound rests numbered fits (omega (arith, n, short)) taken r in
     let within : p.ack ≤ s.sent = within_sent s e theirs g p stands numbered slice is.1 in
     let acked : s.acked + newly_acked s g ≡ max e.acked p.ack =
-      ap (λ (m : ℕ). s.acked + (let ahead = offset_from m (own_number s s.acked) in if nat_le ahead (s.sent - s.acked) then ahead else 0)) numbered.ack
-      ∙ newly_place s.send_first.0 s.acked s.sent p.ack stands.sound.sending.acked (emitted_small s stands.sound.sending) (ack_small theirs p slice) within
-      ∙ ap (λ (m : ℕ). max m p.ack) (sym stands.acked) in
+    ap (λ (m : ℕ). s.acked + (let ahead = offset_from m (own_number s s.acked) in if nat_le ahead (s.sent - s.acked) then ahead else 0)) numbered.ack
+    ∙ newly_place s.send_first.0 s.acked s.sent p.ack stands.sound.sending.acked (emitted_small s stands.sound.sending) (ack_small theirs p slice) within
+    ∙ ap (λ (m : ℕ). max m p.ack) (sym stands.acked) in
     record {
       end = record e { acked = max e.acked p.ack; arrived = places_of after; owed = e.owed || nat_lt 0 (length p.bytes) };
       step = inr (record {

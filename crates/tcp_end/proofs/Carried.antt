@@ -88,10 +88,10 @@ carries_emits from to e place n c same more within slice =
       segments = λ p here. elim (Contains-push_cases from.emitted (slice_at from.end place n) p here) [
         | inl old ↦ let is = c.segments p old in record { within = omega (arith, is.within, more); bytes = is.bytes; ack = is.ack }
         | inr new ↦ subst (IsEmitted (record { end = record from.end { emitted = e.emitted; owed = e.owed }; emitted = from.emitted ++ slice_at from.end place n ∷ [] })) new (record {
-            within = omega (arith, slice, slice_length n place from.end.stream (omega (arith, slice, within)));
-            bytes = slice_itself from.end place n (omega (arith, slice, within));
-            ack = omega arith;
-          })
+          within = omega (arith, slice, slice_length n place from.end.stream (omega (arith, slice, within)));
+          bytes = slice_itself from.end place n (omega (arith, slice, within));
+          ack = omega arith;
+        })
       ];
     })
 
@@ -157,7 +157,7 @@ emitted_one : (x x' y : Side) (e : Endpoint) (place n : ℕ) → Both x y → e 
 emitted_one x x' y e place n both same more within slice ends emits = record {
   there = from_parts x' y e (x.emitted ++ slice_at x.end place n ∷ []) ends emits (carries_emits x y e place n both.there same more within slice);
   back = to_parts y x' e (x.emitted ++ slice_at x.end place n ∷ []) ends emits
-    (carries_same y x e (x.emitted ++ slice_at x.end place n ∷ []) both.back (ap (λ (z : Endpoint). z.arrived) same) (omega (arith, ap (λ (z : Endpoint). z.read) same, both.back.read)));
+      (carries_same y x e (x.emitted ++ slice_at x.end place n ∷ []) both.back (ap (λ (z : Endpoint). z.arrived) same) (omega (arith, ap (λ (z : Endpoint). z.read) same, both.back.read)));
 }
 
 acts_sends : (x x' y : Side) → Both x y → SendsSome x x' → Both x' y
@@ -194,10 +194,10 @@ acts_takes x x' y both (p, here, inr takes, emits) =
     record {
       there = from_parts x' y _ x.emitted takes.changed emits (carries_acked x y p.ack x'.end.arrived _ both.there is.ack grows);
       back = to_parts y x' x'.end x.emitted refl emits (carries_arrived y x x'.end both.back takes.arrived.rising
-        (λ k there'. elim ((takes.arrived.places k).0 there') [
-          | inl old ↦ both.back.arrived k old
-          | inr brings ↦ omega (arith, brings.1, is.within)
-        ]) grows (ap (λ (z : Endpoint). z.read) takes.changed));
+          (λ k there'. elim ((takes.arrived.places k).0 there') [
+            | inl old ↦ both.back.arrived k old
+            | inr brings ↦ omega (arith, brings.1, is.within)
+          ]) grows (ap (λ (z : Endpoint). z.read) takes.changed));
     }
 
 acts : (x x' y : Side) → Both x y → Acts y.emitted x x' → Both x' y

@@ -33,9 +33,12 @@ pub runs-counted : (base low : ℕ) (ps : List Piece) → AreRuns (base + low) p
 runs-counted base low [] runs = tt
 runs-counted base low (p ∷ ps) runs =
     let at : offset_from p.place base ≡ p.place - base = counted_place base p.place (omega (arith, runs.0)) (omega (arith, runs.2)) in
-    let next : p.place + length p.bytes ≡ base + (offset_from p.place base + length p.bytes) = omega (arith, at, runs.0) in
-    (omega (arith, at, runs.0), runs.1, omega (arith, at, runs.2, runs.0),
-    runs-counted base (offset_from p.place base + length p.bytes) ps (subst (λ (n : ℕ). AreRuns n ps) next runs.3))
+    let next : p.place + length p.bytes ≡ base + (offset_from p.place base + length p.bytes) = omega (arith, at, runs.0) in (
+      omega (arith, at, runs.0),
+      runs.1,
+      omega (arith, at, runs.2, runs.0),
+      runs-counted base (offset_from p.place base + length p.bytes) ps (subst (λ (n : ℕ). AreRuns n ps) next runs.3),
+    )
 
 pub byte_counted : (base place moved : ℕ) (bytes : List ℕ) (k : ℕ) → base ≤ place → moved ≡ place - base → byte_from moved bytes k ≡ byte_from place bytes (base + k)
 byte_counted base place moved bytes k le is = elim (cases_lt k moved) [

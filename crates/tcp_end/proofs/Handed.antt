@@ -29,16 +29,22 @@ raised-counted base low high (p ∷ ps) above fits lie =
 pub lie-raised : (base low from high : ℕ) (ps : List Piece) → base ≤ 2 ^ 20 → from ≡ base + low → high ≡ base + 16384 → AreRuns low ps → LieFrom from high (raised base ps)
 lie-raised base low from high [] fits at window runs = tt
 lie-raised base low from high (p ∷ ps) fits at window runs =
-    let moved : plus p.place base ≡ p.place + base = omega (arith, runs.2, fits) in
-    (omega (arith, moved, at, runs.0), runs.1, omega (arith, moved, window, runs.2),
-    lie-raised base (p.place + length p.bytes) (plus p.place base + length p.bytes) high ps fits (omega (arith, moved)) window runs.3)
+    let moved : plus p.place base ≡ p.place + base = omega (arith, runs.2, fits) in (
+      omega (arith, moved, at, runs.0),
+      runs.1,
+      omega (arith, moved, window, runs.2),
+      lie-raised base (p.place + length p.bytes) (plus p.place base + length p.bytes) high ps fits (omega (arith, moved)) window runs.3,
+    )
 
 pub runs-counted_back : (base low from high : ℕ) (ps : List Piece) → base ≤ 2 ^ 20 → from ≡ base + low → high ≡ base + 16384 → LieFrom from high ps → AreRuns low (counted_from base ps)
 runs-counted_back base low from high [] fits at window lie = tt
 runs-counted_back base low from high (p ∷ ps) fits at window lie =
-    let moved : offset_from p.place base ≡ p.place - base = omega (arith, lie.0, lie.2, at, window, fits) in
-    (omega (arith, moved, at, lie.0), lie.1, omega (arith, moved, window, lie.2, lie.0, at),
-    runs-counted_back base (offset_from p.place base + length p.bytes) (p.place + length p.bytes) high ps fits (omega (arith, moved, lie.0, at)) window lie.3)
+    let moved : offset_from p.place base ≡ p.place - base = omega (arith, lie.0, lie.2, at, window, fits) in (
+      omega (arith, moved, at, lie.0),
+      lie.1,
+      omega (arith, moved, window, lie.2, lie.0, at),
+      runs-counted_back base (offset_from p.place base + length p.bytes) (p.place + length p.bytes) high ps fits (omega (arith, moved, lie.0, at)) window lie.3,
+    )
 
 -- what stands ahead of the state is what the endpoint keeps
 pub ahead_is : (e : Inside) → e.ahead.next ≡ expected (state_of e) → AreRuns 1 e.ahead.pieces → ahead_of (state_of e) ≡ e.ahead
@@ -55,7 +61,7 @@ lies e keeps few =
       sending = keeps.sending;
       received = few;
       ahead = lie-raised ((e.taken + length e.ready) % 2 ^ 32) 1 (e.taken + length e.ready + 1) (e.taken + length e.ready + 16384) e.ahead.pieces
-        (omega (arith, base, few)) (omega (arith, base)) (omega (arith, base)) keeps.runs;
+          (omega (arith, base, few)) (omega (arith, base)) (omega (arith, base)) keeps.runs;
     }
 
 pub exported : (e : Inside) (s : EndState) → s ≡ state_of e → Keeps e → got s ≤ 2 ^ 20 → IsEndState s
@@ -82,14 +88,14 @@ pub imported_runs : (s : EndState) (vec counted ahead : List Piece) (len low : �
 imported_runs s vec counted ahead len low rests le lens vecs counts is =
     let base = s.taken + len in
     rw (is ∙ counts ∙ ap (counted_from base) vecs) (runs_from low 1 (counted_from base s.ahead) le
-      (runs-counted_back base 1 (got s + 1) (got s + 16384) s.ahead (omega (arith, lens, rests.received)) (omega (arith, lens)) (omega (arith, lens)) rests.ahead))
+    (runs-counted_back base 1 (got s + 1) (got s + 16384) s.ahead (omega (arith, lens, rests.received)) (omega (arith, lens)) (omega (arith, lens)) rests.ahead))
 
 made_is : (s : EndState) (r : Reassembly) (next len : ℕ) (vec counted ahead : List Piece) → len ≡ length s.ready → vec ≡ s.ahead → counted ≡ counted_from (s.taken + len) vec → ahead ≡ counted → next ≡ plus s.receive_first.0 (s.taken + len) → r ≡ record { next = next; pieces = ahead }
     → r ≡ record { next = plus s.receive_first.0 (got s); pieces = counted_from (got s) s.ahead }
 made_is s r next len vec counted ahead lens vecs counts is nexts made =
     made ∙ ap (λ (n : ℕ). let q : Reassembly = record { next = n; pieces = ahead } in q) (nexts ∙ ap (λ (n : ℕ). plus s.receive_first.0 (s.taken + n)) lens)
     ∙ ap (λ (ps : List Piece). let q : Reassembly = record { next = plus s.receive_first.0 (got s); pieces = ps } in q)
-      (is ∙ counts ∙ ap (λ (n : ℕ). counted_from (s.taken + n) vec) lens ∙ ap (counted_from (got s)) vecs)
+    (is ∙ counts ∙ ap (λ (n : ℕ). counted_from (s.taken + n) vec) lens ∙ ap (counted_from (got s)) vecs)
 
 -- what is imported is kept, and seen as it was
 pub imported_keeps : (s : EndState) → IsEndState s → Keeps (inside_of s (record { next = plus s.receive_first.0 (got s); pieces = counted_from (got s) s.ahead }))
@@ -103,8 +109,8 @@ pub imported_is : (s : EndState) → IsEndState s → state_of (inside_of s (rec
 imported_is s rests =
     let same : got s % 2 ^ 32 ≡ got s = omega (arith, rests.received) in
     ap (λ (ps : List Piece). let t : EndState = record s { ahead = ps } in t)
-      (ap (λ (n : ℕ). raised n (counted_from (got s) s.ahead)) same
-      ∙ raised-counted (got s) (got s + 1) (got s + 16384) s.ahead (omega arith) (omega (arith, rests.received)) rests.ahead)
+    (ap (λ (n : ℕ). raised n (counted_from (got s) s.ahead)) same
+    ∙ raised-counted (got s) (got s + 1) (got s + 16384) s.ahead (omega arith) (omega (arith, rests.received)) rests.ahead)
 
 -- the fields as the calls answered them
 pub fields_are : (s : EndState) (waiting ready : List ℕ) (r : Reassembly) (next len : ℕ) (vec counted ahead : List Piece) → waiting ≡ s.waiting → ready ≡ s.ready

@@ -50,7 +50,7 @@ in_run ps bytes c all k below =
     let run = filled bytes 0 (take c ps) in
     let here : k - 0 ≡ k = omega arith in
     ap (λ o. option_or o (byte_from 0 bytes k))
-      (held_cut c ps k ∙ ap (option_or (held (take c ps) k)) (held_below (0 + length run + 1) (drop c ps) k all.runs (omega (arith, below))) ∙ or_none (held (take c ps) k))
+    (held_cut c ps k ∙ ap (option_or (held (take c ps) k)) (held_below (0 + length run + 1) (drop c ps) k all.runs (omega (arith, below))) ∙ or_none (held (take c ps) k))
     ∙ sym (all.each k (omega arith)) ∙ ap (slice_get run) here
 
 pub runs_behind : (ps : List Piece) (bytes : List ℕ) (c : ℕ) → Fills bytes 0 ps c → AreRuns (length (filled bytes 0 (take c ps)) + 1) (drop c ps)
@@ -110,7 +110,7 @@ pub run_count : (before : Reassembly) (bytes ready ready' : List ℕ) (old_len n
     → ready' ≡ ready ++ filled bytes 0 (take few cut) → new_len - old_len ≡ length (run_of before bytes)
 run_count before bytes ready ready' old_len new_len few cut old new counts same added =
     let whole : ready' ≡ ready ++ run_of before bytes =
-      added ∙ ap (λ (qs : List Piece). ready ++ filled bytes 0 (take few qs)) same ∙ ap (λ (n : ℕ). ready ++ filled bytes 0 (take n before.pieces)) counts in
+    added ∙ ap (λ (qs : List Piece). ready ++ filled bytes 0 (take few qs)) same ∙ ap (λ (n : ℕ). ready ++ filled bytes 0 (take n before.pieces)) counts in
     let n : length ready' ≡ length ready + length (run_of before bytes) = ap length whole ∙ length-append ready (run_of before bytes) in
     omega (arith, old, new, n)
 

@@ -42,16 +42,24 @@ acceptable_place f next place len small fits short (inl h) = absurd (omega (arit
 acceptable_place f next place len small fits short (inr (inl h)) = inr (inl (h.0, h.1, in_window f next place (omega (arith, small)) (omega (arith, fits)) h.2))
 acceptable_place f next place len small fits short (inr (inr (some, open', inl first))) = inr (inr (some, open', inl (in_window f next place (omega (arith, small)) (omega (arith, fits)) first)))
 acceptable_place f next place len small fits short (inr (inr (some, open', inr last))) =
-    inr (inr (some, open', inr (in_window f next (place + len - 1) (omega (arith, small)) (omega (arith, fits, short))
-    (subst (λ (n : ℕ). IsInWindow (number f next) 16384 n) (last_number f place len some) last))))
+    inr (inr (
+      some,
+      open',
+      inr (in_window f next (place + len - 1) (omega (arith, small)) (omega (arith, fits, short))
+          (subst (λ (n : ℕ). IsInWindow (number f next) 16384 n) (last_number f place len some) last)),
+    ))
 
 pub place_acceptable : (f next place len : ℕ) → next < 2 ^ 30 → place < 2 ^ 30 → len < 2 ^ 16 → AcceptablePlace next 16384 place len → Acceptable (number f next) 16384 (number f place) len
 place_acceptable f next place len small fits short (inl h) = absurd (omega (arith, h.1))
 place_acceptable f next place len small fits short (inr (inl h)) = inr (inl (h.0, h.1, window_in f next place (omega (arith, small)) (omega (arith, fits)) h.2))
 place_acceptable f next place len small fits short (inr (inr (some, open', inl first))) = inr (inr (some, open', inl (window_in f next place (omega (arith, small)) (omega (arith, fits)) first)))
 place_acceptable f next place len small fits short (inr (inr (some, open', inr last))) =
-    inr (inr (some, open', inr (subst (λ (n : ℕ). IsInWindow (number f next) 16384 n) (sym (last_number f place len some))
-    (window_in f next (place + len - 1) (omega (arith, small)) (omega (arith, fits, short)) last))))
+    inr (inr (
+      some,
+      open',
+      inr (subst (λ (n : ℕ). IsInWindow (number f next) 16384 n) (sym (last_number f place len some))
+          (window_in f next (place + len - 1) (omega (arith, small)) (omega (arith, fits, short)) last)),
+    ))
 
 -- what an acknowledgement says
 pub beyond_place : (f acked emitted ack : ℕ) → acked ≤ emitted → emitted < 2 ^ 30 → ack < 2 ^ 30 → IsAck Beyond (number f acked) (number f emitted) (number f ack) → emitted < ack

@@ -160,13 +160,17 @@ emits_again s after g some slice is e theirs stands =
 -- what is owed changes
 pub owes : (s after : EndState) (owed : Bool) → after ≡ record s { owed = owed } → (e : Endpoint) (theirs : List ℕ) → Stands s e theirs → Stands after (record e { owed = owed }) theirs
 owes s after owed is e theirs stands = rw is (record {
-  sound = record { sending = record {
+  sound = record {
+    sending = record {
       acked = stands.sound.sending.acked;
       flight = stands.sound.sending.flight;
       emitted = stands.sound.sending.emitted;
       stream = stands.sound.sending.stream;
       at_turn = stands.sound.sending.at_turn;
-    }; received = stands.sound.received; ahead = stands.sound.ahead };
+    };
+    received = stands.sound.received;
+    ahead = stands.sound.ahead;
+  };
   acked = stands.acked;
   emitted = stands.emitted;
   read = stands.read;

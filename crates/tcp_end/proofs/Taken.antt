@@ -52,7 +52,6 @@ next_after e ready r g acked keeps is =
     let n : length ready ≡ length e.ready + length is.given = ap length is.appended ∙ length-append e.ready is.given in
     is.next ∙ ap (λ (m : ℕ). plus m (length is.given)) keeps.next ∙ omega (arith, n)
 
-
 takes_segment : (e : Inside) (ready : List ℕ) (r : Reassembly) (g : Segment) (acked : ℕ) → Keeps e → AreRuns 1 r.pieces → Receives e.ahead r e.ready ready g.seq.0 g.bytes
     → TakesSegment (state_of e) g acked (state_of (taken e ready r g acked))
 takes_segment e ready r g acked keeps runs is =
@@ -60,7 +59,7 @@ takes_segment e ready r g acked keeps runs is =
     let new : ahead_of (state_of (taken e ready r g acked)) ≡ r = ahead_is (taken e ready r g acked) (next_after e ready r g acked keeps is) runs in
     record {
       received = subst (λ (a : Reassembly). Receives a (ahead_of (state_of (taken e ready r g acked))) e.ready ready g.seq.0 g.bytes) (sym old)
-        (subst (λ (a : Reassembly). Receives e.ahead a e.ready ready g.seq.0 g.bytes) (sym new) is);
+          (subst (λ (a : Reassembly). Receives e.ahead a e.ready ready g.seq.0 g.bytes) (sym new) is);
       changed = refl;
     }
 

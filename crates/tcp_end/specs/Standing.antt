@@ -16,18 +16,15 @@ pub record Stands (s : EndState) (e : Endpoint) (theirs : List ℕ) : Type 0 whe
   pub emitted : e.emitted ≡ s.sent
   pub read : e.read ≡ s.taken
   pub owed : e.owed ≡ s.owed
-
   -- the stream that it sends is what was acknowledged, and then what is waiting
   pub acked_within : e.acked ≤ length e.stream
   pub waiting : s.waiting ≡ drop e.acked e.stream
-
   -- the received length, and the bytes from what was read up to it
   pub rising : IsStrictlyIncreasing e.arrived
   pub received : received e ≡ got s
   pub received_within : got s ≤ length theirs
   pub theirs_within : length theirs ≤ 2 ^ 20
   pub ready : s.ready ≡ take (length s.ready) (drop e.read theirs)
-
   -- a place arrived exactly where it is below the received length or a piece has it, and a piece has the stream's bytes
   pub arrived : (place : ℕ) → Contains e.arrived place ↔ ((place < got s) ⊎ IsSome (held s.ahead place))
   pub ahead : (place byte : ℕ) → held s.ahead place ≡ Some byte → slice_get theirs place ≡ Some byte

@@ -94,6 +94,5 @@ LieFrom low high (p ∷ ps) =
 pub record IsEndState (s : EndState) : Type 0 where
   pub sending : IsSending s
   pub received : got s ≤ 2 ^ 20
-
   -- the pieces stand above the place expected next, which has no byte, and in the window
   pub ahead : LieFrom (got s + 1) (got s + 16384) s.ahead

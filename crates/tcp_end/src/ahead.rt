@@ -37,7 +37,11 @@ fn end_of_run(pieces: &[Piece], from: usize) -> usize
     ensures { result ≡ fold end_from from pieces.now }
 {
     pieces.iter().fold(from, |end, piece| {
-        if piece.place as usize <= end { end.max(piece.end()) } else { end }
+        if piece.place as usize <= end {
+            end.max(piece.end())
+        } else {
+            end
+        }
     })
 }
 
@@ -159,7 +163,12 @@ fn receive_in_order(ready: &mut ByteQueue, ahead: &mut Reasm, bytes: &[u8]) -> R
 
 /// Keeps those of the bytes from a sequence number on that stand in the window and have no byte yet,
 /// and answers whether there is one. For want of memory nothing is changed.
-pub(crate) fn receive(ready: &mut ByteQueue, ahead: &mut Reasm, seq: Seq, bytes: &[u8]) -> Result<bool, NoMemory>
+pub(crate) fn receive(
+    ready: &mut ByteQueue,
+    ahead: &mut Reasm,
+    seq: Seq,
+    bytes: &[u8],
+) -> Result<bool, NoMemory>
     requires len { length bytes.now < 2 ^ 16 }
     requires runs { AreRuns 1 ahead.old.pieces }
     ensures ok { IfOk result (λ new. Received new ahead.old ahead.new ready.old ready.new seq.0 bytes.now) }

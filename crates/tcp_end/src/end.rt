@@ -75,7 +75,13 @@ fn taken_as(brings: bool, acked: u32) -> Arrival
 impl End {
     /// An endpoint that sends to a side, with the numbers of the first byte that it sends and of the
     /// first that it receives.
-    pub fn new(alloc: Global, way: Way, peering: PeeringId, send_first: Seq, receive_first: Seq) -> Result<End, NoMemory>
+    pub fn new(
+        alloc: Global,
+        way: Way,
+        peering: PeeringId,
+        send_first: Seq,
+        receive_first: Seq,
+    ) -> Result<End, NoMemory>
         ensures { IfOk result (λ end. end ≡ fresh way peering send_first receive_first) }
     {
         Ok(End {

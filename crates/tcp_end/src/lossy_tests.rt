@@ -1,7 +1,7 @@
 //! Two ends over a link that loses, repeats and reorders what it is given.
 
-use crate::tests::{moved, stream, take, two_ends};
 use crate::End;
+use crate::tests::{moved, stream, take, two_ends};
 use graft_edge::{NoMemory, TryCopy};
 use std::alloc::Global;
 use std::process::Abort;
@@ -17,7 +17,10 @@ struct Random(u64);
 
 impl Random {
     fn below(&mut self, n: u32) -> u32 {
-        self.0 = self.0.wrapping_mul(6_364_136_223_846_793_005).wrapping_add(1_442_695_040_888_963_407);
+        self.0 = self
+            .0
+            .wrapping_mul(6_364_136_223_846_793_005)
+            .wrapping_add(1_442_695_040_888_963_407);
         (self.0 >> 33) as u32 % n.max(1)
     }
 }
@@ -65,7 +68,12 @@ fn emit(side: &mut Side, random: &mut Random) -> Result<(), NoMemory> {
 }
 
 /// Some of the segments on a link arrive, in whatever order. One in sixteen stays there too.
-fn deliver(rt: &impl Abort, link: &mut Vec<Segment>, end: &mut End, random: &mut Random) -> Result<(), NoMemory> {
+fn deliver(
+    rt: &impl Abort,
+    link: &mut Vec<Segment>,
+    end: &mut End,
+    random: &mut Random,
+) -> Result<(), NoMemory> {
     for _ in 0..8 {
         let len = link.len();
         if len > 0 {
@@ -94,12 +102,20 @@ fn read(rt: &impl Abort, side: &mut Side, theirs: &[u8]) {
 fn sending(alloc: Global, end: End, bytes: &[u8]) -> Result<Side, Fail> {
     let mut end = end;
     end.send(bytes)?;
-    Ok(Side { end, read: 0, link: Vec::new(alloc) })
+    Ok(Side {
+        end,
+        read: 0,
+        link: Vec::new(alloc),
+    })
 }
 
 fn handed_over(rt: &impl Abort, side: Side) -> Side {
     let Side { end, read, link } = side;
-    Side { end: moved(rt, end), read, link }
+    Side {
+        end: moved(rt, end),
+        read,
+        link,
+    }
 }
 
 /// Whether a side's stream was acknowledged whole, and the other one read whole.
@@ -107,29 +123,43 @@ fn is_through(side: &Side) -> bool {
     side.end.acked() == LENGTH && side.read == LENGTH
 }
 
+/// Both sides send, and some of what is on the links arrives and is read.
+fn step(
+    rt: &impl Abort,
+    far: &mut Side,
+    near: &mut Side,
+    random: &mut Random,
+) -> Result<(), NoMemory> {
+    emit(far, random)?;
+    emit(near, random)?;
+    deliver(rt, &mut far.link, &mut near.end, random)?;
+    deliver(rt, &mut near.link, &mut far.end, random)
+}
+
 /// Both streams go through. The numbers of one of them go round on the way.
-fn go_through(rt: &(impl Abort + AllocGlobal), seed: u32, there: &[u8], back: &[u8]) -> Result<(), Fail> {
+fn go_through(
+    rt: &(impl Abort + AllocGlobal),
+    seed: u32,
+    there: &[u8],
+    back: &[u8],
+) -> Result<(), Fail> {
     let mut random = Random(u64::from(seed));
     let (remote, home) = two_ends(rt.alloc(), 4_294_930_000, random.below(4_294_967_295))?;
     let mut far = sending(rt.alloc(), remote, there)?;
     let mut near = sending(rt.alloc(), home, back)?;
-    for step in 0..10_000u32 {
-        emit(&mut far, &mut random)?;
-        emit(&mut near, &mut random)?;
-        deliver(rt, &mut far.link, &mut near.end, &mut random)?;
-        deliver(rt, &mut near.link, &mut far.end, &mut random)?;
+    let mut steps = 0;
+    while steps < 10_000u32 && !(is_through(&far) && is_through(&near)) {
+        step(rt, &mut far, &mut near, &mut random)?;
         read(rt, &mut far, back);
         read(rt, &mut near, there);
-        if step % 20 == 0 {
+        if steps % 20 == 0 {
             far = handed_over(rt, far);
-        } else if step % 10 == 0 {
+        } else if steps % 10 == 0 {
             near = handed_over(rt, near);
         }
-        if is_through(&far) && is_through(&near) {
-            return Ok(());
-        }
+        steps += 1;
     }
-    assert!(rt; false, "seed {seed} is through");
+    assert!(rt; steps < 10_000, "seed {seed} is through");
     Ok(())
 }
 
