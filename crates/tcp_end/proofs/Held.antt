@@ -1,0 +1,54 @@
+-- What lists of pieces hold.
+use Rattle.std.proofs.Common.{◌≡◌, ℕ, zero, suc, ◌+◌, ◌-◌, ◌<◌, ◌≤◌, List, [], ◌∷◌, ◌++◌, length, take, drop, Some, None, refl, sym, ap, ◌∙◌, arith, get_or}
+use Rattle.std.specs.Prelude.{if◌then◌else◌}
+use Rattle.std.proofs.lemmas.Bool.{lt-ltb, le-ltb}
+use Rattle.std.proofs.lemmas.Option.{slice_get_past, slice_get-get_or}
+use Rattle.std.specs.List.{slice_get}
+use Rattle.std.specs.Option.{option_or}
+use Rattle.tcp_seq.specs.declared.state.Piece.{Piece}
+use Rattle.tcp_reasm.specs.Runs.{byte_from, held, AreRuns}
+use Rattle.tcp_end.proofs.Lookups.{or_assoc}
+
+pub byte_below : (place : ℕ) (bytes : List ℕ) (k : ℕ) → k < place → byte_from place bytes k ≡ None
+byte_below place bytes k below = ap (λ b. if b then None else slice_get bytes (k - place)) (lt-ltb k place below)
+
+pub byte_there : (place : ℕ) (bytes : List ℕ) (k : ℕ) → place ≤ k → byte_from place bytes k ≡ slice_get bytes (k - place)
+byte_there place bytes k from = ap (λ b. if b then None else slice_get bytes (k - place)) (le-ltb k place from)
+
+pub byte_past : (place : ℕ) (bytes : List ℕ) (k : ℕ) → place + length bytes ≤ k → byte_from place bytes k ≡ None
+byte_past place bytes k past = byte_there place bytes k (omega (arith, past)) ∙ slice_get_past bytes (k - place) (omega (arith, past))
+
+pub byte_within : (place : ℕ) (bytes : List ℕ) (k : ℕ) → place ≤ k → k < place + length bytes → byte_from place bytes k ≡ Some (get_or bytes (k - place) 0)
+byte_within place bytes k from below = byte_there place bytes k from ∙ slice_get-get_or bytes (k - place) 0 (omega (arith, from, below))
+
+pub held-append : (ps qs : List Piece) (k : ℕ) → held (ps ++ qs) k ≡ option_or (held ps k) (held qs k)
+held-append [] qs k = refl
+held-append (p ∷ ps) qs k = ap (option_or (byte_from p.place p.bytes k)) (held-append ps qs k) ∙ sym (or_assoc (byte_from p.place p.bytes k) (held ps k) (held qs k))
+
+pub held_below : (low : ℕ) (ps : List Piece) (k : ℕ) → AreRuns low ps → k < low → held ps k ≡ None
+held_below low [] k runs below = refl
+held_below low (p ∷ ps) k runs below =
+    ap (λ o. option_or o (held ps k)) (byte_below p.place p.bytes k (omega (arith, runs.0, below)))
+    ∙ held_below (p.place + length p.bytes) ps k runs.3 (omega (arith, runs.0, below))
+
+pub runs-take : (low n : ℕ) (ps : List Piece) → AreRuns low ps → AreRuns low (take n ps)
+runs-take low zero ps runs = tt
+runs-take low (suc n) [] runs = tt
+runs-take low (suc n) (p ∷ ps) runs = (runs.0, runs.1, runs.2, runs-take (p.place + length p.bytes) n ps runs.3)
+
+-- a lower bound
+pub runs_from : (low high : ℕ) (ps : List Piece) → low ≤ high → AreRuns high ps → AreRuns low ps
+runs_from low high [] le runs = tt
+runs_from low high (p ∷ ps) le runs = (omega (arith, runs.0, le), runs.1, runs.2, runs.3)
+
+pub runs-drop : (low n : ℕ) (ps : List Piece) → AreRuns low ps → AreRuns low (drop n ps)
+runs-drop low zero ps runs = runs
+runs-drop low (suc n) [] runs = tt
+runs-drop low (suc n) (p ∷ ps) runs = runs_from low (p.place + length p.bytes) (drop n ps) (omega (arith, runs.0)) (runs-drop (p.place + length p.bytes) n ps runs.3)
+
+-- what a piece holds where it stands in front
+pub held_here : (p : Piece) (ps : List Piece) (k : ℕ) → p.place ≤ k → k < p.place + length p.bytes → held (p ∷ ps) k ≡ Some (get_or p.bytes (k - p.place) 0)
+held_here p ps k from below = ap (λ o. option_or o (held ps k)) (byte_within p.place p.bytes k from below)
+
+pub held_later : (p : Piece) (ps : List Piece) (k : ℕ) → p.place + length p.bytes ≤ k → held (p ∷ ps) k ≡ held ps k
+held_later p ps k past = ap (λ o. option_or o (held ps k)) (byte_past p.place p.bytes k past)

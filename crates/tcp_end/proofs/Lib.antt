@@ -1,0 +1,14 @@
+pub mod Lookups
+pub mod Held
+pub mod Counted
+pub mod Holes
+pub mod Filled
+pub mod InOrder
+pub mod Handed
+pub mod Taken
+pub mod Steps
+pub mod Arrived
+pub mod Places
+pub mod Arrives
+pub mod Grown
+pub mod Carried

@@ -1,0 +1,29 @@
+-- The state that an endpoint is seen as, and what its fields keep.
+use Rattle.std.specs.Prelude.{◌≡◌, ◌+◌, ◌%◌, ◌^◌, length}
+use Rattle.tcp_seq.specs.declared.state.EndState.{EndState}
+use Rattle.tcp_reasm.specs.Runs.{AreRuns}
+use Rattle.tcp_end.specs.State.{IsSending, expected, raised}
+use Rattle.tcp_end.specs.declared.end.End.TheInside.{Inside}
+
+-- the pieces that stand ahead have their places in the stream
+abbrev pub state_of : Inside → EndState
+state_of e = record {
+  way = e.way;
+  peering = e.peering;
+  send_first = e.send_first;
+  acked = e.acked;
+  sent = e.sent;
+  waiting = e.waiting;
+  receive_first = e.receive_first;
+  taken = e.taken;
+  ready = e.ready;
+  ahead = raised ((e.taken + length e.ready) % 2 ^ 32) e.ahead.pieces;
+  acked_at_turn = e.acked_at_turn;
+  owed = e.owed;
+}
+
+-- the reassembly expects the number after the received bytes, and has no byte there
+pub record Keeps (e : Inside) : Type 0 where
+  pub sending : IsSending (state_of e)
+  pub next : e.ahead.next ≡ expected (state_of e)
+  pub runs : AreRuns 1 e.ahead.pieces

@@ -1,0 +1,98 @@
+-- The lengths and numbers that the state of an endpoint has, the segments that it emits, and what a state at rest has to meet
+-- (RFC 9293, section 3.4, with this project's window, flight and payload).
+use Rattle.std.specs.Prelude.{ℕ, ◌<◌, ◌≤◌, ◌+◌, ◌-◌, ◌^◌, ◌%◌, min, List, [], ◌∷◌, length, take, drop, map, false}
+use Rattle.graft_edge.specs.declared.ids.PeeringId.{PeeringId}
+use Rattle.tcp_seq.specs.Numbers.{plus, offset_from, number}
+use Rattle.tcp_seq.specs.declared.seq.Seq.{Seq}
+use Rattle.tcp_seq.specs.declared.segment.Way.{Way}
+use Rattle.tcp_seq.specs.declared.segment.Segment.{Segment}
+use Rattle.tcp_seq.specs.declared.state.Piece.{Piece}
+use Rattle.tcp_seq.specs.declared.state.EndState.{EndState}
+
+-- nothing sent and nothing received
+abbrev pub fresh : Way → PeeringId → Seq → Seq → EndState
+fresh way peering send_first receive_first = record {
+  way = way;
+  peering = peering;
+  send_first = send_first;
+  acked = 0;
+  sent = 0;
+  waiting = [];
+  receive_first = receive_first;
+  taken = 0;
+  ready = [];
+  ahead = [];
+  acked_at_turn = 0;
+  owed = false;
+}
+
+-- the length of the stream that it sends
+abbrev pub stream_length : EndState → ℕ
+stream_length s = s.acked + length s.waiting
+
+-- how many bytes were never emitted
+abbrev pub unsent : EndState → ℕ
+unsent s = stream_length s - s.sent
+
+-- how many bytes were emitted and aren't acknowledged
+abbrev pub outstanding : EndState → ℕ
+outstanding s = s.sent - s.acked
+
+-- the received length: what was read, and what is ready
+abbrev pub got : EndState → ℕ
+got s = s.taken + length s.ready
+
+-- the number of a byte of the stream that it sends
+abbrev pub own_number : EndState → ℕ → ℕ
+own_number s place = number s.send_first.0 place
+
+-- the number expected next
+abbrev pub expected : EndState → ℕ
+expected s = number s.receive_first.0 (got s)
+
+-- pieces with their places counted from another place, modulo 2^32, and back
+abbrev pub counted_from : ℕ → List Piece → List Piece
+counted_from base ps = map {A = Piece} (λ p. record p { place = offset_from p.place base }) ps
+
+abbrev pub raised : ℕ → List Piece → List Piece
+raised base ps = map {A = Piece} (λ p. record p { place = plus p.place base }) ps
+
+-- the segment with so many bytes from a place of the stream on, and the number expected next
+abbrev pub segment_at : EndState → ℕ → ℕ → Segment
+segment_at s place len = record {
+  peering = s.peering;
+  way = s.way;
+  seq = record { 0 = own_number s place };
+  ack = record { 0 = expected s };
+  window = 16384;
+  bytes = take len (drop (place - s.acked) s.waiting);
+}
+
+-- how many bytes the next slice has: what is unsent and the flight of 15,360 leaves, at most 1,024
+abbrev pub next_length : EndState → ℕ
+next_length s = min 1024 (min (unsent s) (15360 - outstanding s))
+
+-- how many bytes are sent again: what is outstanding, at most 1,024
+abbrev pub again_length : EndState → ℕ
+again_length s = min 1024 (outstanding s)
+
+-- what the sending side keeps
+pub record IsSending (s : EndState) : Type 0 where
+  pub acked : s.acked ≤ s.sent
+  pub flight : s.sent ≤ s.acked + 15360
+  pub emitted : s.sent ≤ stream_length s
+  pub stream : stream_length s ≤ 2 ^ 20
+  pub at_turn : s.acked_at_turn ≤ s.acked
+
+-- Pieces stand from a place on: none is empty, each begins at the end of the one before or above, and ends at or below `high`.
+abbrev pub LieFrom : ℕ → ℕ → List Piece → Type 0
+LieFrom low high [] = Unit {0}
+LieFrom low high (p ∷ ps) =
+    (low ≤ p.place) × (0 < length p.bytes) × (p.place + length p.bytes ≤ high) × LieFrom (p.place + length p.bytes) high ps
+
+-- what a state at rest meets
+pub record IsEndState (s : EndState) : Type 0 where
+  pub sending : IsSending s
+  pub received : got s ≤ 2 ^ 20
+  -- the pieces stand above the place expected next, which has no byte, and in the window
+  pub ahead : LieFrom (got s + 1) (got s + 16384) s.ahead

@@ -1,0 +1,39 @@
+//! What a call answers.
+
+use graft_edge::NoMemory;
+use tcp_seq::Seq;
+use thiserror::Error;
+
+/// What an arriving segment was (RFC 9293, section 3.10.7.4).
+#[derive(Clone, Copy, Debug, PartialEq, Eq, Hash)]
+pub enum Arrival {
+    /// It isn't acceptable.
+    Outside,
+    /// It is acceptable, and acknowledges what wasn't emitted.
+    Ahead { ack: Seq },
+    /// It brings no byte and no acknowledgement that weren't there before.
+    Duplicate,
+    /// It brings a byte or an acknowledgement.
+    Accepted,
+}
+
+/// Why bytes aren't sent.
+#[derive(Clone, Copy, Debug, PartialEq, Eq, Hash, Error)]
+pub enum SendStop {
+    /// The stream would have this length, and it has at most 1,048,576 bytes.
+    #[error("the stream would have {length} bytes")]
+    Full { length: usize },
+    #[error("no memory")]
+    NoMemory,
+}
+
+impl From<NoMemory> for SendStop {
+    ghost use Rattle.std.specs.Prelude.{◌≡◌};
+    ghost use Rattle.tcp_end.specs.declared.arrival.SendStop.TheVariants as stops;
+
+    ghost from_gives = { λ _ stop. stop ≡ stops.NoMemory };
+
+    fn from(_error: NoMemory) -> SendStop {
+        SendStop::NoMemory
+    }
+}

@@ -1,0 +1,112 @@
+//! Bytes that are added at the back and dropped at the front.
+
+ghost use Rattle.std.specs.Prelude.{◌≡◌, ◌≤◌, ◌++◌, [], length, take, drop, OnOk, OnErr};
+
+use graft_edge::{Items, NoMemory, Octets};
+use std::alloc::Global;
+use std::marker::Model;
+
+/// A queue of bytes, which contracts see as their list. The bytes stand in one slice behind a part that
+/// was dropped already. As soon as that part is as long as the rest, the rest moves to the front: each
+/// byte moves at most once for each one that is dropped, and the memory is that of the bytes there are.
+#[derive(Debug, Drop)]
+pub(crate) struct ByteQueue {
+    bytes: Vec<u8>,
+    dropped: usize,
+}
+
+impl Model for ByteQueue {
+    ghost use Rattle.std.specs.Prelude.{List, ℕ, ◌≤◌, length, drop};
+
+    ghost Value = { List ℕ };
+
+    ghost view = { λ q. drop q.dropped q.bytes.items };
+
+    ghost invariant = { λ q. q.dropped ≤ length q.bytes.items };
+}
+
+/// Takes the first values out.
+pub(crate) fn remove_front<T: Drop>(values: &mut Vec<T>, count: usize)
+    requires { count ≤ length values.old.items }
+    ensures { values.new.items ≡ drop count values.old.items }
+{
+    let left = values.len() - count;
+    values.as_mut_slice().rotate_left(count);
+    values.truncate(left);
+}
+
+impl ByteQueue {
+    pub fn new(alloc: Global) -> ByteQueue
+        ensures { result ≡ [] }
+    {
+        ByteQueue {
+            bytes: Vec::new(alloc),
+            dropped: 0,
+        }
+    }
+
+    /// The queue of a list's bytes. It takes no memory.
+    pub fn from_octets(octets: Octets) -> ByteQueue
+        ensures { result ≡ octets }
+    {
+        ByteQueue {
+            bytes: octets.into_vec(),
+            dropped: 0,
+        }
+    }
+
+    /// The list of the bytes. It takes no memory.
+    pub fn into_octets(self) -> Octets
+        ensures { result ≡ self }
+    {
+        let ByteQueue { mut bytes, dropped } = self;
+        remove_front(&mut bytes, dropped);
+        Items::from_vec(bytes)
+    }
+
+    pub fn allocator(&self) -> Global {
+        *self.bytes.allocator()
+    }
+
+    pub fn as_slice(&self) -> &[u8]
+        ensures { result.now ≡ self.now }
+    {
+        &self.bytes[self.dropped..]
+    }
+
+    pub fn len(&self) -> usize
+        ensures { result ≡ length self.now }
+    {
+        self.bytes.len() - self.dropped
+    }
+
+    /// Adds bytes at the back.
+    pub fn extend(&mut self, bytes: &[u8]) -> Result<(), NoMemory>
+        ensures ok { OnOk result (self.new ≡ self.old ++ bytes.now) }
+        ensures err { OnErr result (self.new ≡ self.old) }
+    {
+        Ok(self.bytes.extend_from_slice(bytes)?)
+    }
+
+    /// Drops all but the first bytes.
+    pub fn truncate(&mut self, len: usize)
+        requires { len ≤ length self.old }
+        ensures { self.new ≡ take len self.old }
+    {
+        self.bytes.truncate(self.dropped + len);
+    }
+
+    /// Drops the first bytes.
+    pub fn drop_front(&mut self, count: usize)
+        requires { count ≤ length self.old }
+        ensures { self.new ≡ drop count self.old }
+    {
+        let dropped = self.dropped + count;
+        if dropped >= self.bytes.len() - dropped {
+            remove_front(&mut self.bytes, dropped);
+            self.dropped = 0;
+        } else {
+            self.dropped = dropped;
+        }
+    }
+}

@@ -1,0 +1,401 @@
+//! Endpoints.
+
+ghost use Rattle.std.specs.Prelude.{ℕ, ◌≡◌, ◌≢◌, ◌<◌, ◌≤◌, ◌+◌, ◌-◌, ◌^◌, ◌↔◌, ◌⊎◌, ◌++◌, length, take, drop, true, false, IsNone, IsSome, IfSome, IfOk, OnOk, OnErr, nat_lt, ◌||◌, if◌then◌else◌};
+ghost use Rattle.tcp_seq.specs.Numbers.{plus};
+ghost use Rattle.tcp_seq.specs.Endpoint.{Sends, EmitsNext, EmitsAgain, Answers, Reads};
+ghost use Rattle.tcp_end.specs.Standing.{StepsBy, EmitsBy, TakesBy};
+ghost use Rattle.tcp_end.specs.Arriving.{IsArrival, Leaves, TakenIn, Says};
+ghost use Rattle.tcp_end.specs.State.{fresh, stream_length, unsent, outstanding, got, segment_at, next_length, again_length, IsSending, IsEndState};
+
+use crate::ahead::{count_from, raise, receive};
+use crate::arrival::{Arrival, SendStop};
+use crate::byte_queue::ByteQueue;
+use graft_edge::{Items, NoMemory, Octets, PeeringId};
+use std::alloc::Global;
+use std::marker::Model;
+use tcp_reasm::{Reasm, WINDOW};
+use tcp_seq::{AckKind, EndState, Segment, Seq, Way, acceptable, ack_kind};
+
+/// How many bytes may be outstanding.
+const FLIGHT: u32 = 15_360;
+
+/// How many bytes a segment has at most.
+const PAYLOAD: u32 = 1_024;
+
+/// How many bytes the stream that is sent has at most.
+const STREAM: usize = 1_048_576;
+
+/// One end of a connection. Contracts see its state as it would be handed over.
+#[derive(Debug, Drop)]
+pub struct End {
+    way: Way,
+    peering: PeeringId,
+    send_first: Seq,
+    acked: u32,
+    sent: u32,
+    waiting: ByteQueue,
+    receive_first: Seq,
+    taken: u32,
+    ready: ByteQueue,
+    ahead: Reasm,
+    acked_at_turn: u32,
+    owed: bool,
+}
+
+impl Model for End {
+    ghost use Rattle.tcp_seq.specs.declared.state.EndState.{EndState};
+
+    ghost Value = { EndState };
+
+    ghost use Rattle.tcp_end.specs.Inner.{state_of, Keeps};
+
+    ghost view = { state_of };
+
+    ghost invariant = { Keeps };
+}
+
+/// Whether an answer is owed after a segment with these bytes was taken in.
+fn owes(owed: bool, bytes: &[u8]) -> bool
+    ensures { result ≡ owed || nat_lt 0 (length bytes.now) }
+{
+    owed || !bytes.is_empty()
+}
+
+/// What a segment was that was taken in.
+fn taken_as(brings: bool, acked: u32) -> Arrival
+    ensures { result ≡ (if brings || nat_lt 0 acked then Arrival.Accepted else Arrival.Duplicate) }
+{
+    if brings || acked > 0 {
+        Arrival::Accepted
+    } else {
+        Arrival::Duplicate
+    }
+}
+
+impl End {
+    /// An endpoint that sends to a side, with the numbers of the first byte that it sends and of the
+    /// first that it receives.
+    pub fn new(
+        alloc: Global,
+        way: Way,
+        peering: PeeringId,
+        send_first: Seq,
+        receive_first: Seq,
+    ) -> Result<End, NoMemory>
+        ensures { IfOk result (λ end. end ≡ fresh way peering send_first receive_first) }
+    {
+        Ok(End {
+            way,
+            peering,
+            send_first,
+            acked: 0,
+            sent: 0,
+            waiting: ByteQueue::new(alloc),
+            receive_first,
+            taken: 0,
+            ready: ByteQueue::new(alloc),
+            ahead: Reasm::new(alloc, receive_first),
+            acked_at_turn: 0,
+            owed: false,
+        })
+    }
+
+    /// The side that it sends to.
+    pub fn way(&self) -> Way
+        ensures { result ≡ self.now.way }
+    {
+        self.way
+    }
+
+    /// The peering that its connection belongs to.
+    pub fn peering(&self) -> PeeringId
+        ensures { result ≡ self.now.peering }
+    {
+        self.peering
+    }
+
+    /// The length of the stream that it sends.
+    pub fn stream_len(&self) -> u32
+        ensures { result ≡ stream_length self.now }
+    {
+        self.acked + self.waiting.len() as u32
+    }
+
+    /// How many bytes of the stream were emitted at least once.
+    pub fn emitted(&self) -> u32
+        ensures { result ≡ self.now.sent }
+    {
+        self.sent
+    }
+
+    /// How many bytes of the stream were acknowledged.
+    pub fn acked(&self) -> u32
+        ensures { result ≡ self.now.acked }
+    {
+        self.acked
+    }
+
+    /// Adds bytes to the stream that it sends, which has at most 1,048,576.
+    pub fn send(&mut self, bytes: &[u8]) -> Result<(), SendStop>
+        ensures ok { OnOk result (self.new ≡ record self.old { waiting = self.old.waiting ++ bytes.now }) }
+        ensures fits { OnOk result (stream_length self.old + length bytes.now ≤ 2 ^ 20) }
+
+        // It is full exactly where the stream would pass its limit, and then the length is told.
+        ensures full { 2 ^ 20 < stream_length self.old + length bytes.now → result ≡ Err (SendStop.Full (stream_length self.old + length bytes.now)) }
+        ensures only_full { (n : ℕ) → result ≡ Err (SendStop.Full n) → (n ≡ stream_length self.old + length bytes.now) × (2 ^ 20 < n) }
+        ensures err { OnErr result (self.new ≡ self.old) }
+        ensures step { OnOk result (StepsBy (λ e e'. Sends e bytes.now e') self.old self.new) }
+    {
+        let length = self.acked as usize + self.waiting.len() + bytes.len();
+        if length > STREAM {
+            return Err(SendStop::Full { length });
+        }
+        Ok(self.waiting.extend(bytes)?)
+    }
+
+    /// The segment with so many bytes from a place of the stream on.
+    fn segment_at(&self, place: u32, len: u32) -> Result<Segment, NoMemory>
+        requires from { self.now.acked ≤ place }
+        requires to { place + len ≤ stream_length self.now }
+        ensures { IfOk result (λ segment. segment ≡ segment_at self.now place len) }
+    {
+        let from = (place - self.acked) as usize;
+        let bytes = &self.waiting.as_slice()[from..from + len as usize];
+        Ok(Segment {
+            peering: self.peering,
+            way: self.way,
+            seq: self.send_first.plus(place),
+            ack: self.ahead.next(),
+            window: WINDOW as u16,
+            bytes: Octets::from_slice(self.waiting.allocator(), bytes)?,
+        })
+    }
+
+    /// How many bytes the next slice has.
+    fn next_len(&self) -> u32
+        ensures { result ≡ next_length self.now }
+    {
+        let unsent = self.stream_len() - self.sent;
+        let room = FLIGHT - (self.sent - self.acked);
+        PAYLOAD.min(unsent.min(room))
+    }
+
+    /// The next bytes that were never emitted: as many as there are and as the flight of 15,360
+    /// outstanding bytes leaves, at most 1,024.
+    pub fn next_segment(&mut self) -> Result<Option<Segment>, NoMemory>
+        ensures none { IfOk result (λ answer. IsNone answer ↔ ((unsent self.old ≡ 0) ⊎ (outstanding self.old ≡ 15360))) }
+        ensures slice { IfOk result (λ answer. IfSome answer (λ segment. segment ≡ segment_at self.old self.old.sent (next_length self.old))) }
+        ensures after { OnOk result (self.new ≡ record self.old { sent = self.old.sent + next_length self.old }) }
+        ensures err { OnErr result (self.new ≡ self.old) }
+        ensures step { IfOk result (λ answer. EmitsBy EmitsNext self.old answer self.new) }
+    {
+        let len = self.next_len();
+        if len == 0 {
+            return Ok(None);
+        }
+        let segment = self.segment_at(self.sent, len)?;
+        self.sent += len;
+        Ok(Some(segment))
+    }
+
+    /// A retransmission turn: the first 1,024 outstanding bytes again, or all of them, unless some were
+    /// acknowledged since the last turn.
+    pub fn turn(&mut self) -> Result<Option<Segment>, NoMemory>
+        ensures none { IfOk result (λ answer. IsNone answer ↔ ((outstanding self.old ≡ 0) ⊎ (self.old.acked_at_turn < self.old.acked))) }
+        ensures slice { IfOk result (λ answer. IfSome answer (λ segment. segment ≡ segment_at self.old self.old.acked (again_length self.old))) }
+        ensures after { OnOk result (self.new ≡ record self.old { acked_at_turn = self.old.acked }) }
+        ensures err { OnErr result (self.new ≡ self.old) }
+        ensures step { IfOk result (λ answer. EmitsBy EmitsAgain self.old answer self.new) }
+    {
+        let len = PAYLOAD.min(self.sent - self.acked);
+        if len == 0 || self.acked_at_turn < self.acked {
+            self.acked_at_turn = self.acked;
+            return Ok(None);
+        }
+        Ok(Some(self.segment_at(self.acked, len)?))
+    }
+
+    /// The answer that is owed: a segment without bytes, at the number that is sent next. It takes no
+    /// memory.
+    pub fn answer(&mut self) -> Option<Segment>
+        ensures some { IsSome result ↔ (self.old.owed ≡ true) }
+        ensures empty { IfSome result (λ segment. segment ≡ segment_at self.old self.old.sent 0) }
+        ensures after { self.new ≡ record self.old { owed = false } }
+        ensures step { EmitsBy Answers self.old result self.new }
+    {
+        if !self.owed {
+            return None;
+        }
+        self.owed = false;
+        Some(Segment {
+            peering: self.peering,
+            way: self.way,
+            seq: self.send_first.plus(self.sent),
+            ack: self.ahead.next(),
+            window: WINDOW as u16,
+            bytes: Octets::new(self.waiting.allocator()),
+        })
+    }
+
+    /// What an acknowledgement says of the bytes that were emitted.
+    fn ack_kind(&self, segment: &Segment) -> AckKind
+        ensures { Says result self.now segment.now }
+    {
+        let una = self.send_first.plus(self.acked);
+        ack_kind(una, self.send_first.plus(self.sent), segment.ack)
+    }
+
+    /// Takes a segment in that is acceptable, and of which so many outstanding bytes are acknowledged.
+    fn take_in(&mut self, segment: &Segment, acked: u32) -> Result<Arrival, NoMemory>
+        requires len { length segment.now.bytes < 2 ^ 16 }
+        requires acked { acked ≤ outstanding self.old }
+        ensures arrival { IfOk result (λ arrival. TakenIn arrival self.old segment.now acked self.new) }
+        ensures at_rest { OnOk result (got self.new ≤ 2 ^ 20 → IsEndState self.new) }
+        ensures err { OnErr result (self.new ≡ self.old) }
+    {
+        let bytes = segment.bytes.as_slice();
+        let brings = receive(&mut self.ready, &mut self.ahead, segment.seq, bytes)?;
+        self.waiting.drop_front(acked as usize);
+        self.acked += acked;
+        self.owed = owes(self.owed, bytes);
+        Ok(taken_as(brings, acked))
+    }
+
+    /// Tests an arriving segment by its numbers, and takes it in or drops it.
+    fn arrive_by_numbers(&mut self, segment: &Segment) -> Result<Arrival, NoMemory>
+        requires { length segment.now.bytes < 2 ^ 16 }
+        ensures arrival { IfOk result (λ arrival. IsArrival arrival self.old segment.now) }
+        ensures after { IfOk result (λ arrival. Leaves arrival self.old segment.now self.new) }
+        ensures at_rest { OnOk result (got self.new ≤ 2 ^ 20 → IsEndState self.new) }
+        ensures err { OnErr result (self.new ≡ self.old) }
+    {
+        let len = segment.bytes.len() as u32;
+        if !acceptable(self.ahead.next(), WINDOW, segment.seq, len) {
+            self.owed = true;
+            return Ok(Arrival::Outside);
+        }
+        match self.ack_kind(segment) {
+            AckKind::Beyond => {
+                self.owed = true;
+                Ok(Arrival::Ahead { ack: segment.ack })
+            }
+            AckKind::New => {
+                let una = self.send_first.plus(self.acked);
+                self.take_in(segment, segment.ack.offset_from(una))
+            }
+            AckKind::Old => self.take_in(segment, 0),
+        }
+    }
+
+    /// A segment arrives. Its bytes that stand in the window of 16,384 places from the one expected
+    /// next on are kept, and its acknowledgement counts where it is new. An answer is owed where it has
+    /// bytes, isn't acceptable, or acknowledges what wasn't emitted. For want of memory nothing is
+    /// changed.
+    pub fn arrive(&mut self, segment: &Segment) -> Result<Arrival, NoMemory>
+        requires peering { segment.now.peering ≡ self.old.peering }
+        requires way { segment.now.way ≢ self.old.way }
+        requires len { length segment.now.bytes < 2 ^ 16 }
+        ensures arrival { IfOk result (λ arrival. IsArrival arrival self.old segment.now) }
+        ensures after { IfOk result (λ arrival. Leaves arrival self.old segment.now self.new) }
+        ensures err { OnErr result (self.new ≡ self.old) }
+        ensures step { OnOk result (TakesBy self.old segment.now self.new) }
+    {
+        self.arrive_by_numbers(segment)
+    }
+
+    /// The bytes that were received in order and not yet read.
+    pub fn ready(&self) -> &[u8]
+        ensures { result.now ≡ self.now.ready }
+    {
+        self.ready.as_slice()
+    }
+
+    /// Reads the first of the ready bytes, which are ready no more.
+    pub fn read(&mut self, n: usize)
+        requires { n ≤ length self.old.ready }
+        ensures after { self.new ≡ record self.old { taken = plus self.old.taken n; ready = drop n self.old.ready } }
+        ensures step { StepsBy (λ e e'. Reads e n e') self.old self.new }
+    {
+        self.ready.drop_front(n);
+        self.taken = self.taken.wrapping_add((n % (1 << 32)) as u32);
+    }
+
+    /// Its state at rest, to be handed over. It takes no memory.
+    pub fn export(self) -> EndState
+        ensures same { result ≡ self }
+
+        // It can be imported, where at most 1,048,576 bytes were received.
+        ensures sending { IsSending result }
+        ensures at_rest { got result ≤ 2 ^ 20 → IsEndState result }
+    {
+        let base = self.ahead.next().offset_from(self.receive_first);
+        let End {
+            way,
+            peering,
+            send_first,
+            acked,
+            sent,
+            waiting,
+            receive_first,
+            taken,
+            ready,
+            ahead,
+            acked_at_turn,
+            owed,
+        } = self;
+        let mut pieces = ahead.into_pieces().into_vec();
+        raise(&mut pieces, base);
+        EndState {
+            way,
+            peering,
+            send_first,
+            acked,
+            sent,
+            waiting: waiting.into_octets(),
+            receive_first,
+            taken,
+            ready: ready.into_octets(),
+            ahead: Items::from_vec(pieces),
+            acked_at_turn,
+            owed,
+        }
+    }
+
+    /// The endpoint that has this state. It takes no memory.
+    pub fn import(state: EndState) -> End
+        requires { IsEndState state }
+        ensures { result ≡ state }
+    {
+        let EndState {
+            way,
+            peering,
+            send_first,
+            acked,
+            sent,
+            waiting,
+            receive_first,
+            taken,
+            ready,
+            ahead,
+            acked_at_turn,
+            owed,
+        } = state;
+        let got = taken + ready.len() as u32;
+        let mut pieces = ahead.into_vec();
+        count_from(&mut pieces, got);
+        End {
+            way,
+            peering,
+            send_first,
+            acked,
+            sent,
+            waiting: ByteQueue::from_octets(waiting),
+            receive_first,
+            taken,
+            ready: ByteQueue::from_octets(ready),
+            ahead: Reasm::from_pieces(receive_first.plus(got), Items::from_vec(pieces)),
+            acked_at_turn,
+            owed,
+        }
+    }
+}

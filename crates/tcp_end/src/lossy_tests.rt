@@ -1,0 +1,174 @@
+//! Two ends over a link that loses, repeats and reorders what it is given.
+
+use crate::End;
+use crate::tests::{moved, stream, take, two_ends};
+use graft_edge::{NoMemory, TryCopy};
+use std::alloc::Global;
+use std::process::Abort;
+use std::test::Fail;
+use tcp_seq::Segment;
+
+/// The length of each stream.
+const LENGTH: u32 = 100_000;
+
+/// Numbers that look random: a linear congruence modulo 2^64.
+#[derive(Drop)]
+struct Random(u64);
+
+impl Random {
+    fn below(&mut self, n: u32) -> u32 {
+        self.0 = self
+            .0
+            .wrapping_mul(6_364_136_223_846_793_005)
+            .wrapping_add(1_442_695_040_888_963_407);
+        (self.0 >> 33) as u32 % n.max(1)
+    }
+}
+
+/// One side: its end, how much of the other side's stream it read, and the segments that it sent and
+/// that didn't arrive.
+#[derive(Drop)]
+struct Side {
+    end: End,
+    read: u32,
+    link: Vec<Segment>,
+}
+
+/// Puts a segment on the link: it is lost, put twice, or put. A full link loses all.
+fn put(link: &mut Vec<Segment>, segment: Segment, random: &mut Random) -> Result<(), NoMemory> {
+    match random.below(8) {
+        _ if link.len() > 40 => {}
+        0 => {}
+        1 => {
+            link.push(segment.copy()?)?;
+            link.push(segment)?;
+        }
+        _ => link.push(segment)?,
+    }
+    Ok(())
+}
+
+/// What a side sends in a turn: the first outstanding bytes again, up to four new slices, and the
+/// answer that is owed.
+fn emit(side: &mut Side, random: &mut Random) -> Result<(), NoMemory> {
+    if random.below(3) == 0 {
+        if let Some(again) = side.end.turn()? {
+            put(&mut side.link, again, random)?;
+        }
+    }
+    for _ in 0..4 {
+        if let Some(next) = side.end.next_segment()? {
+            put(&mut side.link, next, random)?;
+        }
+    }
+    if let Some(answer) = side.end.answer() {
+        put(&mut side.link, answer, random)?;
+    }
+    Ok(())
+}
+
+/// Some of the segments on a link arrive, in whatever order. One in sixteen stays there too.
+fn deliver(
+    rt: &impl Abort,
+    link: &mut Vec<Segment>,
+    end: &mut End,
+    random: &mut Random,
+) -> Result<(), NoMemory> {
+    for _ in 0..8 {
+        let len = link.len();
+        if len > 0 {
+            let place = random.below(len.min(8) as u32) as usize;
+            if place < link.len() {
+                take(rt, end, &link[place])?;
+                if random.below(16) > 0 {
+                    link.remove(place);
+                }
+            }
+        }
+    }
+    Ok(())
+}
+
+/// Reads what is ready, which is what comes next in the stream that the other side sends.
+fn read(rt: &impl Abort, side: &mut Side, theirs: &[u8]) {
+    let count = side.end.ready().len();
+    let from = side.read as usize;
+    let next = theirs.get(from..).unwrap_or(&[]);
+    assert!(rt; next.starts_with(side.end.ready()));
+    side.end.read(count);
+    side.read = side.read.wrapping_add((count % (1 << 32)) as u32);
+}
+
+fn sending(alloc: Global, end: End, bytes: &[u8]) -> Result<Side, Fail> {
+    let mut end = end;
+    end.send(bytes)?;
+    Ok(Side {
+        end,
+        read: 0,
+        link: Vec::new(alloc),
+    })
+}
+
+fn handed_over(rt: &impl Abort, side: Side) -> Side {
+    let Side { end, read, link } = side;
+    Side {
+        end: moved(rt, end),
+        read,
+        link,
+    }
+}
+
+/// Whether a side's stream was acknowledged whole, and the other one read whole.
+fn is_through(side: &Side) -> bool {
+    side.end.acked() == LENGTH && side.read == LENGTH
+}
+
+/// Both sides send, and some of what is on the links arrives and is read.
+fn step(
+    rt: &impl Abort,
+    far: &mut Side,
+    near: &mut Side,
+    random: &mut Random,
+) -> Result<(), NoMemory> {
+    emit(far, random)?;
+    emit(near, random)?;
+    deliver(rt, &mut far.link, &mut near.end, random)?;
+    deliver(rt, &mut near.link, &mut far.end, random)
+}
+
+/// Both streams go through. The numbers of one of them go round on the way.
+fn go_through(
+    rt: &(impl Abort + AllocGlobal),
+    seed: u32,
+    there: &[u8],
+    back: &[u8],
+) -> Result<(), Fail> {
+    let mut random = Random(u64::from(seed));
+    let (remote, home) = two_ends(rt.alloc(), 4_294_930_000, random.below(4_294_967_295))?;
+    let mut far = sending(rt.alloc(), remote, there)?;
+    let mut near = sending(rt.alloc(), home, back)?;
+    let mut steps = 0;
+    while steps < 10_000u32 && !(is_through(&far) && is_through(&near)) {
+        step(rt, &mut far, &mut near, &mut random)?;
+        read(rt, &mut far, back);
+        read(rt, &mut near, there);
+        if steps % 20 == 0 {
+            far = handed_over(rt, far);
+        } else if steps % 10 == 0 {
+            near = handed_over(rt, near);
+        }
+        steps += 1;
+    }
+    assert!(rt; steps < 10_000, "seed {seed} is through");
+    Ok(())
+}
+
+#[test]
+fn streams_go_through_losses_repeats_and_hand_overs(rt: HostRuntime) -> Result<(), Fail> {
+    let there = stream(rt.alloc(), 0, LENGTH, 1)?;
+    let back = stream(rt.alloc(), 0, LENGTH, 2)?;
+    for seed in 0..200 {
+        go_through(&rt, seed, there.as_slice(), back.as_slice())?;
+    }
+    Ok(())
+}
