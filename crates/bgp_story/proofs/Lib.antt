@@ -1,0 +1,3 @@
+pub mod HeaderKinds
+pub mod Splits
+pub mod StoryLaws

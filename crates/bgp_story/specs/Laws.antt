@@ -9,7 +9,7 @@ use Rattle.bgp_types.specs.declared.message.Update.{Update}
 use Rattle.bgp_types.specs.FirstFault.{first_fault}
 use Rattle.bgp_story.specs.declared.line.Line.{Line}
 use Rattle.bgp_story.specs.declared.line.Line.TheVariants.{Put, Got, Tick}
-use Rattle.bgp_story.specs.Legal.{Peering, Legal, IsGot, expected, silence, hold, hold_expired}
+use Rattle.bgp_story.specs.Legal.{Peering, Allowed, IsGot, expected, silence, hold, hold_expired}
 
 abbrev pub IsNoOpen : Message → Type 0
 IsNoOpen (OpenMsg _) = ⊥
@@ -33,24 +33,23 @@ IsGotLine (Put _) = Unit {0}
 IsGotLine (Got bytes) = IsGot bytes
 IsGotLine (Tick _) = Unit {0}
 
-module _ (Changes : List Line → Update → Type 0) (p : Peering) where
-  -- the last of these lines got a message whose fault is this
-  pub record EndsInFault (lines : List Line) (n : Notice) : Type 0 where
-    pub before : List Line
-    pub state : SessionState
-    pub bytes : List ℕ
-    pub legal : Legal Changes p before state
-    pub last : lines ≡ before ++ Got bytes ∷ []
-    pub fault : first_fault bytes (expected p before state) ≡ Some n
+-- the last of these lines got a message whose fault is this
+pub record EndsInFault (p : Peering) (lines : List Line) (n : Notice) : Type 0 where
+  pub before : List Line
+  pub state : SessionState
+  pub bytes : List ℕ
+  pub allowed : Allowed p before state
+  pub last : lines ≡ before ++ Got bytes ∷ []
+  pub fault : first_fault bytes (expected p before state) ≡ Some n
 
-  -- the last of these lines is the round at which the hold time is over
-  pub record EndsInSilence (lines : List Line) (n : Notice) : Type 0 where
-    pub before : List Line
-    pub round : ℕ
-    pub last : lines ≡ before ++ Tick round ∷ []
-    pub over : silence before + 1 ≡ hold p before
-    pub expired : n ≡ hold_expired
+-- the last of these lines is the round at which the hold time is over
+pub record EndsInSilence (p : Peering) (lines : List Line) (n : Notice) : Type 0 where
+  pub before : List Line
+  pub round : ℕ
+  pub last : lines ≡ before ++ Tick round ∷ []
+  pub over : silence before + 1 ≡ hold p before
+  pub expired : n ≡ hold_expired
 
-  -- why a NOTIFICATION is put after these lines
-  abbrev pub HasCause : List Line → Notice → Type 0
-  HasCause lines n = EndsInFault lines n ⊎ EndsInSilence lines n
+-- why a NOTIFICATION is put after these lines
+abbrev pub HasCause : Peering → List Line → Notice → Type 0
+HasCause p lines n = EndsInFault p lines n ⊎ EndsInSilence p lines n

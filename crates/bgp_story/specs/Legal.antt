@@ -1,6 +1,6 @@
 -- The legal stories of a peering (RFC 4271, sections 4.2, 6 and 8.2.2). Nothing in them tells in which
 -- router a session stands, or that it was moved.
-use Rattle.std.specs.Prelude.{◌≡◌, ◌≢◌, ℕ, ◌+◌, ◌/◌, ◌%◌, ◌<◌, ◌==◌, min, length, List, [], ◌∷◌, ◌++◌, Option, Some, None, Result, Ok, Err, Bool, true, false, ◌&&◌, ◌×◌, ◌⊎◌, IsSome, All, fold, if◌then◌else◌}
+use Rattle.std.specs.Prelude.{◌≡◌, ◌≢◌, ℕ, ◌+◌, ◌/◌, ◌%◌, ◌<◌, ◌==◌, min, length, List, [], ◌∷◌, ◌++◌, Option, Some, None, Result, Ok, Err, Bool, true, false, ◌&&◌, ◌⊎◌, IsSome, All, fold, if◌then◌else◌}
 use Rattle.bgp_types.specs.declared.fault.Expected.{Expected}
 use Rattle.bgp_types.specs.declared.message.Message.{Message}
 use Rattle.bgp_types.specs.declared.message.Message.TheVariants.{OpenMsg, UpdateMsg, NoticeMsg, KeepaliveMsg}
@@ -126,3 +126,7 @@ pub data Legal (Changes : List Line → Update → Type 0) (p : Peering) : List 
     Legal Changes p before state → is_up state ≡ true → 0 < hold p before → All (IsEarlier round) before →
     reply_at (hold p before) (silence before + 1) round state ≡ (answer, next) →
     lines ≡ before ++ Tick round ∷ answer → Legal Changes p lines next
+
+-- The form that leaves aside whether an UPDATE changes what was told.
+abbrev pub Allowed : Peering → List Line → SessionState → Type 0
+Allowed p lines state = Legal (λ _ _. Unit {0}) p lines state

@@ -8,7 +8,7 @@ use Rattle.bgp_types.specs.declared.message.SessionState.TheVariants.{OpenSent, 
 use Rattle.bgp_types.specs.Header.{header_fault, kind_in}
 use Rattle.bgp_story.specs.declared.line.Line.{Line}
 use Rattle.bgp_story.specs.declared.line.Line.TheVariants.{Put, Got, Tick}
-use Rattle.bgp_story.specs.Legal.{Peering, Legal}
+use Rattle.bgp_story.specs.Legal.{Peering, Allowed}
 use Rattle.bgp_story.specs.Opens.{IsHomeOpen}
 
 -- a sound header of this type
@@ -47,14 +47,14 @@ after state (Tick _) = state
 abbrev pub state_of : List Line → SessionState
 state_of lines = fold after OpenSent lines
 
--- The lines begin a legal story with a remote of this AS, where any UPDATE counts as a change.
+-- The lines begin an allowed story, with a remote of this AS.
 pub record Begins (remote_as : ℕ) (lines : List Line) : Type 0 where
   pub peering : Peering
   pub remote : peering.remote_as ≡ remote_as
   pub home : IsHomeOpen peering.first
   pub rest : List Line
   pub state : SessionState
-  pub legal : Legal (λ _ _. Unit {0}) peering (lines ++ rest) state
+  pub legal : Allowed peering (lines ++ rest) state
 
 -- a story as contracts see it
 pub record StoryValue : Type 0 where

@@ -8,7 +8,7 @@ mod line;
 mod story;
 
 pub use laws::{
-    closed_is_the_end, got_in_frames, legal_begins, notifications_have_causes, opens_once,
+    closed_is_the_end, got_in_frames, legal_is_allowed, notifications_have_causes, opens_once,
     state_by_lines,
 };
 pub use line::Line;
