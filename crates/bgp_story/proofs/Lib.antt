@@ -1,3 +1,5 @@
-pub mod HeaderKinds
 pub mod Splits
+pub mod HeaderKinds
 pub mod StoryLaws
+pub mod Shapes
+pub mod Ends

@@ -19,7 +19,7 @@ use Rattle.bgp_story.proofs.HeaderKinds.{IsRead, read_of, read_type, notice_soun
 
 -- ---- the state
 
-after_is : (state : SessionState) (bytes : List ℕ) (t u : Bool) → is_type 3 bytes ≡ t → is_type 4 bytes ≡ u → after_got state bytes ≡ cond t Closed (cond u (with_keepalive_got state) state)
+pub after_is : (state : SessionState) (bytes : List ℕ) (t u : Bool) → is_type 3 bytes ≡ t → is_type 4 bytes ≡ u → after_got state bytes ≡ cond t Closed (cond u (with_keepalive_got state) state)
 after_is state bytes t u a b =
     ap (λ (x : Bool). cond x Closed (cond (is_type 4 bytes) (with_keepalive_got state) state)) a
     ∙ ap (λ (x : Bool). cond t Closed (cond x (with_keepalive_got state) state)) b
