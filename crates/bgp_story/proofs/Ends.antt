@@ -163,5 +163,5 @@ cause_of p _ _ (told before u lines l w c e) n xs ys f =
 cause_of p _ _ (passed before state round answer next lines l up h a r e) n xs ys f =
     cause_step p n xs ys before state (Tick round) answer (λ g. cc) (passed_short (hold p before) (silence before + 1) round state answer next up r)
     (λ k. let c = round_cause n ys answer next state (silence before + 1) (hold p before) (eqb (silence before + 1) (hold p before)) (eqb (round % (hold p before / 3)) 0) refl r k in
-      inr (record { before = before; round = round; last = refl; over = c.0; expired = c.1 }))
+    inr (record { before = before; round = round; last = refl; over = c.0; expired = c.1 }))
     (cause_of p before state l n) (sym f ∙ e)

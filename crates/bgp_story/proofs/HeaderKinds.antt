@@ -69,6 +69,7 @@ read_of e bytes m g = by_header (header_fault bytes) refl g where
       let k : kind_in bytes ≡ kind_of m = body_kind e (kind_in bytes) (drop 19 bytes) m s f in
       record { sound = h; kind = k; in_state = ap (is_in_state e.state) (sym k) ∙ s }
   by_state false h s f = absurd cc
+
   by_header : (o : Option HeaderFault) → header_fault bytes ≡ o → with_header o e bytes ≡ Ok m → IsRead e bytes m
   by_header (Some fault) h f = absurd cc
   by_header None h f = by_state (is_in_state e.state (kind_in bytes)) h refl f

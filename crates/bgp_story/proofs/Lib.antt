@@ -3,3 +3,5 @@ pub mod HeaderKinds
 pub mod StoryLaws
 pub mod Shapes
 pub mod Ends
+pub mod Grows
+pub mod StoryRow

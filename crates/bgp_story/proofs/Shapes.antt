@@ -55,7 +55,7 @@ got_answers p before state bytes answer next r = of_reply _ answer next r (reply
 pub passed_answers : (h c round : ℕ) (state : SessionState) (answer : List Line) (next : SessionState) → reply_at h c round state ≡ (answer, next) → AllByRecursion IsAnswer answer
 passed_answers h c round state answer next r = of_reply _ answer next r (round_answers (eqb c h) (eqb (round % (h / 3)) 0) state)
 
-all_weaken : (P Q : Line → Type 0) → ((line : Line) → P line → Q line) → (lines : List Line) → AllByRecursion P lines → AllByRecursion Q lines
+pub all_weaken : (P Q : Line → Type 0) → ((line : Line) → P line → Q line) → (lines : List Line) → AllByRecursion P lines → AllByRecursion Q lines
 all_weaken P Q f [] a = tt
 all_weaken P Q f (line ∷ lines) a = (f line a.0, all_weaken P Q f lines a.1)
 

@@ -114,18 +114,18 @@ pub data Legal (Changes : List Line → Update → Type 0) (p : Peering) : List 
   opened : (lines : List Line) → lines ≡ Put (OpenMsg p.first) ∷ [] → Legal Changes p lines OpenSent
   -- in a state other than Closed something is got, and answered
   got : (before : List Line) (state : SessionState) (bytes : List ℕ) (answer : List Line) (next : SessionState) (lines : List Line) →
-    Legal Changes p before state → state ≢ Closed → IsGot bytes →
-    reply_to (message_of (expected p before state) bytes) ≡ (answer, next) →
-    lines ≡ before ++ Got bytes ∷ answer → Legal Changes p lines next
+      Legal Changes p before state → state ≢ Closed → IsGot bytes →
+      reply_to (message_of (expected p before state) bytes) ≡ (answer, next) →
+      lines ≡ before ++ Got bytes ∷ answer → Legal Changes p lines next
   -- in Established an UPDATE is put
   told : (before : List Line) (u : Update) (lines : List Line) →
-    Legal Changes p before Established → IsOneWay u (is_wide p before) → Changes before u →
-    lines ≡ before ++ Put (UpdateMsg u) ∷ [] → Legal Changes p lines Established
+      Legal Changes p before Established → IsOneWay u (is_wide p before) → Changes before u →
+      lines ≡ before ++ Put (UpdateMsg u) ∷ [] → Legal Changes p lines Established
   -- in OpenConfirm and Established, with a hold time, a round passes, and is answered
   passed : (before : List Line) (state : SessionState) (round : ℕ) (answer : List Line) (next : SessionState) (lines : List Line) →
-    Legal Changes p before state → is_up state ≡ true → 0 < hold p before → All (IsEarlier round) before →
-    reply_at (hold p before) (silence before + 1) round state ≡ (answer, next) →
-    lines ≡ before ++ Tick round ∷ answer → Legal Changes p lines next
+      Legal Changes p before state → is_up state ≡ true → 0 < hold p before → All (IsEarlier round) before →
+      reply_at (hold p before) (silence before + 1) round state ≡ (answer, next) →
+      lines ≡ before ++ Tick round ∷ answer → Legal Changes p lines next
 
 -- The form that leaves aside whether an UPDATE changes what was told.
 abbrev pub Allowed : Peering → List Line → SessionState → Type 0

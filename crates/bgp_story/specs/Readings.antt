@@ -4,6 +4,7 @@ use Rattle.std.specs.Prelude.{◌≡◌, ◌≢◌, ℕ, List, [], ◌∷◌, �
 use Rattle.std.specs.List.{flat_map}
 use Rattle.std.specs.FinMap as map
 use Rattle.bgp_types.specs.declared.attrs.Attrs.{Attrs}
+use Rattle.bgp_types.specs.declared.fault.Expected.{Expected}
 use Rattle.bgp_types.specs.declared.message.Message.{Message}
 use Rattle.bgp_types.specs.declared.message.Message.TheVariants.{OpenMsg, UpdateMsg, NoticeMsg, KeepaliveMsg}
 use Rattle.bgp_types.specs.declared.message.Notice.{Notice}
@@ -67,11 +68,11 @@ tell routes (Put message) = apply_if routes (update_in (Ok message))
 tell routes (Got _) = routes
 tell routes (Tick _) = routes
 
--- only in Established an UPDATE is taken: one that comes earlier closes the session
-abbrev pub hear : Peering → List Line → Routes → Line → Routes
-hear p lines routes (Put _) = routes
-hear p lines routes (Got bytes) = apply_if routes (update_in (message_of (expected p lines Established) bytes))
-hear p lines routes (Tick _) = routes
+-- Only in Established an UPDATE is taken: one that comes earlier closes the session.
+abbrev pub hear : Expected → Routes → Line → Routes
+hear e routes (Put _) = routes
+hear e routes (Got bytes) = apply_if routes (update_in (message_of e bytes))
+hear e routes (Tick _) = routes
 
 -- nothing once the session is closed
 abbrev pub unless_closed : SessionState → Routes → Routes
@@ -85,7 +86,7 @@ abbrev pub told : List Line → Routes
 told lines = unless_closed (state_of lines) (fold tell map.empty lines)
 
 abbrev pub heard : Peering → List Line → Routes
-heard p lines = unless_closed (state_of lines) (fold (hear p lines) map.empty lines)
+heard p lines = unless_closed (state_of lines) (fold (hear (expected p lines Established)) map.empty lines)
 
 -- ---- what is told is a change
 

@@ -8,8 +8,11 @@ mod line;
 mod story;
 
 pub use laws::{
-    closed_is_the_end, got_in_frames, legal_is_allowed, notifications_have_causes, opens_once,
-    state_by_lines,
+    closed_is_the_end, got_in_frames, legal_is_allowed, notifications_have_causes, octets_grow,
+    opens_once, state_by_lines, tables_grow, width_and_hold_stay,
 };
 pub use line::Line;
 pub use story::Story;
+
+#[cfg(test)]
+mod tests;

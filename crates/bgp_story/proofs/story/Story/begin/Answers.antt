@@ -5,11 +5,14 @@ use Rattle.bgp_story.specs.Legal.{opened}
 use Rattle.bgp_story.proofs.story.Story.begin.Goals as goal
 
 pub invariant_of-result : goal.invariant_of-result
-invariant_of-result c = rw (c.in_ok-push.ensures.items, c.new-lines.ensures.items) (refl, record {
-  peering = record { first = c.args.first; remote_as = c.args.remote_as };
-  remote = refl;
-  home = c.requires;
-  rest = [];
-  state = OpenSent;
-  legal = opened _ refl;
-})
+invariant_of-result c = rw (c.in_ok-push.ensures.items, c.new-lines.ensures.items) (
+  refl,
+  record {
+    peering = record { first = c.args.first; remote_as = c.args.remote_as };
+    remote = refl;
+    home = c.requires;
+    rest = [];
+    state = OpenSent;
+    legal = opened _ refl;
+  },
+)
