@@ -1,0 +1,18 @@
+//! The story of a BGP session: what the home side put, what it got, and the rounds that passed, in
+//! order, and which stories are legal (RFC 4271, sections 6 and 8.2.2).
+#![tactic(auto)]
+
+mod header;
+mod laws;
+mod line;
+mod story;
+
+pub use laws::{
+    closed_is_the_end, got_in_frames, legal_is_allowed, notifications_have_causes, octets_grow,
+    opens_once, state_by_lines, tables_grow, width_and_hold_stay,
+};
+pub use line::Line;
+pub use story::Story;
+
+#[cfg(test)]
+mod tests;

@@ -1,0 +1,155 @@
+//! The story of a session, kept legal line by line.
+
+ghost use Rattle.std.specs.Prelude.{◌≡◌, ◌++◌, ◌∷◌, [], IfOk, IfErr, OnOk, OnErr};
+ghost use Rattle.bgp_types.specs.declared.message.Message.TheVariants as messages;
+ghost use Rattle.bgp_story.specs.Opens.{IsHomeOpen};
+ghost use Rattle.bgp_story.specs.States.{Begins, state_of, after_put as after_put_lem, after_got as after_got_lem};
+ghost use Rattle.bgp_story.specs.declared.line.Line.TheVariants.{Put, Got, Tick};
+
+use crate::header::{is_keepalive, is_notification};
+use crate::line::Line;
+use bgp_types::{Message, NoMemory, Octets, OpenMsg, SessionState};
+use std::alloc::Global;
+use std::marker::Model;
+
+/// The lines of a session from its OPEN on, and the AS of the remote, by which they are read. They
+/// begin a legal story. Its state is kept beside them.
+#[derive(Debug, Drop)]
+pub struct Story {
+    lines: Vec<Line>,
+    remote_as: u32,
+    state: SessionState,
+}
+
+impl Model for Story {
+    ghost use Rattle.std.specs.Prelude.{◌≡◌};
+    ghost use Rattle.bgp_story.specs.States.{StoryValue, Begins, state_of};
+
+    ghost Value = { StoryValue };
+
+    ghost view = { λ s. record { lines = s.lines.items; remote_as = s.remote_as } };
+
+    ghost invariant = { λ s. (s.state ≡ state_of s.lines.items) × Begins s.remote_as s.lines.items };
+}
+
+/// The state after a message was put.
+fn after_put(state: SessionState, message: &Message) -> SessionState
+    ensures { result ≡ after_put_lem state message.now }
+{
+    match message {
+        Message::NoticeMsg(_) => SessionState::Closed,
+        Message::KeepaliveMsg if state == SessionState::OpenSent => SessionState::OpenConfirm,
+        _ => state,
+    }
+}
+
+/// The state after octets were got.
+fn after_got(state: SessionState, octets: &[u8]) -> SessionState
+    ensures { result ≡ after_got_lem state octets.now }
+{
+    if is_notification(octets) {
+        return SessionState::Closed;
+    }
+    if state == SessionState::OpenConfirm && is_keepalive(octets) {
+        return SessionState::Established;
+    }
+    state
+}
+
+/// Adds a line, which comes back for want of memory.
+fn add(lines: &mut Vec<Line>, line: Line) -> Result<(), Line>
+    ensures ok { OnOk result (lines.new.items ≡ lines.old.items ++ line ∷ []) }
+    ensures back { IfErr result (λ back. back ≡ line) }
+    ensures err { OnErr result (lines.new.items ≡ lines.old.items) }
+{
+    match lines.push(line) {
+        Ok(()) => Ok(()),
+        Err(failed) => Err(failed.value),
+    }
+}
+
+impl Story {
+    /// The story that begins with this OPEN, of a session with a remote of this AS.
+    pub fn begin(alloc: Global, first: OpenMsg, remote_as: u32) -> Result<Story, NoMemory>
+        requires { IsHomeOpen first }
+        ensures { IfOk result (λ story. story ≡ record { lines = Put (messages.OpenMsg first) ∷ []; remote_as = remote_as }) }
+    {
+        let mut lines = Vec::new(alloc);
+        lines.push(Line::Put(Message::OpenMsg(first)))?;
+        Ok(Story {
+            lines,
+            remote_as,
+            state: SessionState::OpenSent,
+        })
+    }
+
+    /// Adds a message that is put. For want of memory alone it comes back, and nothing has changed.
+    pub fn put(&mut self, message: Message) -> Result<(), Message>
+        requires { Begins self.old.remote_as (self.old.lines ++ Put message ∷ []) }
+        ensures ok { OnOk result (self.new ≡ record self.old { lines = self.old.lines ++ Put message ∷ [] }) }
+        ensures back { IfErr result (λ back. back ≡ message) }
+        ensures err { OnErr result (self.new ≡ self.old) }
+    {
+        let state = after_put(self.state, &message);
+        match add(&mut self.lines, Line::Put(message)) {
+            Ok(()) => {
+                self.state = state;
+                Ok(())
+            }
+            Err(Line::Put(message)) => Err(message),
+            Err(_) => unreachable!(),
+        }
+    }
+
+    /// Adds octets that are got. For want of memory alone they come back, and nothing has changed.
+    pub fn got(&mut self, bytes: Octets) -> Result<(), Octets>
+        requires { Begins self.old.remote_as (self.old.lines ++ Got bytes ∷ []) }
+        ensures ok { OnOk result (self.new ≡ record self.old { lines = self.old.lines ++ Got bytes ∷ [] }) }
+        ensures back { IfErr result (λ back. back ≡ bytes) }
+        ensures err { OnErr result (self.new ≡ self.old) }
+    {
+        let state = after_got(self.state, bytes.as_slice());
+        match add(&mut self.lines, Line::Got(bytes)) {
+            Ok(()) => {
+                self.state = state;
+                Ok(())
+            }
+            Err(Line::Got(bytes)) => Err(bytes),
+            Err(_) => unreachable!(),
+        }
+    }
+
+    /// Adds a round in which the hold time ran.
+    pub fn tick(&mut self, round: u32) -> Result<(), NoMemory>
+        requires { Begins self.old.remote_as (self.old.lines ++ Tick round ∷ []) }
+        ensures ok { OnOk result (self.new ≡ record self.old { lines = self.old.lines ++ Tick round ∷ [] }) }
+        ensures err { OnErr result (self.new ≡ self.old) }
+    {
+        match add(&mut self.lines, Line::Tick(round)) {
+            Ok(()) => Ok(()),
+            Err(_) => Err(NoMemory),
+        }
+    }
+
+    /// The state of the session.
+    pub fn state(&self) -> SessionState
+        ensures { result ≡ state_of self.now.lines }
+    {
+        self.state
+    }
+
+    /// The lines in order. They begin a legal story.
+    pub fn lines(&self) -> &[Line]
+        ensures lines { result.now ≡ self.now.lines }
+        ensures legal { Begins self.now.remote_as self.now.lines }
+    {
+        self.lines.as_slice()
+    }
+
+    /// The AS of the remote.
+    pub fn remote_as(&self) -> u32
+        ensures { result ≡ self.now.remote_as }
+    {
+        self.remote_as
+    }
+}
