@@ -48,26 +48,79 @@ fn put(link: &mut Vec<Segment>, segment: Segment, random: &mut Random) -> Result
     Ok(())
 }
 
-/// What a side sends in a turn: the first outstanding bytes again, up to four new slices, and the
-/// answer that is owed.
+/// Puts a segment, if there is one.
+fn put_any(
+    link: &mut Vec<Segment>,
+    segment: Option<Segment>,
+    random: &mut Random,
+) -> Result<(), NoMemory> {
+    match segment {
+        Some(segment) => put(link, segment, random),
+        None => Ok(()),
+    }
+}
+
+/// The first outstanding bytes again.
+fn emit_again(side: &mut Side, random: &mut Random) -> Result<(), NoMemory> {
+    let again = side.end.turn()?;
+    put_any(&mut side.link, again, random)
+}
+
+/// The next slice.
+fn emit_next(side: &mut Side, random: &mut Random) -> Result<(), NoMemory> {
+    let next = side.end.next_segment()?;
+    put_any(&mut side.link, next, random)
+}
+
+/// The answer that is owed.
+fn emit_answer(side: &mut Side, random: &mut Random) -> Result<(), NoMemory> {
+    let answer = side.end.answer();
+    put_any(&mut side.link, answer, random)
+}
+
+/// One thing that a side may send.
+fn emit_one(side: &mut Side, random: &mut Random) -> Result<(), NoMemory> {
+    match random.below(8) {
+        0 => emit_again(side, random),
+        1 => emit_answer(side, random),
+        _ => emit_next(side, random),
+    }
+}
+
+/// What a side sends in a turn.
 fn emit(side: &mut Side, random: &mut Random) -> Result<(), NoMemory> {
-    if random.below(3) == 0 {
-        if let Some(again) = side.end.turn()? {
-            put(&mut side.link, again, random)?;
-        }
-    }
-    for _ in 0..4 {
-        if let Some(next) = side.end.next_segment()? {
-            put(&mut side.link, next, random)?;
-        }
-    }
-    if let Some(answer) = side.end.answer() {
-        put(&mut side.link, answer, random)?;
+    for _ in 0..6 {
+        emit_one(side, random)?;
     }
     Ok(())
 }
 
-/// Some of the segments on a link arrive, in whatever order. One in sixteen stays there too.
+/// Drops a segment that arrived. One in sixteen stays on the link.
+fn remove(link: &mut Vec<Segment>, place: usize, random: &mut Random) {
+    if random.below(16) > 0 && place < link.len() {
+        link.remove(place);
+    }
+}
+
+/// One of the first segments on a link arrives.
+fn deliver_one(
+    rt: &impl Abort,
+    link: &mut Vec<Segment>,
+    end: &mut End,
+    random: &mut Random,
+) -> Result<(), NoMemory> {
+    let place = random.below(link.len().min(8) as u32) as usize;
+    match link.get(place) {
+        Some(segment) => {
+            take(rt, end, segment)?;
+        }
+        None => return Ok(()),
+    }
+    remove(link, place, random);
+    Ok(())
+}
+
+/// Some of the segments on a link arrive, in whatever order.
 fn deliver(
     rt: &impl Abort,
     link: &mut Vec<Segment>,
@@ -75,16 +128,7 @@ fn deliver(
     random: &mut Random,
 ) -> Result<(), NoMemory> {
     for _ in 0..8 {
-        let len = link.len();
-        if len > 0 {
-            let place = random.below(len.min(8) as u32) as usize;
-            if place < link.len() {
-                take(rt, end, &link[place])?;
-                if random.below(16) > 0 {
-                    link.remove(place);
-                }
-            }
-        }
+        deliver_one(rt, link, end, random)?;
     }
     Ok(())
 }
@@ -109,7 +153,11 @@ fn sending(alloc: Global, end: End, bytes: &[u8]) -> Result<Side, Fail> {
     })
 }
 
-fn handed_over(rt: &impl Abort, side: Side) -> Side {
+/// A side as it is, or with its end handed over.
+fn handed_over(rt: &impl Abort, side: Side, moves: bool) -> Side {
+    if !moves {
+        return side;
+    }
     let Side { end, read, link } = side;
     Side {
         end: moved(rt, end),
@@ -152,11 +200,8 @@ fn go_through(
         step(rt, &mut far, &mut near, &mut random)?;
         read(rt, &mut far, back);
         read(rt, &mut near, there);
-        if steps % 20 == 0 {
-            far = handed_over(rt, far);
-        } else if steps % 10 == 0 {
-            near = handed_over(rt, near);
-        }
+        far = handed_over(rt, far, steps % 20 == 0);
+        near = handed_over(rt, near, steps % 20 == 10);
         steps += 1;
     }
     assert!(rt; steps < 10_000, "seed {seed} is through");

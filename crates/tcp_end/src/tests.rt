@@ -57,6 +57,11 @@ pub(crate) fn moved(rt: &impl Abort, end: End) -> End {
     End::import(state)
 }
 
+/// An end as it is, or after it was handed over.
+fn moved_if(rt: &impl Abort, end: End, moves: bool) -> End {
+    if moves { moved(rt, end) } else { end }
+}
+
 /// The next slice of an end, which has so many bytes.
 fn slice(rt: &impl Abort, end: &mut End, len: usize) -> Result<Segment, Fail> {
     let segment = end.next_segment()?.ok_or("a slice")?;
@@ -102,10 +107,8 @@ fn out_of_order(rt: &impl Abort, far: End, near: End, moves: bool) -> Result<(En
     let two = slice(rt, &mut near, 1_024)?;
     let three = slice(rt, &mut near, 952)?;
     arrives(rt, &mut far, &three, Arrival::Accepted, 0)?;
-    if moves {
-        far = moved(rt, far);
-        near = moved(rt, near);
-    }
+    far = moved_if(rt, far, moves);
+    near = moved_if(rt, near, moves);
     arrives(rt, &mut far, &one, Arrival::Accepted, 1_024)?;
     arrives(rt, &mut far, &two, Arrival::Accepted, 3_000)?;
     Ok((far, near))
