@@ -86,9 +86,6 @@ may_join hold is = begins hold (joined_lines hold) [] Established is (joined hol
 pub may_hear : (hold : ℕ) → IsHomeOpen (home hold) → Begins 65001 (heard_lines hold)
 may_hear hold is = begins hold (heard_lines hold) [] Established is (heard_all hold)
 
-pub may_cease : (hold : ℕ) → IsHomeOpen (home hold) → Begins 65001 (sent_lines hold ++ Got cease_bytes ∷ [])
-may_cease hold is = begins hold (sent_lines hold ++ Got cease_bytes ∷ []) [] Closed is (ceased hold)
-
 pub may_tick : IsHomeOpen (home 90) → Begins 65001 (confirmed_lines 90 ++ Tick 30 ∷ [])
 may_tick is = begins 90 (confirmed_lines 90 ++ Tick 30 ∷ []) (Put KeepaliveMsg ∷ []) OpenConfirm is beaten
 

@@ -2,7 +2,9 @@
 
 ghost use Rattle.std.specs.Prelude.{◌≡◌, ◌++◌, ◌∷◌, [], false, IfOk};
 ghost use Rattle.bgp_types.specs.Values.{is_short_hold};
-ghost use Rattle.bgp_story.specs.Row.{home, open_bytes, keepalive_bytes, update_bytes, cease_bytes, sent_lines, confirmed_lines};
+ghost use Rattle.bgp_story.specs.Row.{open_bytes, keepalive_bytes, update_bytes, sent_lines, confirmed_lines, joined_lines, heard_lines};
+ghost use Rattle.bgp_story.specs.declared.line.Line.TheVariants.{Put, Tick};
+ghost use Rattle.bgp_types.specs.declared.message.Message.TheVariants.{KeepaliveMsg};
 
 use super::*;
 use bgp_types::{Caps, Message, Octets, OpenMsg, SessionState};
@@ -50,19 +52,6 @@ fn announcement(alloc: Global) -> Result<Octets, Fail>
     )?)
 }
 
-/// A NOTIFICATION: Cease, Administrative Shutdown.
-fn cease(alloc: Global) -> Result<Octets, Fail>
-    ensures { IfOk result (λ octets. octets ≡ cease_bytes) }
-{
-    Ok(Octets::from_slice(
-        alloc,
-        &[
-            0xFF, 0xFF, 0xFF, 0xFF, 0xFF, 0xFF, 0xFF, 0xFF, 0xFF, 0xFF, 0xFF, 0xFF, 0xFF, 0xFF,
-            0xFF, 0xFF, 0x00, 0x15, 0x03, 0x06, 0x02,
-        ],
-    )?)
-}
-
 /// A session whose OPEN was put.
 fn sent(alloc: Global, hold: u16) -> Result<Story, Fail>
     requires { is_short_hold hold ≡ false }
@@ -89,40 +78,48 @@ fn confirmed(alloc: Global, hold: u16) -> Result<Story, Fail>
     Ok(story)
 }
 
-#[test]
-fn a_session_is_made(rt: HostRuntime) -> Result<(), Fail> {
-    let alloc = rt.alloc();
+/// A session that took the KEEPALIVE of the remote.
+fn joined(alloc: Global) -> Result<Story, Fail>
+    ensures { IfOk result (λ story. story ≡ record { lines = joined_lines 0; remote_as = 65001 }) }
+{
     let mut story = confirmed(alloc, 0)?;
-    assert_eq!(rt; story.state(), SessionState::OpenConfirm);
     let reply = keepalive(alloc)?;
     story.got(reply)?;
-    assert_eq!(rt; story.state(), SessionState::Established);
+    Ok(story)
+}
+
+/// A session that heard an announcement.
+fn heard(alloc: Global) -> Result<Story, Fail>
+    ensures { IfOk result (λ story. story ≡ record { lines = heard_lines 0; remote_as = 65001 }) }
+{
+    let mut story = joined(alloc)?;
     let update = announcement(alloc)?;
     story.got(update)?;
-    assert_eq!(rt; story.state(), SessionState::Established);
-    assert_eq!(rt; story.lines().len(), 5);
-    assert_eq!(rt; story.remote_as(), 65001);
-    Ok(())
+    Ok(story)
 }
 
-#[test]
-fn a_session_is_refused(rt: HostRuntime) -> Result<(), Fail> {
-    let alloc = rt.alloc();
-    let mut story = sent(alloc, 0)?;
-    assert_eq!(rt; story.state(), SessionState::OpenSent);
-    let notice = cease(alloc)?;
-    story.got(notice)?;
-    assert_eq!(rt; story.state(), SessionState::Closed);
-    Ok(())
-}
-
-/// With hold time 90 a KEEPALIVE is put in round 30.
-#[test]
-fn a_round_is_answered(rt: HostRuntime) -> Result<(), Fail> {
-    let mut story = confirmed(rt.alloc(), 90)?;
+/// A session with hold time 90 that put a KEEPALIVE in round 30.
+fn beaten(alloc: Global) -> Result<Story, Fail>
+    ensures { IfOk result (λ story. story ≡ record { lines = confirmed_lines 90 ++ Tick 30 ∷ Put KeepaliveMsg ∷ []; remote_as = 65001 }) }
+{
+    let mut story = confirmed(alloc, 90)?;
     story.tick(30)?;
     story.put(Message::KeepaliveMsg)?;
+    Ok(story)
+}
+
+#[test]
+fn states_of_a_session(rt: HostRuntime) -> Result<(), Fail> {
+    let alloc = rt.alloc();
+    let story = sent(alloc, 0)?;
+    assert_eq!(rt; story.state(), SessionState::OpenSent);
+    assert_eq!(rt; story.remote_as(), 65001);
+    let story = confirmed(alloc, 0)?;
     assert_eq!(rt; story.state(), SessionState::OpenConfirm);
+    let story = heard(alloc)?;
+    assert_eq!(rt; story.state(), SessionState::Established);
     assert_eq!(rt; story.lines().len(), 5);
+    let story = beaten(alloc)?;
+    assert_eq!(rt; story.state(), SessionState::OpenConfirm);
     Ok(())
 }
