@@ -1,0 +1,5 @@
+pub mod Halves
+pub mod Nodes
+pub mod Nexts
+pub mod Puts
+pub mod Counts
