@@ -6,7 +6,7 @@ use Rattle.std.specs.declared.cmp.Ordering.TheVariants.{Less, Equal, Greater}
 use Rattle.std.specs.Ordering.{nat_cmp, is_lt}
 use Rattle.std.specs.List.{AllByRecursion}
 use Rattle.std.specs.FinMap.{find, put, is_sorted}
-use Rattle.std.specs.FinMap.Entries.{length-put, length_without}
+use Rattle.std.specs.FinMap.Entries.{below_all, length-put, length_without}
 use Rattle.std.proofs.lemmas.Bool.{cases_lt}
 use Rattle.std.proofs.lemmas.Bool.Decides.{nat_tests}
 use Rattle.bgp_types.specs.Prefixes.{PrefixValue, IsPrefix}
@@ -93,7 +93,7 @@ counted low (e ∷ es) h rise all from =
     second true b k = k
     second false b k = absurd k
     tail : {V : Type 0} (x : PrefixValue × V) (xs : List (PrefixValue × V)) → T (is_sorted prefix_cmp (x ∷ xs)) → T (is_sorted prefix_cmp xs)
-    tail x xs k = second _ _ k
+    tail x xs k = second (below_all prefix_cmp x.0 xs) (is_sorted prefix_cmp xs) k
 
 from_zero : {V : Type 0} (es : List (PrefixValue × V)) → AllByRecursion (λ e. 0 ≤ rank e.0) es
 from_zero [] = tt
@@ -105,11 +105,12 @@ countable t h =
     omega arith
 
 -- after a change
-pub one_more : {V : Type 0} (p : PrefixValue) (v : V) (es : List (PrefixValue × V)) → T (is_sorted prefix_cmp es) → find prefix_cmp p es ≡ None → length (put prefix_cmp p v es) ≡ length es + 1
-one_more {V} p v es rise none = length-put prefix_cmp prefix_total p v es rise ∙ ap (λ (o : Option V). cond (is_some o) (length es) (length es + 1)) none
+pub put_len : {V : Type 0} (p : PrefixValue) (v : V) (es : List (PrefixValue × V)) → T (is_sorted prefix_cmp es) → (b : Bool) → is_some (find prefix_cmp p es) ≡ b → length (put prefix_cmp p v es) ≡ cond b (length es) (length es + 1)
+put_len p v es rise b e = length-put prefix_cmp prefix_total p v es rise ∙ ap (λ (t : Bool). cond t (length es) (length es + 1)) e
 
-pub as_many : {V : Type 0} (p : PrefixValue) (v w : V) (es : List (PrefixValue × V)) → T (is_sorted prefix_cmp es) → find prefix_cmp p es ≡ Some w → length (put prefix_cmp p v es) ≡ length es
-as_many {V} p v w es rise some = length-put prefix_cmp prefix_total p v es rise ∙ ap (λ (o : Option V). cond (is_some o) (length es) (length es + 1)) some
+pub none_of : {V : Type 0} (o : Option V) → is_some o ≡ false → o ≡ None
+none_of None e = refl
+none_of (Some v) e = absurd cc
 
 pub one_less : {V : Type 0} (p : PrefixValue) (w : V) (es : List (PrefixValue × V)) → T (is_sorted prefix_cmp es) → find prefix_cmp p es ≡ Some w → 1 + length (without prefix_cmp p es) ≡ length es
 one_less {V} p w es rise some = ap (λ (o : Option V). cond (is_some o) 1 0 + length (without prefix_cmp p es)) (sym some) ∙ length_without prefix_cmp prefix_total p es rise

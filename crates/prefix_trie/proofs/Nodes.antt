@@ -4,7 +4,7 @@ use Rattle.std.specs.Prelude.{T, nat_eq, ◌&&◌}
 use Rattle.std.proofs.Common.{Box, Global, ltb}
 use Rattle.std.specs.declared.cmp.Ordering.{Ordering}
 use Rattle.std.specs.declared.cmp.Ordering.TheVariants.{Less, Equal, Greater}
-use Rattle.std.specs.Ordering.{eq_by_cmp, is_eq, is_lt, nat_cmp}
+use Rattle.std.specs.Ordering.{eq_by_cmp, is_eq, is_lt, nat_cmp, is_some_and, ordering_then, partial_ordering_then}
 use Rattle.std.specs.Cmp.{tied_itself}
 use Rattle.std.specs.Option.{option_or}
 use Rattle.std.specs.List.{AllByRecursion}
@@ -216,3 +216,17 @@ at_opened {V} t b n e d trie =
     let h = subst IsTrie e trie in
     let f : AtFork t (record { prefix = b.value.prefix; value = b.value.value; zero = b.value.zero; one = b.value.one }) = record { is = ap entries e; node = h.0; zero = h.1; one = h.2 } in
     subst (λ (m : Node V). AtFork t m) (sym d) f
+
+pub entries_at : {V : Type 0} (t : Tree V) (b : Box (Node V) Global) (n : Node V) → t ≡ Fork b → n ≡ b.value → entries t ≡ own n.prefix n.value ++ (entries n.zero ++ entries n.one)
+entries_at {V} t b n e d = ap entries e ∙ ap (λ (m : Node V). own m.prefix m.value ++ (entries m.zero ++ entries m.one)) (sym d)
+
+pub less_from_test : (o : Ordering) → is_lt o ≡ true → o ≡ Less
+less_from_test Less e = refl
+less_from_test Equal e = absurd cc
+less_from_test Greater e = absurd cc
+
+-- the derived `<` is that of the order
+pub lt_same : (o r : Ordering) → is_some_and is_lt (partial_ordering_then (Some o) (Some r)) ≡ is_lt (ordering_then o r)
+lt_same Less r = refl
+lt_same Equal r = refl
+lt_same Greater r = refl

@@ -79,6 +79,7 @@ pub fn first<V>(tree: &Tree<V>) -> Option<Prefix>
     match tree {
         Tree::Leaf => None,
         Tree::Fork(node) => {
+            let node: &Node<V> = node;
             if node.value.is_some() {
                 return Some(node.prefix);
             }
@@ -98,6 +99,7 @@ pub fn next<V>(tree: &Tree<V>, prefix: Prefix) -> Option<Prefix>
     match tree {
         Tree::Leaf => None,
         Tree::Fork(node) => {
+            let node: &Node<V> = node;
             if prefix < node.prefix {
                 return first(tree);
             }
@@ -340,21 +342,21 @@ pub fn take<V: Drop>(tree: &mut Tree<V>, spares: &mut Spares<V>, prefix: Prefix)
     };
     let node: &mut Node<V> = node;
     if node.prefix == prefix {
-        let taken = node.value.take();
+        let here = node.value.take();
         tidy(tree, spares);
-        return taken;
+        return here;
     }
     if node.prefix.len() >= prefix.len() {
         return None;
     }
     if is_early(prefix.address(), node.prefix) {
-        let taken = take(&mut node.zero, spares, prefix);
+        let early = take(&mut node.zero, spares, prefix);
         tidy(tree, spares);
-        return taken;
+        return early;
     }
-    let taken = take(&mut node.one, spares, prefix);
+    let late = take(&mut node.one, spares, prefix);
     tidy(tree, spares);
-    taken
+    late
 }
 
 /// Takes a node out that has neither a value nor two branches.

@@ -88,10 +88,11 @@ impl<V: Drop> Table<V> for TrieTable<V> {
                 None => unreachable!(),
             };
         }
-        if slot.is_none() {
-            self.len += 1;
+        if slot.is_some() {
+            return Ok(slot);
         }
-        Ok(slot)
+        self.len += 1;
+        Ok(None)
     }
 
     fn remove(&mut self, prefix: Prefix) -> Option<V> {
