@@ -3,3 +3,4 @@ pub mod Nodes
 pub mod Nexts
 pub mod Puts
 pub mod Counts
+pub mod Longests

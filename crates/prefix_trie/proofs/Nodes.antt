@@ -36,7 +36,7 @@ shorter_first p q h k = grind (arith, nat_tests)
 pub longer_later : (p q : PrefixValue) → q.address ≤ p.address → q.len < p.len → prefix_cmp p q ≡ Greater
 longer_later p q h k = grind (arith, nat_tests)
 
-equal_from_test : (o : Ordering) → is_eq o ≡ true → o ≡ Equal
+pub equal_from_test : (o : Ordering) → is_eq o ≡ true → o ≡ Equal
 equal_from_test Less e = absurd cc
 equal_from_test Equal e = refl
 equal_from_test Greater e = absurd cc

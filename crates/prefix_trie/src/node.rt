@@ -2,7 +2,7 @@
 //! branches: those whose next bit is 0, and those whose next bit is 1. A node without a value is there
 //! for its two branches alone.
 
-ghost use Rattle.std.specs.Prelude.{◌+◌, ◌-◌, ◌<◌, ◌≤◌, ◌≡◌, ℕ, nat_lt, option_copied, map, length, ◌++◌, IsSome, IfSome, IfNone, OnSome, OnOk, OnErr, ◌/◌};
+ghost use Rattle.std.specs.Prelude.{◌+◌, ◌-◌, ◌<◌, ◌≤◌, ◌≡◌, ℕ, nat_lt, option_copied, map, length, ◌++◌, if◌then◌else◌, IsSome, IfSome, IfNone, OnSome, OnOk, OnErr, ◌/◌};
 ghost use Rattle.std.specs.FinMap as table;
 ghost use Rattle.bgp_types.specs.Tables.{prefix_cmp, first_above};
 ghost use Rattle.std.specs.List.{AllByRecursion};
@@ -114,6 +114,13 @@ pub fn next<V>(tree: &Tree<V>, prefix: Prefix) -> Option<Prefix>
     }
 }
 
+/// A prefix, where it has a value, or else the other.
+fn chosen(has: bool, prefix: Prefix, other: Option<Prefix>) -> Option<Prefix>
+    ensures { result ≡ (if has then Some prefix else other) }
+{
+    if has { Some(prefix) } else { other }
+}
+
 /// The longest prefix that covers another.
 pub fn longest<V>(tree: &Tree<V>, host: Prefix) -> Option<Prefix>
     requires { IsTrie tree.now }
@@ -126,9 +133,7 @@ pub fn longest<V>(tree: &Tree<V>, host: Prefix) -> Option<Prefix>
         if !node.prefix.covers(&host) {
             return longest;
         }
-        if node.value.is_some() {
-            longest = Some(node.prefix);
-        }
+        longest = chosen(node.value.is_some(), node.prefix, longest);
         at = if is_early(host.address(), node.prefix) {
             &node.zero
         } else {
