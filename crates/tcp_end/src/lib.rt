@@ -8,6 +8,8 @@ mod byte_queue;
 mod end;
 mod laws;
 #[cfg(test)]
+mod lossy_tests;
+#[cfg(test)]
 mod tests;
 
 pub use arrival::{Arrival, SendStop};

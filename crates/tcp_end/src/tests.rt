@@ -11,7 +11,7 @@ fn byte_at(place: u32, salt: u32) -> u8 {
 }
 
 /// The bytes of a stream from one place up to another.
-fn stream(alloc: Global, from: u32, to: u32, salt: u32) -> Result<Octets, NoMemory> {
+pub(crate) fn stream(alloc: Global, from: u32, to: u32, salt: u32) -> Result<Octets, NoMemory> {
     let mut bytes = Octets::new(alloc);
     for place in from..to {
         bytes.push(byte_at(place, salt))?;
@@ -20,7 +20,11 @@ fn stream(alloc: Global, from: u32, to: u32, salt: u32) -> Result<Octets, NoMemo
 }
 
 /// The two ends of a connection: the first sends home, and the second to the remote.
-fn two_ends(alloc: Global, remote_first: u32, home_first: u32) -> Result<(End, End), NoMemory> {
+pub(crate) fn two_ends(
+    alloc: Global,
+    remote_first: u32,
+    home_first: u32,
+) -> Result<(End, End), NoMemory> {
     let remote = End::new(
         alloc,
         Way::Home,
@@ -39,7 +43,7 @@ fn two_ends(alloc: Global, remote_first: u32, home_first: u32) -> Result<(End, E
 }
 
 /// A segment arrives at the end that it was sent to.
-fn take(rt: &impl Abort, end: &mut End, segment: &Segment) -> Result<Arrival, NoMemory> {
+pub(crate) fn take(rt: &impl Abort, end: &mut End, segment: &Segment) -> Result<Arrival, NoMemory> {
     assert!(rt; segment.peering == end.peering());
     assert!(rt; segment.way != end.way());
     assert!(rt; segment.bytes.len() < 65_536);
@@ -47,7 +51,7 @@ fn take(rt: &impl Abort, end: &mut End, segment: &Segment) -> Result<Arrival, No
 }
 
 /// The same end, after it was handed over.
-fn moved(rt: &impl Abort, end: End) -> End {
+pub(crate) fn moved(rt: &impl Abort, end: End) -> End {
     let state = end.export();
     assert!(rt; state.taken as usize + state.ready.len() <= 1 << 20);
     End::import(state)
