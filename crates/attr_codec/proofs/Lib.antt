@@ -1,0 +1,5 @@
+pub mod PathLaws
+pub mod PieceLaws
+pub mod SaidLaws
+pub mod ReadLaws
+pub mod WriteLaws

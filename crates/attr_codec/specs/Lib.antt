@@ -1,0 +1,5 @@
+pub mod Answers
+pub mod Fields
+pub mod Pieces
+pub mod Saying
+pub mod Writing

@@ -1,0 +1,183 @@
+//! What the attributes of a field say, each by itself, and together.
+
+ghost use Rattle.std.specs.Prelude.{◌≡◌, [], Bool, IfOk, OnOk};
+ghost use Rattle.bgp_types.specs.Faults.{own_fault};
+ghost use Rattle.bgp_types.specs.Merge.{is_stale, merged_aggregator, path_with};
+ghost use Rattle.attr_codec.specs.Answers.{Passes};
+ghost use Rattle.attr_codec.specs.Pieces.{wire, IsPiece};
+ghost use Rattle.attr_codec.specs.Saying.{said_in, with_attr, found_of, put_kept};
+
+use crate::fault::CodecFault;
+use crate::kept::Kept;
+use crate::merge::merged;
+use crate::piece::Piece;
+use bgp_types::{Aggregator, AsPath, FoundAttrs, NoMemory, Origin, RawAttr};
+use std::alloc::Global;
+
+/// AS_TRANS, which stands for an AS that two octets don't hold (RFC 6793, section 9).
+pub const AS_TRANS: u32 = 23456;
+
+/// The types of attributes.
+pub const ORIGIN: u8 = 1;
+
+pub const AS_PATH: u8 = 2;
+
+pub const NEXT_HOP: u8 = 3;
+
+pub const MULTI_EXIT_DISC: u8 = 4;
+
+const LOCAL_PREF: u8 = 5;
+
+pub const ATOMIC_AGGREGATE: u8 = 6;
+
+pub const AGGREGATOR: u8 = 7;
+
+pub const AS4_PATH: u8 = 17;
+
+pub const AS4_AGGREGATOR: u8 = 18;
+
+/// What the attributes of a field say, each by itself. In a wide UPDATE no AS4 attribute counts.
+/// The unknown ones that are kept stand in rising type.
+#[derive(Debug, Drop)]
+pub struct Said {
+    pub origin: Option<Origin>,
+    pub path: Option<AsPath>,
+    pub next_hop: Option<u32>,
+    pub med: Option<u32>,
+    pub atomic: bool,
+    pub aggregator: Option<Aggregator>,
+    pub as4_path: Option<AsPath>,
+    pub as4_aggregator: Option<Aggregator>,
+    pub unknown: Kept,
+}
+
+/// Puts an attribute where its type has its place, where there is one.
+fn keep(unknown: &mut Kept, attr: Option<RawAttr>) -> Result<(), NoMemory>
+    ensures { OnOk result (unknown.new ≡ put_kept attr unknown.old) }
+{
+    match attr {
+        Some(attr) => unknown.put(attr),
+        None => Ok(()),
+    }
+}
+
+/// Whether AGGREGATOR has another AS than AS_TRANS though AS4_AGGREGATOR is there.
+fn is_stale(aggregator: &Option<Aggregator>, as4_aggregator: &Option<Aggregator>) -> bool
+    ensures { result ≡ is_stale aggregator.now as4_aggregator.now }
+{
+    match (aggregator, as4_aggregator) {
+        (Some(aggregator), Some(_)) => aggregator.as_number != AS_TRANS,
+        _ => false,
+    }
+}
+
+/// AS4_AGGREGATOR's values, where AGGREGATOR has AS_TRANS. Partial is AGGREGATOR's.
+fn aggregator_of(
+    aggregator: Option<Aggregator>,
+    as4_aggregator: Option<Aggregator>,
+) -> Option<Aggregator>
+    ensures { result ≡ merged_aggregator aggregator as4_aggregator }
+{
+    let aggregator = aggregator?;
+    match as4_aggregator {
+        Some(as4_aggregator) if aggregator.as_number == AS_TRANS => Some(Aggregator {
+            as_number: as4_aggregator.as_number,
+            address: as4_aggregator.address,
+            partial: aggregator.partial,
+        }),
+        _ => Some(aggregator),
+    }
+}
+
+/// The path of both, or AS_PATH where the AS4 attributes are stale.
+fn path_of(
+    alloc: Global,
+    stale: bool,
+    path: Option<AsPath>,
+    as4_path: Option<AsPath>,
+) -> Result<Option<AsPath>, NoMemory>
+    ensures { IfOk result (λ p. p ≡ path_with stale path as4_path) }
+{
+    match (path, as4_path) {
+        (Some(path), Some(as4_path)) if !stale => Ok(Some(merged(alloc, path, as4_path)?)),
+        (path, _) => Ok(path),
+    }
+}
+
+impl Said {
+    /// Nothing.
+    #[tactic(auto, unfolding(crate::specs::Saying::said_in))]
+    pub fn new(alloc: Global) -> Said
+        ensures { (wide : Bool) → result ≡ said_in wide [] }
+    {
+        Said {
+            origin: None,
+            path: None,
+            next_hop: None,
+            med: None,
+            atomic: false,
+            aggregator: None,
+            as4_path: None,
+            as4_aggregator: None,
+            unknown: Kept::new(alloc),
+        }
+    }
+
+    /// Takes in what a further attribute says, or answers its fault.
+    #[tactic(auto, unfolding(bgp_types::specs::Faults::own_fault, crate::specs::Saying::with_attr))]
+    pub fn add(&mut self, alloc: Global, piece: &Piece, wide: bool) -> Result<(), CodecFault>
+        requires { IsPiece piece.now }
+        ensures fault { Passes result (own_fault wide (wire piece.now)) }
+        ensures said { OnOk result (self.new ≡ with_attr wide (wire piece.now) self.old) }
+    {
+        match piece.kind {
+            ORIGIN => self.origin = Some(piece.origin(alloc)?),
+            AS_PATH => self.path = Some(piece.path(alloc, wide)?),
+            NEXT_HOP => self.next_hop = Some(piece.next_hop(alloc)?),
+            MULTI_EXIT_DISC => self.med = Some(piece.med(alloc)?),
+            LOCAL_PREF => {}
+            ATOMIC_AGGREGATE => {
+                piece.atomic(alloc)?;
+                self.atomic = true;
+            }
+            AGGREGATOR => self.aggregator = Some(piece.aggregator(alloc, wide)?),
+            AS4_PATH => {
+                piece.optional(alloc)?;
+                self.as4_path = piece.as4_path(alloc, wide)?;
+            }
+            AS4_AGGREGATOR => {
+                piece.optional(alloc)?;
+                self.as4_aggregator = piece.as4_aggregator(wide);
+            }
+            _ => keep(&mut self.unknown, piece.other(alloc)?)?,
+        }
+        Ok(())
+    }
+
+    /// What they say together.
+    pub fn found(self, alloc: Global) -> Result<FoundAttrs, NoMemory>
+        ensures { IfOk result (λ found. found ≡ found_of self) }
+    {
+        let stale = is_stale(&self.aggregator, &self.as4_aggregator);
+        let Said {
+            origin,
+            path,
+            next_hop,
+            med,
+            atomic,
+            aggregator,
+            as4_path,
+            as4_aggregator,
+            unknown,
+        } = self;
+        Ok(FoundAttrs {
+            origin,
+            path: path_of(alloc, stale, path, as4_path)?,
+            next_hop,
+            med,
+            atomic,
+            aggregator: aggregator_of(aggregator, as4_aggregator),
+            unknown: unknown.into_attrs(),
+        })
+    }
+}
