@@ -3,3 +3,4 @@ pub mod PieceLaws
 pub mod SaidLaws
 pub mod ReadLaws
 pub mod WriteLaws
+pub mod TestAttrs

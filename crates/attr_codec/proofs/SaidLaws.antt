@@ -15,6 +15,7 @@ use Rattle.bgp_types.specs.Faults.{ok_in, origin_in, path_in, next_hop_in, med_i
 use Rattle.bgp_types.specs.Found.{said, as4_path_in, as4_aggregator_in, unless_wide, join, kept}
 use Rattle.bgp_types.specs.Rising.{insert_by, in_rising}
 use Rattle.bgp_types.specs.Values.{is_other, other_kind}
+use Rattle.bgp_types.proofs.OrderLaws.{insert_swap, kept_kind}
 use Rattle.bgp_types.specs.WireAttrs.{WireAttr}
 use Rattle.attr_codec.specs.declared.said.Said.{Said}
 use Rattle.attr_codec.specs.Saying.{unknown_in, said_in, put_kept, with_attr}
@@ -37,10 +38,6 @@ found_last {B} read k (b ∷ before) a h = by_test (eqb b.kind a.kind) refl h (e
 
 -- ---- the unknown ones
 
-insert_swap : {A : Type 0} (key : A → ℕ) (x y : A) (zs : List A) → key x ≢ key y → insert_by key x (insert_by key y zs) ≡ insert_by key y (insert_by key x zs)
-insert_swap key x y [] h = grind (arith, nat_tests)
-insert_swap key x y (z ∷ zs) h = let e = insert_swap key x y zs h in grind (arith, nat_tests)
-
 in_rising_last : {A : Type 0} (key : A → ℕ) (xs : List A) (x : A) → AllByRecursion (λ y. key y ≢ key x) xs → in_rising key (xs ++ x ∷ []) ≡ insert_by key x (in_rising key xs)
 in_rising_last key [] x h = refl
 in_rising_last key (y ∷ ys) x h = ap (insert_by key y) (in_rising_last key ys x h.1) ∙ insert_swap key y x (in_rising key ys) h.0
@@ -56,12 +53,6 @@ kept_append (x ∷ xs) ys = joined (is_other x.kind) (kept_raw x) (kept (xs ++ y
 none_else : {A : Type 0} (t : Bool) (x : A) (o : Option A) → cond t (Some x) o ≡ None → (t ≡ false) × (o ≡ None)
 none_else true x o e = absurd cc
 none_else false x o e = (refl, e)
-
-kept_kind : (a : WireAttr) (r : RawAttr) → kept_raw a ≡ Some r → other_kind r ≡ a.kind
-kept_kind a r e = by_test (is_transitive a) e where
-  by_test : (t : Bool) → cond t (Some (record { kind = a.kind; partial = is_partial a; bytes = a.value })) None ≡ Some r → other_kind r ≡ a.kind
-  by_test true f = sym (ap other_kind (same_Some _ r f))
-  by_test false f = absurd cc
 
 all_join : (P : RawAttr → Type 0) (t : Bool) (o : Option RawAttr) (xs : List RawAttr) → ((r : RawAttr) → o ≡ Some r → P r) → AllByRecursion P xs → AllByRecursion P (cond t (join o xs) xs)
 all_join P true None xs h all = all

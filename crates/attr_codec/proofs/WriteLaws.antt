@@ -22,7 +22,7 @@ use Rattle.bgp_types.specs.Values.{is_other, other_kind}
 use Rattle.bgp_types.specs.WireAttrs.{WireAttr, wire_kind, size_width, attr_octets, written}
 use Rattle.bgp_types.specs.Writable.{IsPart, IsOther}
 use Rattle.bgp_types.proofs.Lengths.{path_in_width_size, spelled_attrs_size}
-use Rattle.bgp_types.proofs.OrderLaws.{rising_same}
+use Rattle.bgp_types.proofs.OrderLaws.{insert_swap, rising_same}
 use Rattle.attr_codec.specs.Fields.{FitsField}
 use Rattle.attr_codec.specs.Writing.{part_in_width, known_written, as4_written, NeedsLong, AreParts}
 
@@ -145,13 +145,9 @@ apart : (m : ℕ) (xs ys : List WireAttr) → AllByRecursion (λ x. m ≤ wire_k
 apart m [] ys high low = tt
 apart m (x ∷ xs) ys high low = let le = high.0 in (all_weaker (λ y. wire_kind y < m) (λ y. wire_kind y ≢ wire_kind x) ys (λ y h. λ e. omega arith) low, apart m xs ys high.1 low)
 
-insert_swap : (x y : WireAttr) (zs : List WireAttr) → wire_kind x ≢ wire_kind y → insert_by wire_kind x (insert_by wire_kind y zs) ≡ insert_by wire_kind y (insert_by wire_kind x zs)
-insert_swap x y [] h = grind (arith, nat_tests)
-insert_swap x y (z ∷ zs) h = let e = insert_swap x y zs h in grind (arith, nat_tests)
-
 rising_past : (x : WireAttr) (ys zs : List WireAttr) → AllByRecursion (λ y. wire_kind y ≢ wire_kind x) ys → in_rising wire_kind (x ∷ (ys ++ zs)) ≡ in_rising wire_kind (ys ++ x ∷ zs)
 rising_past x [] zs h = refl
-rising_past x (y ∷ ys) zs h = insert_swap x y (in_rising wire_kind (ys ++ zs)) (λ e. h.0 (sym e)) ∙ ap (insert_by wire_kind y) (rising_past x ys zs h.1)
+rising_past x (y ∷ ys) zs h = insert_swap wire_kind x y (in_rising wire_kind (ys ++ zs)) (λ e. h.0 (sym e)) ∙ ap (insert_by wire_kind y) (rising_past x ys zs h.1)
 
 rising_swap : (xs ys zs : List WireAttr) → AllByRecursion (λ x. AllByRecursion (λ y. wire_kind y ≢ wire_kind x) ys) xs → in_rising wire_kind (xs ++ (ys ++ zs)) ≡ in_rising wire_kind (ys ++ (xs ++ zs))
 rising_swap [] ys zs h = refl

@@ -61,7 +61,7 @@ pub record HasRoom (kind len : ℕ) : Type 0 where
   pub known : kind ≤ 4
   pub room : has_room kind len ≡ true
 
-room_is : (kind len : ℕ) → fault_of_kind kind len ≡ None → HasRoom kind len
+pub room_is : (kind len : ℕ) → fault_of_kind kind len ≡ None → HasRoom kind len
 room_is kind len e = by_test (ltb len 19) (ltb 4096 len) (eqb kind 0) (ltb 4 kind) (has_room kind len) refl refl refl refl refl e where
   by_test : (t u v w x : Bool) → ltb len 19 ≡ t → ltb 4096 len ≡ u → eqb kind 0 ≡ v → ltb 4 kind ≡ w → has_room kind len ≡ x → cond (t || u) (Some (BadLength len)) (cond (v || w) (Some (BadType kind)) (cond x None (Some (BadLength len)))) ≡ None → HasRoom kind len
   by_test true u v w x a b c d f e = absurd cc

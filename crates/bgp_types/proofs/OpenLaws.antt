@@ -62,7 +62,7 @@ cap_again cap rest fits =
     let long : ltb (length (cap.bytes ++ rest)) n ≡ false = le-ltb _ _ (omega (arith, length-append cap.bytes rest)) in
     rw (long, take_at cap.bytes rest n refl, drop_at cap.bytes rest n refl) refl
 
-cap_reads : Reads cap_at cap_octets AnyCap
+pub cap_reads : Reads cap_at cap_octets AnyCap
 cap_reads = record { shortens = record { shorter = cap_shorter }; again = cap_again }
 
 no_cap : cap_at [] ≡ None

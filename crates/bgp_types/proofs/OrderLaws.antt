@@ -15,11 +15,11 @@ use Rattle.bgp_types.specs.Faults.{is_transitive, is_partial, attr_of, own_fault
 use Rattle.bgp_types.specs.Reads.{Differ}
 use Rattle.bgp_types.specs.Found.{join, kept}
 
-insert_swap : {A : Type 0} (key : A → ℕ) (x y : A) (zs : List A) → key x ≢ key y → insert_by key x (insert_by key y zs) ≡ insert_by key y (insert_by key x zs)
+pub insert_swap : {A : Type 0} (key : A → ℕ) (x y : A) (zs : List A) → key x ≢ key y → insert_by key x (insert_by key y zs) ≡ insert_by key y (insert_by key x zs)
 insert_swap key x y [] h = grind (arith, nat_tests)
 insert_swap key x y (z ∷ zs) h = let e = insert_swap key x y zs h in grind (arith, nat_tests)
 
-kept_kind : (a : WireAttr) (r : RawAttr) → kept_raw a ≡ Some r → other_kind r ≡ a.kind
+pub kept_kind : (a : WireAttr) (r : RawAttr) → kept_raw a ≡ Some r → other_kind r ≡ a.kind
 kept_kind a r e = by_test (is_transitive a) e where
   by_test : (t : Bool) → cond t (Some (record { kind = a.kind; partial = is_partial a; bytes = a.value })) None ≡ Some r → other_kind r ≡ a.kind
   by_test true f = sym (ap other_kind (same_Some _ r f))

@@ -97,7 +97,7 @@ before_all p (x ∷ xs) ys d = (same_turned p x ∙ middle xs ys d.0, before_all
   middle (z ∷ zs) ys all = middle zs ys all.1
 
 -- distinct prefixes stay as they are
-once_same : (seen ps : List PrefixValue) → IsDistinct same_prefix (seen ++ ps) → once_after seen ps ≡ seen ++ ps
+pub once_same : (seen ps : List PrefixValue) → IsDistinct same_prefix (seen ++ ps) → once_after seen ps ≡ seen ++ ps
 once_same seen [] d = sym (append-nil seen)
 once_same seen (p ∷ ps) d =
     let fresh : list_any (same_prefix p) seen ≡ false = none_is p seen (before_all p seen ps d) in
