@@ -1,10 +1,10 @@
 -- Prefixes as runs of addresses: two of them are apart, or one lies within a half of the other.
-use Rattle.std.proofs.Common.{◌≡◌, ℕ, zero, suc, ◌+◌, ◌-◌, ◌*◌, ◌/◌, ◌%◌, ◌^◌, ◌<◌, ◌≤◌, ◌≢◌, refl, sym, ap, ◌∙◌, subst, arith, inl, inr, add-one}
+use Rattle.std.proofs.Common.{◌≡◌, ℕ, suc, ◌+◌, ◌-◌, ◌*◌, ◌/◌, ◌%◌, ◌^◌, ◌<◌, ◌≤◌, ◌≢◌, sym, ap, ◌∙◌, subst, arith, inl, inr, add-one}
 use Rattle.std.proofs.Math.Nat.{mul_assoc, mul-le-mul_right, lt_of_mul-lt-mul_right, mul_comm, suc-mul, add-mul, one-mul, ne_of_lt, pos_of_ne-zero, div-eq_of_lt, pow-suc, pow-le-pow_right}
 use Rattle.std.specs.Int.Bits.{bit_xor, xor_self, xor_assoc, xor_zero_l, xor_zero_r}
 use Rattle.std.specs.Int.Count.{count_leading_zeros}
 use Rattle.std.proofs.lemmas.Bool.{cases_lt}
-use Rattle.std.proofs.lemmas.Nat.{pow-add, shl-shr, shr-shr, shr_split, mod_below, pow_pos, pow_below, div-mul-add, xor_shr, xor_lt, leading_top, le-div, shr_below}
+use Rattle.std.proofs.lemmas.Nat.{pow-add, shl-shr, shr-shr, shr_split, mod_below, pow_pos, div-mul-add, xor_shr, xor_lt, leading_top, le-div}
 use Rattle.bgp_types.specs.Prefixes.{PrefixValue, IsPrefix, Covers, cleared, prefix_of}
 use Rattle.prefix_trie.specs.Halves.{size, middle, past, Within, IsFork}
 

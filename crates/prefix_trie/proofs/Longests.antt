@@ -1,20 +1,19 @@
 -- The walk down a tree to the longest prefix that covers host.
-use Rattle.std.proofs.Common.{◌≡◌, ◌≢◌, ℕ, ◌<◌, ◌≤◌, Bool, true, false, cond, List, [], ◌∷◌, ◌++◌, Option, Some, None, refl, sym, ap, ◌∙◌, subst, arith, inl, inr}
+use Rattle.std.proofs.Common.{◌≡◌, ◌≢◌, ◌<◌, ◌≤◌, Bool, true, false, cond, List, [], ◌∷◌, ◌++◌, Option, Some, None, refl, sym, ap, ◌∙◌, subst, arith, inl, inr}
 use Rattle.std.specs.Prelude.{◌⊎◌, IsSome, is_some}
-use Rattle.std.specs.declared.cmp.Ordering.TheVariants.{Equal}
 use Rattle.std.specs.Ordering.{eq_by_cmp}
 use Rattle.std.specs.List.{AllByRecursion}
 use Rattle.std.specs.Cmp.{eq_by_cmp_equiv}
 use Rattle.std.specs.FinMap.{find}
 use Rattle.std.proofs.lemmas.Bool.{cases_lt}
-use Rattle.bgp_types.specs.Prefixes.{PrefixValue, IsPrefix, Covers}
+use Rattle.bgp_types.specs.Prefixes.{PrefixValue, Covers}
 use Rattle.bgp_types.specs.Tables.{prefix_cmp}
 use Rattle.bgp_types.proofs.TableLaws.{exact_prefixes, prefix_total}
 use Rattle.prefix_trie.specs.Halves.{middle, past, Within, Under}
-use Rattle.prefix_trie.specs.Longest.{IsLongest, CoversNone, LongestOf}
+use Rattle.prefix_trie.specs.Longest.{LongestOf}
 use Rattle.prefix_trie.specs.Nodes.{own, IsNode}
 use Rattle.prefix_trie.proofs.Halves.{positive, covered_from, covered_to, covers_in}
-use Rattle.prefix_trie.proofs.Nodes.{equal_from_test, apart, shorter_differs, find_here, find_nowhere, find_early, find_late}
+use Rattle.prefix_trie.proofs.Nodes.{equal_from_test, apart, shorter_differs, find_here, find_early, find_late}
 use Rattle.prefix_trie.proofs.Puts.{all_under}
 
 abbrev pub Has : {V : Type 0} → List (PrefixValue × V) → PrefixValue → Type 0

@@ -1,13 +1,13 @@
 -- The next prefix in a tree.
-use Rattle.std.proofs.Common.{◌≡◌, ℕ, ◌<◌, ◌≤◌, Bool, true, false, cond, List, [], ◌∷◌, ◌++◌, map, Option, Some, None, refl, sym, ap, ◌∙◌, arith}
+use Rattle.std.proofs.Common.{◌≡◌, ◌<◌, ◌≤◌, true, false, cond, List, [], ◌∷◌, ◌++◌, map, Option, Some, None, refl, ap, ◌∙◌, arith}
 use Rattle.std.specs.Prelude.{is_some}
-use Rattle.std.specs.declared.cmp.Ordering.TheVariants.{Less, Greater}
+use Rattle.std.specs.declared.cmp.Ordering.TheVariants.{Less}
 use Rattle.std.specs.Ordering.{is_lt}
 use Rattle.std.specs.Option.{option_or}
 use Rattle.std.specs.List.{AllByRecursion}
 use Rattle.bgp_types.specs.Prefixes.{PrefixValue}
 use Rattle.bgp_types.specs.Tables.{prefix_cmp, is_above, first_above}
-use Rattle.bgp_types.proofs.TableLaws.{prefix_total, AllBelow, AllAbove, next_right, below_not_above}
+use Rattle.bgp_types.proofs.TableLaws.{prefix_total, AllAbove, next_right, below_not_above}
 use Rattle.prefix_trie.specs.Halves.{middle}
 use Rattle.prefix_trie.specs.Nodes.{own, IsNode}
 use Rattle.prefix_trie.proofs.Nodes.{every, every_both, branches_above, ones_above, zeros_below}

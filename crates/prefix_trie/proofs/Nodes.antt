@@ -1,24 +1,23 @@
 -- What the entries of a node answer, and what a change of them leaves.
-use Rattle.std.proofs.Common.{◌≡◌, ◌≢◌, ℕ, ◌+◌, ◌<◌, ◌≤◌, Bool, true, false, cond, not, List, [], ◌∷◌, ◌++◌, map, length, Option, Some, None, refl, sym, ap, ◌∙◌, subst, arith, inl, inr}
-use Rattle.std.specs.Prelude.{T, nat_eq, ◌&&◌}
+use Rattle.std.proofs.Common.{◌≡◌, ◌≢◌, ℕ, ◌<◌, ◌≤◌, Bool, true, false, cond, not, List, [], ◌∷◌, ◌++◌, Option, Some, None, refl, sym, ap, ◌∙◌, subst, arith}
+use Rattle.std.specs.Prelude.{nat_eq, ◌&&◌}
 use Rattle.std.proofs.Common.{Box, Global, ltb}
 use Rattle.std.specs.declared.cmp.Ordering.{Ordering}
 use Rattle.std.specs.declared.cmp.Ordering.TheVariants.{Less, Equal, Greater}
-use Rattle.std.specs.Ordering.{eq_by_cmp, is_eq, is_lt, nat_cmp, is_some_and, ordering_then, partial_ordering_then}
+use Rattle.std.specs.Ordering.{eq_by_cmp, is_eq, is_lt, is_some_and, ordering_then, partial_ordering_then}
 use Rattle.std.specs.Cmp.{tied_itself}
-use Rattle.std.specs.Option.{option_or}
 use Rattle.std.specs.List.{AllByRecursion}
-use Rattle.std.specs.FinMap.{find, put, is_sorted}
+use Rattle.std.specs.FinMap.{find, put}
 use Rattle.std.specs.FinMap.Entries.{by_order}
 use Rattle.std.proofs.lemmas.Bool.Decides.{nat_tests}
-use Rattle.std.proofs.lemmas.Bool.{cases_lt, cases_eq, and_parts, ltb-true, ltb-false}
-use Rattle.bgp_types.specs.Prefixes.{PrefixValue, IsPrefix, Covers}
-use Rattle.bgp_types.specs.Tables.{prefix_cmp, is_above, first_above}
-use Rattle.bgp_types.proofs.TableLaws.{prefix_total, exact_prefixes, AllBelow, AllAbove, without, put_right, put_left, find_right, find_left, find_above, without_right, without_left, without_above, next_right, rising_append}
-use Rattle.prefix_trie.specs.Halves.{size, middle, past, Within}
+use Rattle.std.proofs.lemmas.Bool.{and_parts, ltb-true, ltb-false}
+use Rattle.bgp_types.specs.Prefixes.{PrefixValue}
+use Rattle.bgp_types.specs.Tables.{prefix_cmp}
+use Rattle.bgp_types.proofs.TableLaws.{prefix_total, exact_prefixes, AllBelow, AllAbove, without, put_right, put_left, find_right, find_left, find_above, without_right, without_left}
+use Rattle.prefix_trie.specs.Halves.{middle, past, Within}
 use Rattle.prefix_trie.specs.Nodes.{own, entries, IsNode, IsTrie}
 use Rattle.prefix_trie.specs.declared.node.Tree.{Tree}
-use Rattle.prefix_trie.specs.declared.node.Tree.TheVariants.{Leaf, Fork}
+use Rattle.prefix_trie.specs.declared.node.Tree.TheVariants.{Fork}
 use Rattle.prefix_trie.specs.declared.node.Node.{Node}
 use Rattle.prefix_trie.proofs.Halves.{positive}
 

@@ -1,5 +1,5 @@
 -- A prefix that is put above a tree or beside it. All prefixes of the tree are under the prefix at.
-use Rattle.std.proofs.Common.{◌≡◌, ◌≢◌, ℕ, ◌+◌, ◌<◌, ◌≤◌, Bool, true, false, List, [], ◌∷◌, ◌++◌, Option, Some, None, refl, sym, ap, ◌∙◌, subst, arith, inl, inr}
+use Rattle.std.proofs.Common.{◌≡◌, ◌≢◌, ℕ, ◌<◌, ◌≤◌, Bool, true, false, List, [], ◌∷◌, ◌++◌, Option, Some, None, refl, sym, ap, ◌∙◌, subst, arith, inl, inr}
 use Rattle.std.specs.Prelude.{IsSome, IsTrue}
 use Rattle.std.specs.declared.cmp.Ordering.TheVariants.{Less, Greater}
 use Rattle.std.specs.List.{AllByRecursion}
@@ -8,8 +8,8 @@ use Rattle.std.proofs.lemmas.Bool.{cases_lt}
 use Rattle.bgp_types.specs.Prefixes.{PrefixValue, IsPrefix, Covers, cleared}
 use Rattle.bgp_types.specs.Tables.{prefix_cmp}
 use Rattle.bgp_types.proofs.TableLaws.{AllBelow, AllAbove, put_left}
-use Rattle.prefix_trie.specs.Halves.{size, middle, past, Within, Under, IsFork}
-use Rattle.prefix_trie.specs.Nodes.{own, entries, IsNode, IsTrie, put_given, IsPut, IsRefused, PutResult}
+use Rattle.prefix_trie.specs.Halves.{middle, past, Within, Under, IsFork}
+use Rattle.prefix_trie.specs.Nodes.{own, IsNode, put_given, IsRefused, PutResult}
 use Rattle.prefix_trie.proofs.Halves.{positive, early_within, ends_within, ends_before, covered_from, covered_to, covers_in, middle_le_past, fork_low, fork_high}
 use Rattle.prefix_trie.proofs.Nodes.{every, every_both, every_put, find_none, first_address, later_address, shorter_first, longer_later, put_here, put_early, put_late, find_early, find_late}
 

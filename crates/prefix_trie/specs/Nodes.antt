@@ -1,5 +1,5 @@
 -- What a trie has, and how its prefixes stand in it.
-use Rattle.std.specs.Prelude.{◌≡◌, ℕ, ◌+◌, ◌≤◌, Bool, true, false, List, [], ◌∷◌, ◌++◌, Option, Some, None, IsSome}
+use Rattle.std.specs.Prelude.{◌≡◌, ℕ, ◌+◌, ◌≤◌, Bool, true, false, List, [], ◌∷◌, ◌++◌, Option, Some, None}
 use Rattle.std.specs.FinMap.{find, put}
 use Rattle.bgp_types.specs.Tables.{prefix_cmp}
 use Rattle.std.specs.List.{AllByRecursion}

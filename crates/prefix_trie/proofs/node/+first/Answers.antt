@@ -1,14 +1,8 @@
-use Rattle.std.proofs.Common.{◌≡◌, ◌≢◌, ℕ, ◌<◌, ◌≤◌, List, [], ◌++◌, Option, Some, None, length, sym, ap, ◌∙◌, subst, arith}
+use Rattle.std.proofs.Common.{List, Option, None, sym, ap, ◌∙◌}
 use Rattle.std.specs.Option.{option_or}
-use Rattle.std.specs.List.{AllByRecursion}
-use Rattle.std.specs.FinMap.{find}
 use Rattle.bgp_types.specs.Prefixes.{PrefixValue}
-use Rattle.bgp_types.specs.Tables.{prefix_cmp, first_above}
-use Rattle.bgp_types.proofs.TableLaws.{without}
-use Rattle.prefix_trie.specs.Halves.{middle, past, Within}
-use Rattle.prefix_trie.specs.Nodes.{own, entries, IsNode, IsTrie}
-use Rattle.prefix_trie.specs.declared.node.Tree.{Tree}
-use Rattle.prefix_trie.specs.declared.node.Node.{Node}
+use Rattle.bgp_types.specs.Tables.{first_above}
+use Rattle.prefix_trie.specs.Nodes.{entries}
 use Rattle.prefix_trie.proofs.Nodes.{entries_at}
 use Rattle.prefix_trie.proofs.Nexts.{keys, first_below}
 use Rattle.prefix_trie.proofs.node.+first.Goals as goal

@@ -1,15 +1,10 @@
-use Rattle.std.proofs.Common.{◌≡◌, ◌≢◌, ℕ, ◌<◌, ◌≤◌, List, [], ◌++◌, Option, Some, None, length, sym, ap, ◌∙◌, subst, arith}
+use Rattle.std.proofs.Common.{List, Option, Some, None, sym, ap, ◌∙◌}
 use Rattle.std.specs.Option.{option_or}
 use Rattle.std.specs.Ordering.{nat_cmp}
-use Rattle.std.specs.List.{AllByRecursion}
-use Rattle.std.specs.FinMap.{find}
 use Rattle.bgp_types.specs.Prefixes.{PrefixValue}
 use Rattle.bgp_types.specs.Tables.{prefix_cmp, first_above}
-use Rattle.bgp_types.proofs.TableLaws.{without}
-use Rattle.prefix_trie.specs.Halves.{middle, past, Within}
-use Rattle.prefix_trie.specs.Nodes.{own, entries, IsNode, IsTrie}
-use Rattle.prefix_trie.specs.declared.node.Tree.{Tree}
-use Rattle.prefix_trie.specs.declared.node.Node.{Node}
+use Rattle.prefix_trie.specs.Halves.{middle}
+use Rattle.prefix_trie.specs.Nodes.{entries}
 use Rattle.prefix_trie.proofs.Nodes.{at_node, lt_same, less_from_test, is_before, is_past}
 use Rattle.prefix_trie.proofs.Nexts.{keys, next_before, next_early, next_late}
 use Rattle.prefix_trie.proofs.node.+next.Goals as goal

@@ -1,13 +1,9 @@
-use Rattle.std.proofs.Common.{◌≡◌, ◌≢◌, ℕ, ◌<◌, ◌≤◌, List, [], ◌++◌, Option, Some, None, length, sym, ap, ◌∙◌, subst, arith}
-use Rattle.std.specs.Prelude.{IsSome}
+use Rattle.std.proofs.Common.{List, ◌++◌, Option, length, sym, ap, ◌∙◌, subst, arith}
 use Rattle.std.specs.FinMap.{find}
-use Rattle.std.proofs.lemmas.List.{append-nil}
 use Rattle.bgp_types.specs.Prefixes.{PrefixValue}
 use Rattle.bgp_types.specs.Tables.{prefix_cmp}
 use Rattle.prefix_trie.specs.Halves.{middle, past, Within}
-use Rattle.prefix_trie.specs.Nodes.{own, entries, IsNode, IsTrie, put_given, PutResult}
-use Rattle.prefix_trie.specs.declared.node.Tree.{Tree}
-use Rattle.prefix_trie.specs.declared.node.Node.{Node}
+use Rattle.prefix_trie.specs.Nodes.{own, entries, put_given, PutResult}
 use Rattle.prefix_trie.proofs.Nodes.{at_opened, same_prefix, other_prefix, find_here, is_before, is_past}
 use Rattle.prefix_trie.proofs.Puts.{all_under, covers_strict, put_same, put_keeps, within_zero, within_one, put_zero, put_one}
 use Rattle.prefix_trie.proofs.node.+put.Goals as goal

@@ -2,7 +2,6 @@ use Rattle.std.proofs.Common.{◌≡◌}
 use Rattle.std.specs.FinMap.{find}
 use Rattle.bgp_types.specs.Tables.{prefix_cmp}
 use Rattle.prefix_trie.specs.Nodes.{entries, IsTrie}
-use Rattle.prefix_trie.proofs.Nodes.{find_here}
 use Rattle.prefix_trie.proofs.node.find.Given as goal
 
 abbrev pub invariant-loop-at : goal.invariant-loop-at

@@ -1,4 +1,4 @@
-use Rattle.std.proofs.Common.{◌≡◌, Bool, cond, List, ◌++◌, Option, Some, sym, ap, ◌∙◌, subst}
+use Rattle.std.proofs.Common.{Bool, cond, List, Option, Some, sym, ap, ◌∙◌, subst}
 use Rattle.bgp_types.specs.Prefixes.{PrefixValue}
 use Rattle.prefix_trie.specs.Halves.{middle}
 use Rattle.prefix_trie.specs.Nodes.{entries}

@@ -1,11 +1,9 @@
-use Rattle.std.proofs.Common.{◌≡◌, ◌≢◌, ℕ, ◌<◌, ◌≤◌, List, [], ◌++◌, Option, Some, None, length, sym, ap, ◌∙◌, subst, arith}
+use Rattle.std.proofs.Common.{List, [], ◌++◌, Option, sym, ap, ◌∙◌, subst, arith}
 use Rattle.std.specs.Prelude.{IsSome}
-use Rattle.std.specs.FinMap.{find}
 use Rattle.std.proofs.lemmas.List.{append-nil}
 use Rattle.bgp_types.specs.Prefixes.{PrefixValue}
-use Rattle.bgp_types.specs.Tables.{prefix_cmp}
-use Rattle.prefix_trie.specs.Halves.{middle, past, Within}
-use Rattle.prefix_trie.specs.Nodes.{own, entries, IsNode, IsTrie, put_given, PutResult}
+use Rattle.prefix_trie.specs.Halves.{middle}
+use Rattle.prefix_trie.specs.Nodes.{own, entries, IsNode, IsTrie, put_given}
 use Rattle.prefix_trie.specs.declared.node.Tree.{Tree}
 use Rattle.prefix_trie.specs.declared.node.Node.{Node}
 use Rattle.prefix_trie.proofs.Nodes.{is_before, is_past}

@@ -1,10 +1,6 @@
-use Rattle.std.proofs.Common.{◌≡◌, ℕ, ◌<◌, List, [], ◌++◌, Option, Some, None, length, sym, ap, ◌∙◌, subst, arith}
+use Rattle.std.proofs.Common.{[], ◌++◌, Option, sym, ap, ◌∙◌, subst, arith}
 use Rattle.std.specs.Prelude.{IsSome}
-use Rattle.std.specs.FinMap.{find}
-use Rattle.bgp_types.specs.Prefixes.{PrefixValue}
-use Rattle.bgp_types.specs.Tables.{prefix_cmp}
-use Rattle.prefix_trie.specs.Halves.{IsFork}
-use Rattle.prefix_trie.specs.Nodes.{own, entries, IsNode, put_given, IsPut}
+use Rattle.prefix_trie.specs.Nodes.{own, entries, IsNode, put_given}
 use Rattle.prefix_trie.specs.declared.node.Tree.{Tree}
 use Rattle.prefix_trie.specs.declared.node.Node.{Node}
 use Rattle.prefix_trie.proofs.Puts.{refused, fork_same, not_there, begins_later, node_low, node_high, entries_low, entries_high}
