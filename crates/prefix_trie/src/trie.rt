@@ -16,9 +16,9 @@ use std::marker::Model;
 ///
 /// On a way down from the root each prefix is longer than the one above it. So a way has at most 33
 /// nodes, however many prefixes there are. `get`, `set`, `remove` and `longest_match` go one way, and
-/// `next_after` at most one further way from a node of the first. `len` and `spare` read a number. The list of
-/// nodes that are kept doubles its place when it is full: a `remove` then takes a step for each of them.
-/// `reserve` takes a step for each node that it makes.
+/// `next_after` at most one further way from a node of the first. `len` and `spare` read a number.
+/// The list of nodes that are kept doubles its place when it is full: a `remove` then takes a step for
+/// each of them. `reserve` takes a step for each node that it makes.
 #[derive(Drop)]
 pub struct TrieTable<V> {
     alloc: Global,
@@ -101,6 +101,7 @@ impl<V: Drop> Table<V> for TrieTable<V> {
         Ok(None)
     }
 
+    /// A node that this frees is kept where there is memory for that, and given back where there is not.
     fn remove(&mut self, prefix: Prefix) -> Option<V> {
         let taken = take(&mut self.root, &mut self.spares, prefix)?;
         self.len -= 1;
