@@ -1,0 +1,9 @@
+//! The plain table of prefixes: a sorted vector.
+#![tactic(auto)]
+
+mod sorted;
+
+pub use sorted::SortedTable;
+
+#[cfg(test)]
+mod tests;

@@ -1,0 +1,107 @@
+//! A table of prefixes as a sorted vector, which each look-up searches by halves.
+
+ghost use Rattle.std.specs.Prelude.{◌≡◌, ◌+◌, ◌≤◌, ℕ, T, IsOk, IsSome, IfOk, IfErr, OnOk, OnErr, option_copied};
+ghost use Rattle.std.specs.FinMap as map;
+ghost use Rattle.bgp_types.specs.Tables.{prefix_cmp, first_above};
+ghost use Rattle.prefix_table.specs.Places.{IsPlace, IsGap, first_prefix};
+
+use bgp_types::{Prefix, Table};
+use std::alloc::Global;
+use std::marker::Model;
+use std::mem;
+
+/// The prefixes with their values, in rising order. What changes it takes time by the number of
+/// prefixes above.
+#[derive(Drop)]
+pub struct SortedTable<V> {
+    entries: Vec<(Prefix, V)>,
+}
+
+impl<V> Model for SortedTable<V> {
+    ghost use Rattle.std.specs.Prelude.{T};
+    ghost use Rattle.std.specs.FinMap as map;
+    ghost use Rattle.bgp_types.specs.Tables.{prefix_cmp, coded_prefix};
+
+    ghost Value = { map.FinMap prefix_cmp V };
+
+    ghost coded = { map.code coded_prefix V.code };
+
+    ghost view = { λ t. map.from_sorted t.entries.items };
+
+    ghost invariant = { λ t. T (map.is_sorted prefix_cmp t.entries.items) };
+}
+
+impl<V> SortedTable<V> {
+    /// A table without a prefix. It takes no memory before the first.
+    pub fn new(alloc: Global) -> SortedTable<V>
+        ensures { result ≡ map.empty }
+    {
+        SortedTable {
+            entries: Vec::new(alloc),
+        }
+    }
+}
+
+impl<V: Drop> Table<V> for SortedTable<V> {
+    ghost contents = { λ t. t };
+
+    ghost room = { λ t. 0 };
+
+    fn get(&self, prefix: Prefix) -> Option<&V> {
+        match place(&self.entries, prefix) {
+            Ok(at) => Some(&self.entries[at].1),
+            Err(_) => None,
+        }
+    }
+
+    fn set(&mut self, prefix: Prefix, value: V) -> Result<Option<V>, V> {
+        match place(&self.entries, prefix) {
+            Ok(at) => Ok(Some(mem::replace(&mut self.entries[at].1, value))),
+            Err(at) => {
+                if let Err(failed) = self.entries.insert(at, (prefix, value)) {
+                    return Err(failed.value.1);
+                }
+                Ok(None)
+            }
+        }
+    }
+
+    fn remove(&mut self, prefix: Prefix) -> Option<V> {
+        match place(&self.entries, prefix) {
+            Ok(at) => Some(self.entries.remove(at).1),
+            Err(_) => None,
+        }
+    }
+
+    fn next_after(&self, prefix: Option<Prefix>) -> Option<Prefix> {
+        let Some(prefix) = prefix else {
+            return first(&self.entries);
+        };
+        match place(&self.entries, prefix) {
+            Ok(at) => first(&self.entries[at + 1..]),
+            Err(at) => first(&self.entries[at..]),
+        }
+    }
+
+    fn len(&self) -> usize {
+        self.entries.as_slice().len()
+    }
+}
+
+// Where a prefix stands, or where it would stand.
+fn place<V>(entries: &[(Prefix, V)], prefix: Prefix) -> Result<usize, usize>
+    requires { T (map.is_sorted prefix_cmp entries.now) }
+    ensures found { IfOk result (IsPlace entries.now prefix) }
+    ensures absent { IfErr result (IsGap entries.now prefix) }
+{
+    entries.binary_search_by_key(&prefix, |entry| entry.0)
+}
+
+fn first<V>(entries: &[(Prefix, V)]) -> Option<Prefix>
+    ensures { result ≡ first_prefix entries.now }
+{
+    match entries.first() {
+        Some(entry) => Some(entry.0),
+        None => None,
+    }
+}
