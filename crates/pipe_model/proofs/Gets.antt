@@ -19,7 +19,8 @@ use Rattle.bgp_story.specs.States.{state_of}
 use Rattle.bgp_story.proofs.Grows.{put_grows, got_grows, told_grows, heard_grows, none_told, none_heard}
 use Rattle.bgp_story.proofs.Shapes.{allowed_of}
 use Rattle.bgp_story.proofs.StoryLaws.{state_is}
-use Rattle.pipe_model.specs.Pipes.{Pipe, session_of}
+use Rattle.pipe_model.specs.declared.pipe.Pipe.{Pipe}
+use Rattle.pipe_model.specs.Pipes.{session_of}
 use Rattle.pipe_model.specs.Worlds.{Session, World, has}
 use Rattle.pipe_model.specs.Decisions.{to_tell}
 use Rattle.pipe_model.specs.Rows.{GetsRow, due_then}

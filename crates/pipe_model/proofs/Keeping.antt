@@ -9,7 +9,8 @@ use Rattle.bgp_types.specs.Tables.{prefix_cmp}
 use Rattle.bgp_story.specs.Legal.{Legal}
 use Rattle.bgp_story.specs.Readings.{IsLegal, put_bytes, got_bytes, heard, told}
 use Rattle.bgp_story.specs.States.{state_of}
-use Rattle.pipe_model.specs.Pipes.{Pipe, session_of}
+use Rattle.pipe_model.specs.declared.pipe.Pipe.{Pipe}
+use Rattle.pipe_model.specs.Pipes.{session_of}
 use Rattle.pipe_model.specs.Worlds.{Session, World, unread, has, first_world, first_session}
 use Rattle.pipe_model.specs.Decisions.{to_tell}
 use Rattle.pipe_model.specs.Claims.{IsFront, placement}

@@ -8,7 +8,8 @@ use Rattle.bgp_types.specs.declared.message.SessionState.TheVariants.{OpenSent, 
 use Rattle.bgp_types.specs.Prefixes.{PrefixValue}
 use Rattle.bgp_story.specs.States.{state_of}
 use Rattle.bgp_story.proofs.Shapes.{allowed_of, got_in_frames_is}
-use Rattle.pipe_model.specs.Pipes.{Pipe, IsSound}
+use Rattle.pipe_model.specs.declared.pipe.Pipe.{Pipe}
+use Rattle.pipe_model.specs.Pipes.{IsSound}
 use Rattle.pipe_model.specs.Worlds.{Prefixes, Session, World, unread, has, first_world, first_session}
 use Rattle.pipe_model.specs.Decisions.{chosen, to_tell}
 use Rattle.pipe_model.specs.Rows.{Homeward, Remoteward, Event, Passes, Gets, Decides, Says, Orders, Carries}

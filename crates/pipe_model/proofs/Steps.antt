@@ -11,7 +11,8 @@ use Rattle.bgp_types.specs.Prefixes.{PrefixValue}
 use Rattle.bgp_story.specs.Readings.{put_bytes, told}
 use Rattle.bgp_story.specs.States.{state_of}
 use Rattle.route_policy.specs.Telling.{tell_out}
-use Rattle.pipe_model.specs.Pipes.{Pipe, session_of}
+use Rattle.pipe_model.specs.declared.pipe.Pipe.{Pipe}
+use Rattle.pipe_model.specs.Pipes.{session_of}
 use Rattle.pipe_model.specs.Worlds.{BestRoutes, Prefixes, Session, World, has}
 use Rattle.pipe_model.specs.Decisions.{chosen, to_tell, out_side}
 use Rattle.pipe_model.specs.Rows.{PassesRow, DecidesRow, SaysRow, OrdersRow, CarriesHome, CarriesOut, due_in, due_on, with_best}

@@ -10,7 +10,8 @@ use Rattle.bgp_story.specs.Laws.{IsGotLine}
 use Rattle.bgp_story.specs.Legal.{IsGot}
 use Rattle.bgp_story.specs.Readings.{IsLegal, put_bytes, got_bytes, heard, told}
 use Rattle.bgp_story.specs.States.{state_of}
-use Rattle.pipe_model.specs.Pipes.{Pipe, session_of}
+use Rattle.pipe_model.specs.declared.pipe.Pipe.{Pipe}
+use Rattle.pipe_model.specs.Pipes.{session_of}
 use Rattle.pipe_model.specs.Worlds.{Session, unread, World}
 use Rattle.pipe_model.specs.Decisions.{chosen, to_tell}
 
@@ -54,7 +55,7 @@ pub record AtRest (pipe : Pipe) (w : World) (session : Session) : Type 0 where
 
 -- Nothing is left to do.
 pub record Quiet (pipe : Pipe) (w : World) : Type 0 where
-  pub issued : w.issued ≡ length pipe.steps
+  pub issued : w.issued ≡ length pipe.says
   pub said : w.orders ≡ []
   pub decided : w.dirty ≡ map.empty
   pub told : w.due ≡ map.empty
@@ -62,7 +63,7 @@ pub record Quiet (pipe : Pipe) (w : World) : Type 0 where
 
 -- where the session of the peering is to be: there are no grafts, so where it starts
 abbrev pub placement : Pipe → ℕ
-placement pipe = pipe.peering.at.0
+placement pipe = pipe.start.0
 
 -- what is told on a session in this state: nothing unless it is established
 abbrev pub told_in : SessionState → Option Attrs → Option Attrs

@@ -11,7 +11,8 @@ use Rattle.bgp_story.specs.Legal.{got_open}
 use Rattle.decision_core.specs.Choice.{choice}
 use Rattle.route_policy.specs.Candidates.{SessionRoute, candidates}
 use Rattle.route_policy.specs.Telling.{OutSide, tell_out}
-use Rattle.pipe_model.specs.Pipes.{Pipe, session_of}
+use Rattle.pipe_model.specs.declared.pipe.Pipe.{Pipe}
+use Rattle.pipe_model.specs.Pipes.{session_of}
 use Rattle.pipe_model.specs.Worlds.{Session, World}
 
 abbrev pub the_peering : PeeringId
@@ -26,9 +27,9 @@ identifier_in (Some o) = o.identifier
 abbrev pub session_route : Pipe → Session → PrefixValue → SessionRoute
 session_route pipe session prefix = record {
   peering = the_peering;
-  remote_as = pipe.peering.remote_as;
+  remote_as = pipe.remote_as;
   identifier = identifier_in (got_open (session_of pipe) session.story);
-  address = pipe.peering.remote_address;
+  address = pipe.remote_address;
   import_rules = None;
   heard = map.get session.heard prefix;
 }
@@ -43,7 +44,7 @@ chosen pipe held prefix = choice (candidates pipe.home_as prefix false (session_
 
 -- what the session is to be told for a prefix
 abbrev pub out_side : Pipe → OutSide
-out_side pipe = record { peering = the_peering; local_address = pipe.peering.local_address; export_rules = None }
+out_side pipe = record { peering = the_peering; local_address = pipe.local_address; export_rules = None }
 
 abbrev pub to_tell : Pipe → World → PrefixValue → Option Attrs
 to_tell pipe w prefix = tell_out pipe.home_as (out_side pipe) prefix (map.get w.best prefix)

@@ -12,7 +12,8 @@ use Rattle.bgp_story.specs.declared.line.Line.TheVariants.{Got}
 use Rattle.bgp_story.specs.Legal.{IsGot, expected, reply_to}
 use Rattle.bgp_story.specs.Readings.{Routes, apply_if, update_in, unless_closed, put_bytes}
 use Rattle.bgp_story.specs.States.{state_of}
-use Rattle.pipe_model.specs.Pipes.{Pipe, session_of, said_at}
+use Rattle.pipe_model.specs.declared.pipe.Pipe.{Pipe}
+use Rattle.pipe_model.specs.Pipes.{session_of, said_at}
 use Rattle.pipe_model.specs.Worlds.{BestRoutes, Prefixes, has, Session, unread, World}
 use Rattle.pipe_model.specs.Decisions.{chosen, to_tell}
 
@@ -105,12 +106,12 @@ pub record DecidesRow (pipe : Pipe) (prefix : PrefixValue) (w v : World) : Type 
 pub record SaysRow (pipe : Pipe) (step : ℕ) (w v : World) : Type 0 where
   pub rest : List ℕ
   pub order : w.orders ≡ step ∷ rest
-  pub effect : v ≡ record w { orders = rest; said = w.said ++ said_at pipe (slice_get pipe.steps step) }
+  pub effect : v ≡ record w { orders = rest; said = w.said ++ said_at pipe step }
 
 -- the first step that wasn't issued is
 pub record OrdersRow (pipe : Pipe) (step : ℕ) (w v : World) : Type 0 where
   pub first : step ≡ w.issued
-  pub there : step < length pipe.steps
+  pub there : step < length pipe.says
   pub effect : v ≡ record w { issued = step + 1; orders = w.orders ++ step ∷ [] }
 
 -- ---- the pipe: the next n bytes of a stream reach the other side

@@ -1,6 +1,6 @@
 -- Runs of a pipe: lists of events, each of which leads from one world to the next.
 use Rattle.std.specs.Prelude.{◌≡◌, List, [], ◌∷◌}
-use Rattle.pipe_model.specs.Pipes.{Pipe}
+use Rattle.pipe_model.specs.declared.pipe.Pipe.{Pipe}
 use Rattle.pipe_model.specs.Worlds.{World}
 use Rattle.pipe_model.specs.Rows.{Homeward, Remoteward, Event, Passes, Gets, Decides, Says, Orders, Carries, PassesRow, GetsRow, DecidesRow, SaysRow, OrdersRow, CarriesHome, CarriesOut}
 

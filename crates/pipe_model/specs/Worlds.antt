@@ -9,7 +9,8 @@ use Rattle.bgp_types.specs.Tables.{prefix_cmp}
 use Rattle.bgp_story.specs.declared.line.Line.{Line}
 use Rattle.bgp_story.specs.declared.line.Line.TheVariants.{Put}
 use Rattle.bgp_story.specs.Readings.{Routes, got_bytes}
-use Rattle.pipe_model.specs.Pipes.{Pipe, session_of, opening}
+use Rattle.pipe_model.specs.declared.pipe.Pipe.{Pipe}
+use Rattle.pipe_model.specs.Pipes.{session_of, opening}
 
 -- the best route to each prefix, and where it comes from
 abbrev pub BestRoutes : Type 0
@@ -59,7 +60,7 @@ first_world pipe = record {
   due = map.empty;
   said = opening pipe;
   received = [];
-  pointer = pipe.peering.at.0;
+  pointer = pipe.start.0;
   issued = 0;
   orders = [];
 }

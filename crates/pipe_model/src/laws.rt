@@ -1,7 +1,8 @@
 //! What holds of every run of a pipe, however its events follow one another.
 
 ghost use Rattle.std.specs.Prelude.{◌≡◌, List};
-ghost use Rattle.pipe_model.specs.Pipes.{Pipe, IsSound};
+ghost use Rattle.pipe_model.specs.declared.pipe.Pipe.{Pipe};
+ghost use Rattle.pipe_model.specs.Pipes.{IsSound};
 ghost use Rattle.pipe_model.specs.Worlds.{World, first_world};
 ghost use Rattle.pipe_model.specs.Rows.{Event};
 ghost use Rattle.pipe_model.specs.Runs.{Run};

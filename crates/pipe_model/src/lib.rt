@@ -3,5 +3,7 @@
 #![tactic(auto)]
 
 mod laws;
+mod pipe;
 
 pub use laws::{always_transparent, quiet_solves};
+pub use pipe::Pipe;
