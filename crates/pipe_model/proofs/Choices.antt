@@ -5,14 +5,13 @@ use Rattle.std.specs.List.{list_any, AllByRecursion, filter_map}
 use Rattle.std.specs.FinMap as map
 use Rattle.std.proofs.lemmas.Bool.Decides.{nat_tests}
 use Rattle.bgp_types.specs.declared.attrs.Attrs.{Attrs}
-use Rattle.bgp_types.specs.declared.attrs.Route.{Route}
-use Rattle.bgp_types.specs.declared.rank.From.{From}
 use Rattle.bgp_types.specs.declared.rank.From.TheVariants.{Peering}
 use Rattle.bgp_types.specs.declared.rank.Rank.{Rank}
 use Rattle.bgp_types.specs.Prefixes.{PrefixValue}
 use Rattle.decision_core.specs.Choice.{Rule, is_own, has_higher_preference, has_shorter_path, has_lower_origin, has_lower_med, is_external, has_lower_cost, has_lower_identifier, has_lower_address, nine_rules, keep, left_of, choice}
 use Rattle.route_policy.specs.Candidates.{SessionRoute, candidates}
 use Rattle.route_policy.specs.Rules.{holds_as}
+use Rattle.route_policy.specs.declared.best.Best.{Best}
 use Rattle.pipe_model.specs.declared.pipe.Pipe.{Pipe}
 use Rattle.pipe_model.specs.Worlds.{Session}
 use Rattle.pipe_model.specs.Decisions.{the_peering, chosen, session_route}
@@ -86,9 +85,9 @@ choice_none = refl
 
 -- ---- what the one session brings in
 
-unfoldable pub brought : Pipe → Option Attrs → Option (From × Route)
+unfoldable pub brought : Pipe → Option Attrs → Option Best
 brought pipe None = None
-brought pipe (Some attrs) = cond (holds_as attrs.path pipe.home_as) None (Some (Peering the_peering, record { attrs = attrs; pref = 100 }))
+brought pipe (Some attrs) = cond (holds_as attrs.path pipe.home_as) None (Some (record { from = Peering the_peering; route = record { attrs = attrs; pref = 100 } }))
 
 pub chosen_is : (pipe : Pipe) (s : Session) (p : PrefixValue) → chosen pipe (Some s) p ≡ brought pipe (map.get s.heard p)
 unfolding brought
@@ -96,7 +95,7 @@ chosen_is pipe s p = by_heard (map.get s.heard p) refl where
   route : Option Attrs → SessionRoute
   route heard = record (session_route pipe s p) { heard = heard }
 
-  by_loop : (attrs : Attrs) (t : Bool) → holds_as attrs.path pipe.home_as ≡ t → choice (candidates pipe.home_as p false (route (Some attrs) ∷ []) []) ≡ cond t None (Some (Peering the_peering, record { attrs = attrs; pref = 100 }))
+  by_loop : (attrs : Attrs) (t : Bool) → holds_as attrs.path pipe.home_as ≡ t → choice (candidates pipe.home_as p false (route (Some attrs) ∷ []) []) ≡ cond t None (Some (record { from = Peering the_peering; route = record { attrs = attrs; pref = 100 } }))
   by_loop attrs true e = rw e choice_none
   by_loop attrs false e = rw e (choice_one _)
 

@@ -3,14 +3,13 @@ use Rattle.std.proofs.Common.{◌≡◌, ℕ, ◌+◌, Bool, true, false, cond, 
 use Rattle.std.specs.Prelude.{◌≢◌, ◌&&◌, ◌⊎◌}
 use Rattle.std.specs.FinMap as map
 use Rattle.bgp_types.specs.declared.attrs.Attrs.{Attrs}
-use Rattle.bgp_types.specs.declared.attrs.Route.{Route}
 use Rattle.bgp_types.specs.declared.message.SessionState.{SessionState}
 use Rattle.bgp_types.specs.declared.message.SessionState.TheVariants.{Established}
-use Rattle.bgp_types.specs.declared.rank.From.{From}
 use Rattle.bgp_types.specs.Prefixes.{PrefixValue}
 use Rattle.bgp_story.specs.Readings.{put_bytes, told}
 use Rattle.bgp_story.specs.States.{state_of}
 use Rattle.route_policy.specs.Telling.{tell_out}
+use Rattle.route_policy.specs.declared.best.Best.{Best}
 use Rattle.pipe_model.specs.declared.pipe.Pipe.{Pipe}
 use Rattle.pipe_model.specs.Pipes.{session_of}
 use Rattle.pipe_model.specs.Worlds.{BestRoutes, Prefixes, Session, World, has}
@@ -129,7 +128,7 @@ carries_home_keeps pipe n w v s k row = (further row.session n w.said, subst (λ
 
 -- ---- decisions
 
-abbrev pub decided : World → PrefixValue → Option (From × Route) → Prefixes → World
+abbrev pub decided : World → PrefixValue → Option Best → Prefixes → World
 decided w q c due = record w { best = with_best w.best q c; dirty = map.remove w.dirty q; due = due }
 
 -- a prefix that isn't the decided one is as it was
@@ -141,11 +140,11 @@ best_decided pipe w s q k p e = get_with w.best q (chosen pipe w.held q) p ∙ b
       ∙ (chosen_is pipe s q ∙ ap (λ (x : PrefixValue). brought pipe (map.get s.heard x)) (sym (same_is p q f)))
   by_same false f = k.best p (sym (ap (λ (t : Bool). cond t false (has w.dirty p)) f) ∙ (sym (has_removed w.dirty q p) ∙ e))
 
-to_tell_of : Pipe → PrefixValue → Option (From × Route) → Option Attrs
+to_tell_of : Pipe → PrefixValue → Option Best → Option Attrs
 to_tell_of pipe p best = tell_out pipe.home_as (out_side pipe) p best
 
 -- the chosen route is the one that there was
-unchanged : (best : BestRoutes) (q : PrefixValue) (c : Option (From × Route)) → c ≡ map.get best q → (p : PrefixValue) → map.get (with_best best q c) p ≡ map.get best p
+unchanged : (best : BestRoutes) (q : PrefixValue) (c : Option Best) → c ≡ map.get best q → (p : PrefixValue) → map.get (with_best best q c) p ≡ map.get best p
 unchanged best q c e p = get_with best q c p ∙ by_same (same p q) refl where
   by_same : (t : Bool) → same p q ≡ t → cond t c (map.get best p) ≡ map.get best p
   by_same true f = e ∙ ap (λ (x : PrefixValue). map.get best x) (sym (same_is p q f))
@@ -172,7 +171,7 @@ decided_kept pipe w s q due k told = record {
 pub decides_keeps : (pipe : Pipe) (q : PrefixValue) (w v : World) (s : Session) → Keeps pipe w s → DecidesRow pipe q w v → Keeps pipe v s
 unfolding to_tell_of
 decides_keeps pipe q w v s k row = subst (λ (x : World). Keeps pipe x s) (sym row.effect) (decided_kept pipe w s q v.due k (by_due row.due)) where
-  c : Option (From × Route)
+  c : Option Best
   c = chosen pipe w.held q
 
   by_due : ((c ≡ map.get w.best q) × (v.due ≡ w.due)) ⊎ ((c ≢ map.get w.best q) × (v.due ≡ due_on w.held w.due q))

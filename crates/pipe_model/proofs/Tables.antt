@@ -6,11 +6,10 @@ use Rattle.std.specs.Ordering.{eq_by_cmp, is_eq}
 use Rattle.std.specs.declared.cmp.Ordering.{Ordering}
 use Rattle.std.specs.declared.cmp.Ordering.TheVariants.{Less, Equal, Greater}
 use Rattle.std.specs.FinMap as map
-use Rattle.bgp_types.specs.declared.attrs.Route.{Route}
-use Rattle.bgp_types.specs.declared.rank.From.{From}
 use Rattle.bgp_types.specs.Prefixes.{PrefixValue}
 use Rattle.bgp_types.specs.Tables.{prefix_cmp}
 use Rattle.bgp_types.proofs.TableLaws.{prefix_total, exact_prefixes}
+use Rattle.route_policy.specs.declared.best.Best.{Best}
 use Rattle.pipe_model.specs.Worlds.{BestRoutes, Prefixes, has}
 use Rattle.pipe_model.specs.Rows.{with_best}
 
@@ -74,6 +73,6 @@ pub no_best : (best : BestRoutes) (due : Prefixes) (p : PrefixValue) → has (fo
 no_best best due p e =
     none_there (map.get best p) (map.contains_key-keys best p ∙ (none_of (list_any (same p) (map.keys best)) (has due p) (sym (has_all (map.keys best) due p) ∙ e)).0)
 
-pub get_with : (best : BestRoutes) (q : PrefixValue) (c : Option (From × Route)) (p : PrefixValue) → map.get (with_best best q c) p ≡ cond (same p q) c (map.get best p)
+pub get_with : (best : BestRoutes) (q : PrefixValue) (c : Option Best) (p : PrefixValue) → map.get (with_best best q c) p ≡ cond (same p q) c (map.get best p)
 get_with best q None p = map.get-remove prefix_total best q p
 get_with best q (Some route) p = map.get-insert prefix_total best q route p

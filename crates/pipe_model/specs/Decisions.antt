@@ -3,14 +3,13 @@ use Rattle.std.specs.Prelude.{ℕ, List, [], ◌∷◌, Option, Some, None, fals
 use Rattle.std.specs.FinMap as map
 use Rattle.graft_edge.specs.declared.ids.PeeringId.{PeeringId}
 use Rattle.bgp_types.specs.declared.attrs.Attrs.{Attrs}
-use Rattle.bgp_types.specs.declared.attrs.Route.{Route}
 use Rattle.bgp_types.specs.declared.message.OpenMsg.{OpenMsg}
-use Rattle.bgp_types.specs.declared.rank.From.{From}
 use Rattle.bgp_types.specs.Prefixes.{PrefixValue}
 use Rattle.bgp_story.specs.Legal.{got_open}
 use Rattle.decision_core.specs.Choice.{choice}
 use Rattle.route_policy.specs.Candidates.{SessionRoute, candidates}
 use Rattle.route_policy.specs.Telling.{OutSide, tell_out}
+use Rattle.route_policy.specs.declared.best.Best.{Best}
 use Rattle.pipe_model.specs.declared.pipe.Pipe.{Pipe}
 use Rattle.pipe_model.specs.Pipes.{session_of}
 use Rattle.pipe_model.specs.Worlds.{Session, World}
@@ -39,7 +38,7 @@ session_routes pipe None prefix = []
 session_routes pipe (Some session) prefix = session_route pipe session prefix ∷ []
 
 -- The choice between the candidates: no own network, the session that is held, no other router.
-abbrev pub chosen : Pipe → Option Session → PrefixValue → Option (From × Route)
+abbrev pub chosen : Pipe → Option Session → PrefixValue → Option Best
 chosen pipe held prefix = choice (candidates pipe.home_as prefix false (session_routes pipe held prefix) [])
 
 -- what the session is to be told for a prefix

@@ -1,10 +1,8 @@
 -- The events of a pipe. Each has a condition and an effect; what an effect doesn't name stays.
 use Rattle.std.specs.Prelude.{◌≡◌, ◌≢◌, ℕ, ◌+◌, ◌≤◌, ◌<◌, List, [], ◌∷◌, ◌++◌, length, take, fold, Option, Some, None, true, false, ◌&&◌, ◌⊎◌, slice_get}
 use Rattle.std.specs.FinMap as map
-use Rattle.bgp_types.specs.declared.attrs.Route.{Route}
 use Rattle.bgp_types.specs.declared.message.SessionState.{SessionState}
 use Rattle.bgp_types.specs.declared.message.SessionState.TheVariants.{OpenConfirm, Established, Closed}
-use Rattle.bgp_types.specs.declared.rank.From.{From}
 use Rattle.bgp_types.specs.FirstFault.{message_of}
 use Rattle.bgp_types.specs.Prefixes.{PrefixValue}
 use Rattle.bgp_story.specs.declared.line.Line.{Line}
@@ -12,6 +10,7 @@ use Rattle.bgp_story.specs.declared.line.Line.TheVariants.{Got}
 use Rattle.bgp_story.specs.Legal.{IsGot, expected, reply_to}
 use Rattle.bgp_story.specs.Readings.{Routes, apply_if, update_in, unless_closed, put_bytes}
 use Rattle.bgp_story.specs.States.{state_of}
+use Rattle.route_policy.specs.declared.best.Best.{Best}
 use Rattle.pipe_model.specs.declared.pipe.Pipe.{Pipe}
 use Rattle.pipe_model.specs.Pipes.{session_of, said_at}
 use Rattle.pipe_model.specs.Worlds.{BestRoutes, Prefixes, has, Session, unread, World}
@@ -81,7 +80,7 @@ pub record GetsRow (pipe : Pipe) (w v : World) : Type 0 where
   }
 
 -- a table with a route for a prefix, or without
-abbrev pub with_best : BestRoutes → PrefixValue → Option (From × Route) → BestRoutes
+abbrev pub with_best : BestRoutes → PrefixValue → Option Best → BestRoutes
 with_best best prefix None = map.remove best prefix
 with_best best prefix (Some route) = map.insert best prefix route
 
