@@ -1,0 +1,6 @@
+pub mod Halves
+pub mod Nodes
+pub mod Nexts
+pub mod Puts
+pub mod Counts
+pub mod Longests

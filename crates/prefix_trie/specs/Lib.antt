@@ -1,0 +1,4 @@
+pub mod Halves
+pub mod Longest
+pub mod Nodes
+pub mod Table

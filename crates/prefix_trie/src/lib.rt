@@ -1,0 +1,10 @@
+//! The table of prefixes that runs: a trie over the bits of addresses.
+#![tactic(auto)]
+
+mod node;
+mod trie;
+
+pub use trie::TrieTable;
+
+#[cfg(test)]
+mod tests;

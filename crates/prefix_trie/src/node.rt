@@ -1,0 +1,450 @@
+//! The nodes of a trie. A node has a prefix, and further prefixes that it covers stand below it in two
+//! branches: those whose next bit is 0, and those whose next bit is 1. A node without a value is there
+//! for its two branches alone.
+
+ghost use Rattle.std.specs.Prelude.{◌+◌, ◌-◌, ◌<◌, ◌≤◌, ◌≡◌, ℕ, nat_lt, option_copied, map, length, ◌++◌, if◌then◌else◌, IsSome, IfSome, IfNone, OnSome, OnOk, OnErr, ◌/◌};
+ghost use Rattle.std.specs.FinMap as table;
+ghost use Rattle.bgp_types.specs.Tables.{prefix_cmp, first_above};
+ghost use Rattle.std.specs.List.{AllByRecursion};
+ghost use Rattle.bgp_types.specs.Prefixes.{IsPrefix, Covers};
+ghost use Rattle.bgp_types.proofs.TableLaws.{without};
+ghost use Rattle.prefix_trie.specs.Halves.{middle, past, Under, IsFork};
+ghost use Rattle.prefix_trie.specs.Longest.{LongestOf};
+ghost use Rattle.prefix_trie.specs.Nodes.{entries, IsNode, IsTrie, PutResult};
+
+use bgp_types::{NoMemory, Prefix};
+use std::alloc::Global;
+use std::mem;
+
+#[cycle(trie)]
+#[derive(Drop)]
+pub enum Tree<V> {
+    Leaf,
+    Fork(Box<Node<V>>),
+}
+
+#[cycle(trie)]
+#[derive(Drop)]
+pub struct Node<V> {
+    pub prefix: Prefix,
+    pub value: Option<V>,
+    pub zero: Tree<V>,
+    pub one: Tree<V>,
+}
+
+/// Nodes that are kept for later.
+pub type Spares<V> = Vec<Box<Node<V>>>;
+
+/// Where the second half of a prefix begins.
+fn middle(prefix: Prefix) -> u64
+    ensures { result ≡ middle prefix }
+{
+    u64::from(prefix.address()) + (1 << 31 >> prefix.len())
+}
+
+/// Whether an address lies before the second half of a prefix.
+fn is_early(address: u32, prefix: Prefix) -> bool
+    ensures { result ≡ nat_lt address (middle prefix) }
+{
+    u64::from(address) < middle(prefix)
+}
+
+/// The value of a prefix.
+pub fn find<V>(tree: &Tree<V>, prefix: Prefix) -> Option<&V>
+    requires { IsTrie tree.now }
+    ensures { option_copied result ≡ table.find prefix_cmp prefix (entries tree.now) }
+{
+    let mut at = tree;
+    while let Tree::Fork(node) = at {
+        let node: &Node<V> = node;
+        if node.prefix.len() >= prefix.len() {
+            if node.prefix == prefix {
+                return node.value.as_ref();
+            }
+            return None;
+        }
+        at = if is_early(prefix.address(), node.prefix) {
+            &node.zero
+        } else {
+            &node.one
+        };
+    }
+    None
+}
+
+/// The least prefix of all. A node without a value has two branches, and neither is empty, so this
+/// goes one way down.
+pub fn first<V>(tree: &Tree<V>) -> Option<Prefix>
+    ensures { result ≡ first_above None (map (λ e. e.0) (entries tree.now)) }
+{
+    match tree {
+        Tree::Leaf => None,
+        Tree::Fork(node) => {
+            let node: &Node<V> = node;
+            if node.value.is_some() {
+                return Some(node.prefix);
+            }
+            match first(&node.zero) {
+                Some(prefix) => Some(prefix),
+                None => first(&node.one),
+            }
+        }
+    }
+}
+
+/// The least prefix above another.
+pub fn next<V>(tree: &Tree<V>, prefix: Prefix) -> Option<Prefix>
+    requires { IsTrie tree.now }
+    ensures { result ≡ first_above (Some prefix) (map (λ e. e.0) (entries tree.now)) }
+{
+    match tree {
+        Tree::Leaf => None,
+        Tree::Fork(node) => {
+            let node: &Node<V> = node;
+            if prefix < node.prefix {
+                return first(tree);
+            }
+            if is_early(prefix.address(), node.prefix) {
+                if let Some(after) = next(&node.zero, prefix) {
+                    return Some(after);
+                }
+                return first(&node.one);
+            }
+            next(&node.one, prefix)
+        }
+    }
+}
+
+/// A prefix, where it has a value, or else the other.
+fn chosen(has: bool, prefix: Prefix, other: Option<Prefix>) -> Option<Prefix>
+    ensures { result ≡ (if has then Some prefix else other) }
+{
+    if has { Some(prefix) } else { other }
+}
+
+/// The longest prefix that covers another.
+pub fn longest<V>(tree: &Tree<V>, host: Prefix) -> Option<Prefix>
+    requires { IsTrie tree.now }
+    ensures { LongestOf (λ p. IsSome (table.find prefix_cmp p (entries tree.now))) host result }
+{
+    let mut longest = None;
+    let mut at = tree;
+    while let Tree::Fork(node) = at {
+        let node: &Node<V> = node;
+        if !node.prefix.covers(&host) {
+            return longest;
+        }
+        longest = chosen(node.value.is_some(), node.prefix, longest);
+        at = if is_early(host.address(), node.prefix) {
+            &node.zero
+        } else {
+            &node.one
+        };
+    }
+    longest
+}
+
+/// A node to be written over, of the spare ones as long as there are any.
+fn spare<V: Drop>(alloc: Global, spares: &mut Spares<V>, prefix: Prefix) -> Option<Box<Node<V>>>
+    ensures used { OnSome result (length spares.old.items ≤ length spares.new.items + 1) }
+    ensures few { IfNone result (length spares.old.items ≡ 0) }
+    ensures few_left { IfNone result (length spares.new.items ≡ 0) }
+{
+    if let Some(node) = spares.pop() {
+        return Some(node);
+    }
+    let node = Node {
+        prefix,
+        value: None,
+        zero: Tree::Leaf,
+        one: Tree::Leaf,
+    };
+    match Box::new(alloc, node) {
+        Ok(fresh) => Some(fresh),
+        Err(_) => None,
+    }
+}
+
+/// A node in the place of another.
+fn written<V: Drop>(mut place: Box<Node<V>>, node: Node<V>) -> Box<Node<V>>
+    ensures { result.value ≡ node }
+{
+    *place = node;
+    place
+}
+
+/// The shortest prefix in whose halves the two addresses lie.
+fn fork_of(low: u32, high: u32) -> Prefix
+    requires { low < high }
+    ensures { IsFork low high result }
+{
+    match Prefix::new(low, (low ^ high).leading_zeros() as u8) {
+        Some(prefix) => prefix,
+        None => unreachable!(),
+    }
+}
+
+/// Gives a prefix the value that is passed, and passes back the one that it had. False means that
+/// there is no memory, and then nothing has changed.
+pub fn put<V: Drop>(
+    alloc: Global,
+    tree: &mut Tree<V>,
+    spares: &mut Spares<V>,
+    prefix: Prefix,
+    value: &mut Option<V>,
+) -> bool
+    requires trie { IsTrie tree.old }
+    requires sound { IsPrefix prefix }
+    requires given { IsSome value.old }
+    ensures trie { IsTrie tree.new }
+    ensures put { PutResult result prefix value.old value.new (entries tree.old) (entries tree.new) (length spares.old.items) (length spares.new.items) }
+{
+    match tree {
+        Tree::Leaf => {
+            let Some(place) = spare(alloc, spares, prefix) else {
+                return false;
+            };
+            let node = Node {
+                prefix,
+                value: value.take(),
+                zero: Tree::Leaf,
+                one: Tree::Leaf,
+            };
+            *tree = Tree::Fork(written(place, node));
+            true
+        }
+        Tree::Fork(node) => {
+            let node: &mut Node<V> = node;
+            if node.prefix == prefix {
+                mem::swap(&mut node.value, value);
+                return true;
+            }
+            if !node.prefix.covers(&prefix) {
+                let at = node.prefix;
+                return put_above(alloc, tree, spares, at, prefix, value);
+            }
+            if is_early(prefix.address(), node.prefix) {
+                return put(alloc, &mut node.zero, spares, prefix, value);
+            }
+            put(alloc, &mut node.one, spares, prefix, value)
+        }
+    }
+}
+
+/// The same where the prefix `at` covers all that there is, but not the other prefix.
+fn put_above<V: Drop>(
+    alloc: Global,
+    tree: &mut Tree<V>,
+    spares: &mut Spares<V>,
+    at: Prefix,
+    prefix: Prefix,
+    value: &mut Option<V>,
+) -> bool
+    requires trie { IsTrie tree.old }
+    requires under { AllByRecursion (λ e. Under at e.0) (entries tree.old) }
+    requires sound_at { IsPrefix at }
+    requires sound { IsPrefix prefix }
+    requires above { Covers at prefix → ⊥ }
+    requires given { IsSome value.old }
+    ensures trie { IsTrie tree.new }
+    ensures put { PutResult result prefix value.old value.new (entries tree.old) (entries tree.new) (length spares.old.items) (length spares.new.items) }
+{
+    if !prefix.covers(&at) {
+        return put_beside(alloc, tree, spares, at, prefix, value);
+    }
+    let Some(place) = spare(alloc, spares, prefix) else {
+        return false;
+    };
+    let below = mem::replace(tree, Tree::Leaf);
+    let value = value.take();
+    if is_early(at.address(), prefix) {
+        let node = Node {
+            prefix,
+            value,
+            zero: below,
+            one: Tree::Leaf,
+        };
+        *tree = Tree::Fork(written(place, node));
+        return true;
+    }
+    let node = Node {
+        prefix,
+        value,
+        zero: Tree::Leaf,
+        one: below,
+    };
+    *tree = Tree::Fork(written(place, node));
+    true
+}
+
+/// The same where neither prefix covers the other.
+fn put_beside<V: Drop>(
+    alloc: Global,
+    tree: &mut Tree<V>,
+    spares: &mut Spares<V>,
+    at: Prefix,
+    prefix: Prefix,
+    value: &mut Option<V>,
+) -> bool
+    requires trie { IsTrie tree.old }
+    requires under { AllByRecursion (λ e. Under at e.0) (entries tree.old) }
+    requires sound_at { IsPrefix at }
+    requires sound { IsPrefix prefix }
+    requires above { Covers at prefix → ⊥ }
+    requires below { Covers prefix at → ⊥ }
+    requires given { IsSome value.old }
+    ensures trie { IsTrie tree.new }
+    ensures put { PutResult result prefix value.old value.new (entries tree.old) (entries tree.new) (length spares.old.items) (length spares.new.items) }
+{
+    let Some(place) = spare(alloc, spares, prefix) else {
+        return false;
+    };
+    let Some(above) = spare(alloc, spares, prefix) else {
+        return false;
+    };
+    let node = Node {
+        prefix,
+        value: value.take(),
+        zero: Tree::Leaf,
+        one: Tree::Leaf,
+    };
+    let beside = Tree::Fork(written(place, node));
+    let below = mem::replace(tree, Tree::Leaf);
+    if prefix.address() < at.address() {
+        *tree = forked(
+            above,
+            fork_of(prefix.address(), at.address()),
+            beside,
+            below,
+        );
+        return true;
+    }
+    *tree = forked(
+        above,
+        fork_of(at.address(), prefix.address()),
+        below,
+        beside,
+    );
+    true
+}
+
+/// A node without a value over two branches.
+fn forked<V: Drop>(place: Box<Node<V>>, prefix: Prefix, zero: Tree<V>, one: Tree<V>) -> Tree<V>
+    requires node { IsNode prefix (entries zero) (entries one) }
+    requires zero { IsTrie zero }
+    requires one { IsTrie one }
+    ensures trie { IsTrie result }
+    ensures entries { entries result ≡ entries zero ++ entries one }
+{
+    let node = Node {
+        prefix,
+        value: None,
+        zero,
+        one,
+    };
+    Tree::Fork(written(place, node))
+}
+
+/// Takes a prefix out.
+pub fn take<V: Drop>(tree: &mut Tree<V>, spares: &mut Spares<V>, prefix: Prefix) -> Option<V>
+    requires { IsTrie tree.old }
+    ensures trie { IsTrie tree.new }
+    ensures taken { result ≡ table.find prefix_cmp prefix (entries tree.old) }
+    ensures entries { entries tree.new ≡ without prefix_cmp prefix (entries tree.old) }
+    ensures kept { length spares.old.items ≤ length spares.new.items }
+{
+    let Tree::Fork(node) = tree else {
+        return None;
+    };
+    let node: &mut Node<V> = node;
+    if node.prefix == prefix {
+        let here = node.value.take();
+        tidy(tree, spares);
+        return here;
+    }
+    if node.prefix.len() >= prefix.len() {
+        return None;
+    }
+    if is_early(prefix.address(), node.prefix) {
+        let early = take(&mut node.zero, spares, prefix);
+        tidy(tree, spares);
+        return early;
+    }
+    let late = take(&mut node.one, spares, prefix);
+    tidy(tree, spares);
+    late
+}
+
+/// Takes a node out that has neither a value nor two branches.
+fn tidy<V: Drop>(tree: &mut Tree<V>, spares: &mut Spares<V>)
+    requires { IsTrie tree.old }
+    ensures trie { IsTrie tree.new }
+    ensures entries { entries tree.new ≡ entries tree.old }
+    ensures kept { length spares.old.items ≤ length spares.new.items }
+{
+    let Tree::Fork(node) = tree else {
+        return;
+    };
+    if node.value.is_some() {
+        return;
+    }
+    if matches!(node.zero, Tree::Leaf) {
+        let branch = mem::replace(&mut node.one, Tree::Leaf);
+        keep(mem::replace(tree, branch), spares);
+        return;
+    }
+    if matches!(node.one, Tree::Leaf) {
+        let branch = mem::replace(&mut node.zero, Tree::Leaf);
+        keep(mem::replace(tree, branch), spares);
+    }
+}
+
+/// Keeps a node for later, where there is memory for that.
+fn keep<V: Drop>(tree: Tree<V>, spares: &mut Spares<V>)
+    ensures { length spares.old.items ≤ length spares.new.items }
+{
+    if let Tree::Fork(node) = tree {
+        let _ = spares.push(node);
+    }
+}
+
+/// Takes memory for nodes, two for each of so many prefixes. For want of memory the spare nodes stay
+/// as they are.
+pub fn reserve<V: Drop>(alloc: Global, spares: &mut Spares<V>, more: usize) -> Result<(), NoMemory>
+    ensures ok { OnOk result (more ≤ length spares.new.items / 2) }
+    ensures err { OnErr result (length spares.new.items ≡ length spares.old.items) }
+{
+    let before = spares.as_slice().len();
+    if more > usize::MAX / 2 {
+        return Err(NoMemory);
+    }
+    match fill(alloc, spares, more * 2) {
+        Ok(()) => Ok(()),
+        Err(none) => {
+            spares.truncate(before);
+            Err(none)
+        }
+    }
+}
+
+/// Makes spare nodes until there are so many.
+fn fill<V: Drop>(alloc: Global, spares: &mut Spares<V>, count: usize) -> Result<(), NoMemory>
+    ensures ok { OnOk result (count ≤ length spares.new.items) }
+    ensures more { length spares.old.items ≤ length spares.new.items }
+{
+    let Some(nowhere) = Prefix::new(0, 0) else {
+        unreachable!()
+    };
+    while spares.as_slice().len() < count {
+        spares.push(Box::new(
+            alloc,
+            Node {
+                prefix: nowhere,
+                value: None,
+                zero: Tree::Leaf,
+                one: Tree::Leaf,
+            },
+        )?)?;
+    }
+    Ok(())
+}

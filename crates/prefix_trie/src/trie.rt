@@ -1,0 +1,137 @@
+//! A table of prefixes as a trie.
+
+ghost use Rattle.std.specs.Prelude.{◌≡◌, ◌+◌, ◌≤◌, ℕ, IsOk, IsSome, IfOk, IfErr, OnOk, OnErr, option_copied};
+ghost use Rattle.std.specs.FinMap as map;
+ghost use Rattle.bgp_types.specs.Prefixes.{prefix_of};
+ghost use Rattle.bgp_types.specs.Tables.{prefix_cmp, first_above};
+ghost use Rattle.prefix_trie.specs.Longest.{LongestOf};
+
+use crate::node::{Node, Spares, Tree, find, first, longest, next, put, reserve, take};
+use bgp_types::{NoMemory, Prefix, SpareTable, Table};
+use std::alloc::Global;
+use std::marker::Model;
+
+/// The prefixes with their values. A change keeps the nodes that it frees for those that come later,
+/// until the table is dropped.
+///
+/// On a way down from the root each prefix is longer than the one above it. So a way has at most 33
+/// nodes, however many prefixes there are. `get`, `set`, `remove` and `longest_match` go one way, and
+/// `next_after` at most one further way from a node of the first. `len` and `spare` read a number. The list of
+/// nodes that are kept doubles its place when it is full: a `remove` then takes a step for each of them.
+/// `reserve` takes a step for each node that it makes.
+#[derive(Drop)]
+pub struct TrieTable<V> {
+    alloc: Global,
+    root: Tree<V>,
+    spares: Spares<V>,
+    len: usize,
+}
+
+impl<V> Model for TrieTable<V> {
+    ghost use Rattle.std.specs.Prelude.{◌≡◌, ◌/◌, length};
+    ghost use Rattle.std.specs.FinMap as map;
+    ghost use Rattle.bgp_types.specs.Tables.{prefix_cmp};
+    ghost use Rattle.prefix_trie.specs.Table.{TableValue, coded_table};
+
+    ghost Value = { TableValue V };
+
+    ghost coded = { coded_table V.code };
+
+    ghost use Rattle.prefix_trie.specs.Nodes.{entries, IsTrie};
+
+    ghost view = { λ t. record { contents = map.from_sorted {R = prefix_cmp} (entries t.root); room = length t.spares.items / 2 } };
+
+    ghost invariant = { λ t. record { trie : IsTrie t.root; len : t.len ≡ length (entries t.root) } };
+}
+
+impl<V: Drop> TrieTable<V> {
+    /// A table without a prefix. It takes no memory before the first.
+    pub fn new(alloc: Global) -> TrieTable<V>
+        ensures contents { result.contents ≡ map.empty }
+        ensures room { result.room ≡ 0 }
+    {
+        TrieTable {
+            alloc,
+            root: Tree::Leaf,
+            spares: Vec::new(alloc),
+            len: 0,
+        }
+    }
+
+    /// The longest prefix that covers an address, None exactly where none does (RFC 1812, section
+    /// 5.2.4.3).
+    pub fn longest_match(&self, address: u32) -> Option<Prefix>
+        ensures { LongestOf (λ p. IsSome (map.get self.now.contents p)) (prefix_of 32 address) result }
+    {
+        match Prefix::new(address, 32) {
+            Some(host) => longest(&self.root, host),
+            None => unreachable!(),
+        }
+    }
+}
+
+impl<V: Drop> Table<V> for TrieTable<V> {
+    ghost contents = { λ t. t.contents };
+
+    ghost room = { λ t. t.room };
+
+    fn get(&self, prefix: Prefix) -> Option<&V> {
+        find(&self.root, prefix)
+    }
+
+    fn set(&mut self, prefix: Prefix, value: V) -> Result<Option<V>, V> {
+        prove!(prefix.len() <= 32);
+        let mut slot = Some(value);
+        if !put(
+            self.alloc,
+            &mut self.root,
+            &mut self.spares,
+            prefix,
+            &mut slot,
+        ) {
+            return match slot {
+                Some(value) => Err(value),
+                None => unreachable!(),
+            };
+        }
+        if slot.is_some() {
+            return Ok(slot);
+        }
+        self.len += 1;
+        Ok(None)
+    }
+
+    fn remove(&mut self, prefix: Prefix) -> Option<V> {
+        let taken = take(&mut self.root, &mut self.spares, prefix)?;
+        self.len -= 1;
+        Some(taken)
+    }
+
+    fn next_after(&self, prefix: Option<Prefix>) -> Option<Prefix> {
+        match prefix {
+            None => first(&self.root),
+            Some(prefix) => next(&self.root, prefix),
+        }
+    }
+
+    fn len(&self) -> usize {
+        self.len
+    }
+}
+
+impl<V: Drop> SpareTable<V> for TrieTable<V> {
+    fn reserve(&mut self, more: usize) -> Result<(), NoMemory> {
+        reserve(self.alloc, &mut self.spares, more)
+    }
+
+    fn spare(&self) -> usize {
+        self.spares.as_slice().len() / 2
+    }
+
+    fn set_reserved(&mut self, prefix: Prefix, value: V) -> Option<V> {
+        match self.set(prefix, value) {
+            Ok(before) => before,
+            Err(_) => unreachable!(),
+        }
+    }
+}
