@@ -3,48 +3,42 @@
 
 ghost use Rattle.std.specs.Prelude.{◌≡◌, ◌↔◌, IsTrue};
 
-use bgp_types::{AsPath, Attrs, PathPart, RawAttr, RawAttrs, Route};
+use bgp_types::{Attrs, PathPart, RawAttr, Route};
 
-fn is_same_part(a: &PathPart, b: &PathPart) -> bool
-    ensures { IsTrue result ↔ (a.now ≡ b.now) }
-{
-    match (a, b) {
-        (PathPart::Set(a), PathPart::Set(b)) => a.as_slice() == b.as_slice(),
-        (PathPart::Sequence(a), PathPart::Sequence(b)) => a.as_slice() == b.as_slice(),
-        _ => false,
-    }
+/// A type whose values can be compared.
+trait Same {
+    /// Whether the other is the same value.
+    fn is_same(&self, other: &Self) -> bool
+        ensures { IsTrue result ↔ (self.now ≡ other.now) };
 }
 
-fn is_same_path(a: &AsPath, b: &AsPath) -> bool
-    ensures { IsTrue result ↔ (a.now ≡ b.now) }
-{
-    let (a, b) = (a.as_slice(), b.as_slice());
-    if a.len() != b.len() {
-        return false;
-    }
-    for at in 0..a.len() {
-        if !is_same_part(&a[at], &b[at]) {
-            return false;
+impl Same for PathPart {
+    fn is_same(&self, other: &PathPart) -> bool {
+        match (self, other) {
+            (PathPart::Set(a), PathPart::Set(b)) => a.as_slice() == b.as_slice(),
+            (PathPart::Sequence(a), PathPart::Sequence(b)) => a.as_slice() == b.as_slice(),
+            _ => false,
         }
     }
-    true
 }
 
-fn is_same_raw(a: &RawAttr, b: &RawAttr) -> bool
-    ensures { IsTrue result ↔ (a.now ≡ b.now) }
-{
-    a.kind == b.kind && a.partial == b.partial && a.bytes.as_slice() == b.bytes.as_slice()
+impl Same for RawAttr {
+    fn is_same(&self, other: &RawAttr) -> bool {
+        self.kind == other.kind
+            && self.partial == other.partial
+            && self.bytes.as_slice() == other.bytes.as_slice()
+    }
 }
 
-fn are_same_raws(a: &RawAttrs, b: &RawAttrs) -> bool
+/// Whether two lists have the same values in the same order.
+fn are_same<T: Same>(a: &[T], b: &[T]) -> bool
     ensures { IsTrue result ↔ (a.now ≡ b.now) }
 {
-    let (a, b) = (a.as_slice(), b.as_slice());
     if a.len() != b.len() {
         return false;
     }
-    for at in 0..a.len() {
-        if !is_same_raw(&a[at], &b[at]) {
+    for (at, value) in a.iter().enumerate() {
+        if !value.is_same(&b[at]) {
             return false;
         }
     }
@@ -60,8 +54,8 @@ pub fn is_same_attrs(a: &Attrs, b: &Attrs) -> bool
         && a.med == b.med
         && a.atomic == b.atomic
         && a.aggregator == b.aggregator
-        && is_same_path(&a.path, &b.path)
-        && are_same_raws(&a.unknown, &b.unknown)
+        && are_same(a.path.as_slice(), b.path.as_slice())
+        && are_same(a.unknown.as_slice(), b.unknown.as_slice())
 }
 
 /// Whether the routes have the same preference and the same attributes.

@@ -1,6 +1,0 @@
-use Rattle.std.proofs.Common.{◌≡◌, take}
-use Rattle.same_routes.proofs.is_same_path.Given as goal
-
--- the fronts are the same
-abbrev pub invariant-loop-at : goal.invariant-loop-at
-invariant-loop-at l = take l.at l.a ≡ take l.at l.b
