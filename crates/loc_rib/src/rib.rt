@@ -1,10 +1,9 @@
 //! Best routes and dirty prefixes.
 
-ghost use Rattle.std.specs.Prelude.{◌≡◌, [], option_copied, IfOk, OnOk, OnErr};
+ghost use Rattle.std.specs.Prelude.{◌≡◌, None, option_copied, IfOk, OnOk, OnErr};
 ghost use Rattle.std.specs.FinMap as map;
 ghost use Rattle.bgp_types.specs.Tables.{first_above};
 ghost use Rattle.loc_rib.specs.Values.{with_best, AreApart};
-ghost use Rattle.std.specs.Prelude.{None};
 
 use bgp_types::{NoMemory, Prefix, Table};
 use prefix_trie::TrieTable;
@@ -21,16 +20,19 @@ pub struct LocRib {
 }
 
 impl Model for LocRib {
-    ghost use Rattle.loc_rib.specs.Values.{LocValue};
+    ghost use Rattle.loc_rib.specs.Values.{LocValue, coded_loc};
+    ghost use Rattle.route_policy.specs.contracts.best.Best as best_struct;
 
     ghost Value = { LocValue };
+
+    ghost coded = { coded_loc best_struct.the_row.coded };
 
     ghost view = { λ rib. record { best = rib.best.contents; dirty = rib.dirty.contents } };
 }
 
 /// Whether the two aren't the same.
 fn are_apart(a: Option<&Best>, b: Option<&Best>) -> bool
-    ensures { AreApart (option_copied a) (option_copied b) result }
+    ensures { AreApart (option_copied a.entry) (option_copied b.entry) result }
 {
     match (a, b) {
         (None, None) => false,
