@@ -1,6 +1,6 @@
 //! Best routes and dirty prefixes.
 
-ghost use Rattle.std.specs.Prelude.{◌≡◌, None, option_copied, IfOk, OnOk, OnErr};
+ghost use Rattle.std.specs.Prelude.{◌≡◌, None, option_copied, IsOk, IsSome, IfOk, OnOk, OnErr};
 ghost use Rattle.std.specs.FinMap as map;
 ghost use Rattle.bgp_types.specs.Tables.{first_above};
 ghost use Rattle.loc_rib.specs.Values.{with_best, AreApart};
@@ -21,11 +21,11 @@ pub struct LocRib {
 
 impl Model for LocRib {
     ghost use Rattle.loc_rib.specs.Values.{LocValue, coded_loc};
-    ghost use Rattle.route_policy.specs.contracts.best.Best as best_struct;
+    ghost use Rattle.route_policy.specs.contracts.best.Best as best_type;
 
     ghost Value = { LocValue };
 
-    ghost coded = { coded_loc best_struct.the_row.coded };
+    ghost coded = { coded_loc best_type.the_row.coded };
 
     ghost view = { λ rib. record { best = rib.best.contents; dirty = rib.dirty.contents } };
 }
@@ -65,6 +65,9 @@ impl LocRib {
         ensures changed { IfOk result (λ changed. AreApart best (map.get self.old.best prefix) changed) }
         ensures ok { OnOk result (self.new ≡ record self.old { best = with_best self.old.best prefix best }) }
         ensures err { OnErr result (self.new ≡ self.old) }
+        // Neither taking a route away nor replacing one wants memory.
+        ensures gone { best ≡ None → IsOk result }
+        ensures present { IsSome (map.get self.old.best prefix) → IsOk result }
     {
         let changed = are_apart(best.as_ref(), self.best.get(prefix));
         match best {
@@ -83,6 +86,7 @@ impl LocRib {
     pub fn mark(&mut self, prefix: Prefix) -> Result<(), NoMemory>
         ensures ok { OnOk result (self.new ≡ record self.old { dirty = map.insert self.old.dirty prefix tt }) }
         ensures err { OnErr result (self.new ≡ self.old) }
+        ensures present { IsSome (map.get self.old.dirty prefix) → IsOk result }
     {
         match self.dirty.set(prefix, ()) {
             Ok(_) => Ok(()),
