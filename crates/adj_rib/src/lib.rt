@@ -1,0 +1,9 @@
+//! The routes that a session heard, by prefix: an Adj-RIB-In (RFC 4271, section 3.2).
+#![tactic(auto)]
+
+mod rib;
+
+pub use rib::AdjRib;
+
+#[cfg(test)]
+mod tests;

@@ -1,0 +1,27 @@
+-- The Loc-RIB as its callers see it (RFC 4271, section 3.2).
+use Rattle.std.specs.Prelude.{◌≡◌, ◌≢◌, Bool, true, false, Option, Some, None, refl}
+use Rattle.std.specs.Coded.{Coded, code_by, coded×}
+use base.Stored.{coded_unit}
+use Rattle.std.specs.FinMap as map
+use Rattle.bgp_types.specs.Prefixes.{PrefixValue}
+use Rattle.bgp_types.specs.Tables.{prefix_cmp, coded_prefix}
+use Rattle.route_policy.specs.declared.best.Best.{Best}
+
+-- the best route to each prefix, and the prefixes that are to be decided again
+pub record LocValue : Type 0 where
+  pub best : map.FinMap prefix_cmp Best
+  pub dirty : map.FinMap prefix_cmp (Unit {0})
+
+-- it is stored as the pair of the two
+abbrev pub coded_loc : Coded Best → Coded LocValue
+coded_loc best = code_by (map.FinMap prefix_cmp Best × map.FinMap prefix_cmp (Unit {0})) (coded× (map.code coded_prefix best) (map.code coded_prefix coded_unit)) (λ l. (l.best, l.dirty)) (λ p. record { best = p.0; dirty = p.1 }) (λ _. refl)
+
+-- best routes with this one for a prefix, or with none
+abbrev pub with_best : map.FinMap prefix_cmp Best → PrefixValue → Option Best → map.FinMap prefix_cmp Best
+with_best routes prefix None = map.remove routes prefix
+with_best routes prefix (Some best) = map.insert routes prefix best
+
+-- whether two are apart
+abbrev pub AreApart : {A : Type 0} → A → A → Bool → Type 0
+AreApart x y true = x ≢ y
+AreApart x y false = x ≡ y

@@ -1,0 +1,117 @@
+//! Best routes and dirty prefixes.
+
+ghost use Rattle.std.specs.Prelude.{◌≡◌, None, option_copied, IsOk, IsSome, IfOk, OnOk, OnErr};
+ghost use Rattle.std.specs.FinMap as map;
+ghost use Rattle.bgp_types.specs.Tables.{first_above};
+ghost use Rattle.loc_rib.specs.Values.{with_best, AreApart};
+
+use bgp_types::{NoMemory, Prefix, Table};
+use prefix_trie::TrieTable;
+use route_policy::Best;
+use same_routes::is_same_route;
+use std::alloc::Global;
+use std::marker::Model;
+
+/// The best route to each prefix that has one, and the dirty prefixes.
+#[derive(Drop)]
+pub struct LocRib {
+    best: TrieTable<Best>,
+    dirty: TrieTable<()>,
+}
+
+impl Model for LocRib {
+    ghost use Rattle.loc_rib.specs.Values.{LocValue, coded_loc};
+    ghost use Rattle.route_policy.specs.contracts.best.Best as best_type;
+
+    ghost Value = { LocValue };
+
+    ghost coded = { coded_loc best_type.the_row.coded };
+
+    ghost view = { λ rib. record { best = rib.best.contents; dirty = rib.dirty.contents } };
+}
+
+/// Whether the two aren't the same.
+fn are_apart(a: Option<&Best>, b: Option<&Best>) -> bool
+    ensures { AreApart (option_copied a.entry) (option_copied b.entry) result }
+{
+    match (a, b) {
+        (None, None) => false,
+        (Some(a), Some(b)) => a.from != b.from || !is_same_route(&a.route, &b.route),
+        _ => true,
+    }
+}
+
+impl LocRib {
+    /// No route, and no dirty prefix.
+    pub fn new(alloc: Global) -> LocRib
+        ensures { result ≡ record { best = map.empty; dirty = map.empty } }
+    {
+        LocRib {
+            best: TrieTable::new(alloc),
+            dirty: TrieTable::new(alloc),
+        }
+    }
+
+    /// The best route to a prefix.
+    pub fn get(&self, prefix: Prefix) -> Option<&Best>
+        ensures { option_copied result ≡ map.get self.now.best prefix }
+    {
+        self.best.get(prefix)
+    }
+
+    /// Gives a prefix this best route or none, and answers whether that is another than it had. For
+    /// want of memory nothing has changed.
+    pub fn set(&mut self, prefix: Prefix, best: Option<Best>) -> Result<bool, NoMemory>
+        ensures changed { IfOk result (λ changed. AreApart best (map.get self.old.best prefix) changed) }
+        ensures ok { OnOk result (self.new ≡ record self.old { best = with_best self.old.best prefix best }) }
+        ensures err { OnErr result (self.new ≡ self.old) }
+        // Neither taking a route away nor replacing one wants memory.
+        ensures gone { best ≡ None → IsOk result }
+        ensures present { IsSome (map.get self.old.best prefix) → IsOk result }
+    {
+        let changed = are_apart(best.as_ref(), self.best.get(prefix));
+        match best {
+            Some(best) => match self.best.set(prefix, best) {
+                Ok(_) => Ok(changed),
+                Err(_) => Err(NoMemory),
+            },
+            None => {
+                self.best.remove(prefix);
+                Ok(changed)
+            }
+        }
+    }
+
+    /// Makes a prefix dirty. For want of memory nothing has changed.
+    pub fn mark(&mut self, prefix: Prefix) -> Result<(), NoMemory>
+        ensures ok { OnOk result (self.new ≡ record self.old { dirty = map.insert self.old.dirty prefix tt }) }
+        ensures err { OnErr result (self.new ≡ self.old) }
+        ensures present { IsSome (map.get self.old.dirty prefix) → IsOk result }
+    {
+        match self.dirty.set(prefix, ()) {
+            Ok(_) => Ok(()),
+            Err(_) => Err(NoMemory),
+        }
+    }
+
+    /// The least dirty prefix.
+    pub fn next_dirty(&self) -> Option<Prefix>
+        ensures { result ≡ first_above None (map.keys self.now.dirty) }
+    {
+        self.dirty.next_after(None)
+    }
+
+    /// Ends that a prefix is dirty.
+    pub fn settle(&mut self, prefix: Prefix)
+        ensures { self.new ≡ record self.old { dirty = map.remove self.old.dirty prefix } }
+    {
+        self.dirty.remove(prefix);
+    }
+
+    /// The least prefix with a best route that is above another, or the least of all.
+    pub fn next_after(&self, prefix: Option<Prefix>) -> Option<Prefix>
+        ensures { result ≡ first_above prefix (map.keys self.now.best) }
+    {
+        self.best.next_after(prefix)
+    }
+}

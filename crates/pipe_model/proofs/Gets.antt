@@ -1,0 +1,169 @@
+-- A message that is got keeps what is kept.
+use Rattle.std.proofs.Common.{◌≡◌, ℕ, false, List, ◌∷◌, ◌++◌, Option, None, Result, refl, sym, ap, ◌∙◌, subst, append_assoc}
+use Rattle.std.specs.Prelude.{◌≢◌, fold}
+use Rattle.std.specs.FinMap as map
+use Rattle.std.proofs.lemmas.List.{append-nil}
+use Rattle.bgp_types.specs.declared.fault.Expected.{Expected}
+use Rattle.bgp_types.specs.declared.message.Message.{Message}
+use Rattle.bgp_types.specs.declared.message.Notice.{Notice}
+use Rattle.bgp_types.specs.declared.message.SessionState.{SessionState}
+use Rattle.bgp_types.specs.declared.message.SessionState.TheVariants.{OpenSent, OpenConfirm, Established, Closed}
+use Rattle.bgp_types.specs.FirstFault.{message_of}
+use Rattle.bgp_types.specs.Prefixes.{PrefixValue}
+use Rattle.bgp_types.specs.Tables.{prefix_cmp}
+use Rattle.bgp_story.specs.declared.line.Line.{Line}
+use Rattle.bgp_story.specs.declared.line.Line.TheVariants.{Got}
+use Rattle.bgp_story.specs.Legal.{Legal, Peering, Allowed, expected, reply_to}
+use Rattle.bgp_story.specs.Readings.{Routes, IsLegal, put_bytes, got_bytes, heard, told, hear, tell, apply_if, update_in, unless_closed}
+use Rattle.bgp_story.specs.States.{state_of}
+use Rattle.bgp_story.proofs.Grows.{put_grows, got_grows, told_grows, heard_grows, none_told, none_heard}
+use Rattle.bgp_story.proofs.Shapes.{allowed_of}
+use Rattle.bgp_story.proofs.StoryLaws.{state_is}
+use Rattle.pipe_model.specs.declared.pipe.Pipe.{Pipe}
+use Rattle.pipe_model.specs.Pipes.{session_of}
+use Rattle.pipe_model.specs.Worlds.{Session, World, has}
+use Rattle.pipe_model.specs.Decisions.{to_tell}
+use Rattle.pipe_model.specs.Rows.{GetsRow, due_then}
+use Rattle.pipe_model.specs.Claims.{IsFront}
+use Rattle.pipe_model.proofs.Tables.{no_best}
+use Rattle.pipe_model.proofs.Choices.{brought}
+use Rattle.pipe_model.proofs.Replies.{answer_gets, answer_tells, answer_hears, while_unclosed, established_from, confirmed_from, same_update}
+use Rattle.pipe_model.proofs.Keeping.{Keeps, same_session, unread_is, front_longer}
+
+-- a state is closed or not
+by_closed : {A : Type 0} (state : SessionState) → (state ≡ Closed → A) → (state ≢ Closed → A) → A
+by_closed OpenSent f g = g (λ e. absurd cc)
+by_closed OpenConfirm f g = g (λ e. absurd cc)
+by_closed Established f g = g (λ e. absurd cc)
+by_closed Closed f g = f refl
+
+-- ---- one message, of a session whose story is legal
+
+module _ (p : Peering) (lines : List Line) (bytes : List ℕ) (answer : List Line) (next : SessionState)
+    (legal : IsLegal p lines (state_of lines))
+    (open_yet : state_of lines ≢ Closed)
+    (got : Rattle.bgp_story.specs.Legal.IsGot bytes)
+    (reply : reply_to (message_of (expected p lines (state_of lines)) bytes) ≡ (answer, next)) where
+  abbrev pub said : Result Message Notice
+  said = message_of (expected p lines (state_of lines)) bytes
+
+  abbrev pub more : List Line
+  more = Got bytes ∷ answer
+
+  answer_is : answer ≡ (reply_to said).0
+  answer_is = ap (λ (x : List Line × SessionState). x.0) (sym reply)
+
+  legal_next : IsLegal p (lines ++ more) next
+  legal_next = Legal.got lines (state_of lines) bytes answer next (lines ++ more) legal open_yet got reply refl
+
+  pub state_next : state_of (lines ++ more) ≡ next
+  state_next = state_is p (lines ++ more) next (allowed_of p (lines ++ more) next legal_next)
+
+  pub legal_then : IsLegal p (lines ++ more) (state_of (lines ++ more))
+  legal_then = subst (λ (x : SessionState). IsLegal p (lines ++ more) x) (sym state_next) legal_next
+
+  pub got_then : got_bytes (lines ++ more) ≡ got_bytes lines ++ bytes
+  got_then =
+      got_grows lines more
+      ∙ ap (λ (x : List ℕ). got_bytes lines ++ (bytes ++ x)) (ap got_bytes answer_is ∙ answer_gets said)
+      ∙ ap (λ (x : List ℕ). got_bytes lines ++ x) (append-nil bytes)
+
+  pub put_then : IsFront (put_bytes p lines) (put_bytes p (lines ++ more))
+  put_then = record { rest = _; is = put_grows p lines more (state_of lines) (allowed_of p lines (state_of lines) legal) }
+
+  abbrev pub later : Expected
+  later = expected p (lines ++ more) Established
+
+  heard_unclosed : next ≢ Closed → heard p (lines ++ more) ≡ apply_if (heard p lines) (update_in said)
+  heard_unclosed c =
+      heard_grows p lines more (state_of lines) refl (allowed_of p lines (state_of lines) legal) open_yet (λ e. c (sym state_next ∙ e))
+      ∙ (ap (λ (x : List Line). fold (hear later) (hear later (heard p lines) (Got bytes)) x) answer_is
+      ∙ (answer_hears later said (hear later (heard p lines) (Got bytes))
+      ∙ ap (apply_if (heard p lines)) (same_update p lines more (state_of lines) bytes answer next (allowed_of p lines (state_of lines) legal) reply c)))
+
+  told_unclosed : next ≢ Closed → told (lines ++ more) ≡ told lines
+  told_unclosed c =
+      told_grows lines more open_yet (λ e. c (sym state_next ∙ e))
+      ∙ (ap (λ (x : List Line). fold tell (told lines) x) answer_is
+      ∙ answer_tells said (told lines))
+
+  pub heard_then : heard p (lines ++ more) ≡ unless_closed next (apply_if (heard p lines) (update_in said))
+  heard_then = by_closed next
+      (λ e. none_heard p (lines ++ more) (state_next ∙ e) ∙ sym (ap (λ (x : SessionState). unless_closed x (apply_if (heard p lines) (update_in said))) e))
+      (λ c. heard_unclosed c ∙ sym (while_unclosed next _ c))
+
+  pub told_then : told (lines ++ more) ≡ unless_closed next (told lines)
+  told_then = by_closed next
+      (λ e. none_told (lines ++ more) (state_next ∙ e) ∙ sym (ap (λ (x : SessionState). unless_closed x (told lines)) e))
+      (λ c. told_unclosed c ∙ sym (while_unclosed next _ c))
+
+-- ---- the event
+
+module _ (pipe : Pipe) (w v : World) (row : GetsRow pipe w v) (k : Keeps pipe w row.session) where
+  abbrev pub s : Session
+  s = row.session
+
+  abbrev pub after : Session
+  after = record s { story = s.story ++ Got row.bytes ∷ row.answer; heard = row.heard; told = unless_closed row.next s.told }
+
+  abbrev pub before : SessionState
+  before = state_of s.story
+
+  then_is : state_of after.story ≡ row.next
+  then_is = state_next (session_of pipe) s.story row.bytes row.answer row.next k.legal row.unclosed row.got row.reply
+
+  arrived_is : IsFront (got_bytes after.story) s.arrived
+  arrived_is = record {
+    rest = row.rest;
+    is = unread_is k
+        ∙ (ap (λ (x : List ℕ). got_bytes s.story ++ x) row.front
+        ∙ (sym (append_assoc (got_bytes s.story) row.bytes row.rest)
+        ∙ ap (λ (x : List ℕ). x ++ row.rest) (sym (got_then (session_of pipe) s.story row.bytes row.answer row.next k.legal row.unclosed row.got row.reply))));
+  }
+
+  heard_is : row.heard ≡ heard (session_of pipe) after.story
+  heard_is =
+      row.hears
+      ∙ (ap (λ (x : Routes). unless_closed row.next (apply_if x (update_in (message_of (expected (session_of pipe) s.story before) row.bytes)))) k.heard
+      ∙ sym (heard_then (session_of pipe) s.story row.bytes row.answer row.next k.legal row.unclosed row.got row.reply))
+
+  told_is : after.told ≡ told after.story
+  told_is =
+      ap (unless_closed row.next) k.told
+      ∙ sym (told_then (session_of pipe) s.story row.bytes row.answer row.next k.legal row.unclosed row.got row.reply)
+
+  -- what was told before it was established is nothing
+  due_from : (state next : SessionState) → before ≡ state → row.next ≡ next → next ≡ Established → (p : PrefixValue) → has (due_then state next w.best w.due) p ≡ false → map.get s.told p ≡ to_tell pipe w p
+  due_from OpenSent Established e f g p h = absurd (established_from (expected (session_of pipe) s.story before) row.bytes row.answer (row.reply ∙ ap (λ (x : SessionState). (row.answer, x)) f) e)
+  due_from OpenConfirm Established e f g p h = k.untold p (λ x. let y : OpenConfirm ≡ Established = sym e ∙ x in absurd cc) ∙ sym (ap (λ (x : Option _). Rattle.route_policy.specs.Telling.tell_out pipe.home_as (Rattle.pipe_model.specs.Decisions.out_side pipe) p x) (no_best w.best w.due p h))
+  due_from Established Established e f g p h = k.due p h e
+  due_from Closed Established e f g p h = absurd (row.unclosed e)
+  due_from state OpenSent e f g p h = absurd cc
+  due_from state OpenConfirm e f g p h = absurd cc
+  due_from state Closed e f g p h = absurd cc
+
+  due_is : (p : PrefixValue) → has (due_then before row.next w.best w.due) p ≡ false → state_of after.story ≡ Established → map.get after.told p ≡ to_tell pipe w p
+  due_is p h up =
+      let e : row.next ≡ Established = sym then_is ∙ up in
+      ap (λ (x : SessionState). map.get (unless_closed x s.told) p) e ∙ due_from before row.next refl refl e p h
+
+  untold_from : (next : SessionState) → row.next ≡ next → next ≢ Established → (p : PrefixValue) → map.get (unless_closed next s.told) p ≡ None
+  untold_from OpenSent f o p = k.untold p (λ x. let y = sym (confirmed_from (expected (session_of pipe) s.story before) row.bytes row.answer row.next row.reply (λ z. o (sym f ∙ z)) (λ z. let q : OpenSent ≡ Closed = sym f ∙ z in absurd cc)) ∙ x in absurd cc)
+  untold_from OpenConfirm f o p = k.untold p (λ x. let y = sym (confirmed_from (expected (session_of pipe) s.story before) row.bytes row.answer row.next row.reply (λ z. o (sym f ∙ z)) (λ z. let q : OpenConfirm ≡ Closed = sym f ∙ z in absurd cc)) ∙ x in absurd cc)
+  untold_from Established f o p = absurd (o refl)
+  untold_from Closed f o p = map.get-empty prefix_cmp p
+
+  pub gets_keeps : Keeps pipe v after
+  gets_keeps = subst (λ (x : World). Keeps pipe x after) (sym row.effect) (record {
+    held = refl;
+    pointer = k.pointer;
+    legal = legal_then (session_of pipe) s.story row.bytes row.answer row.next k.legal row.unclosed row.got row.reply;
+    arrived = k.arrived;
+    got = arrived_is;
+    received = Rattle.pipe_model.proofs.Keeping.front_trans k.received (put_then (session_of pipe) s.story row.bytes row.answer row.next k.legal row.unclosed row.got row.reply);
+    heard = heard_is;
+    told = told_is;
+    best = λ p clean. k.best p (row.marks.clean p clean).0 ∙ ap (brought pipe) (sym (row.marks.clean p clean).1);
+    due = due_is;
+    untold = λ p down. untold_from row.next refl (λ x. down (then_is ∙ x)) p;
+  })

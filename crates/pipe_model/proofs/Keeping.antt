@@ -1,0 +1,88 @@
+-- What every event keeps, and what follows from it.
+use Rattle.std.proofs.Common.{◌≡◌, ℕ, suc, ◌+◌, ◌≤◌, Bool, true, false, cond, List, [], ◌∷◌, ◌++◌, length, take, drop, Option, Some, None, refl, sym, ap, ◌∙◌, subst, append_assoc, zero-add, arith}
+use Rattle.std.specs.Prelude.{◌≢◌}
+use Rattle.std.specs.FinMap as map
+use Rattle.std.proofs.lemmas.Option.{same_Some}
+use Rattle.bgp_types.specs.declared.message.SessionState.TheVariants.{Established}
+use Rattle.bgp_types.specs.Prefixes.{PrefixValue}
+use Rattle.bgp_types.specs.Tables.{prefix_cmp}
+use Rattle.bgp_story.specs.Legal.{Legal}
+use Rattle.bgp_story.specs.Readings.{IsLegal, put_bytes, got_bytes, heard, told}
+use Rattle.bgp_story.specs.States.{state_of}
+use Rattle.pipe_model.specs.declared.pipe.Pipe.{Pipe}
+use Rattle.pipe_model.specs.Pipes.{session_of}
+use Rattle.pipe_model.specs.Worlds.{Session, World, unread, has, first_world, first_session}
+use Rattle.pipe_model.specs.Decisions.{to_tell}
+use Rattle.pipe_model.specs.Claims.{IsFront, placement}
+use Rattle.pipe_model.proofs.Choices.{brought}
+
+-- ---- fronts
+
+take_past : (xs ys : List ℕ) (n : ℕ) → take (length xs + n) (xs ++ ys) ≡ xs ++ take n ys
+take_past [] ys n = ap (λ (k : ℕ). take k ys) (zero-add n)
+take_past (x ∷ xs) ys n =
+    let e : length (x ∷ xs) + n ≡ suc (length xs + n) = omega arith in
+    ap (λ (k : ℕ). take k (x ∷ (xs ++ ys))) e ∙ ap (λ (l : List ℕ). x ∷ l) (take_past xs ys n)
+
+drop_front : (xs ys : List ℕ) → drop (length xs) (xs ++ ys) ≡ ys
+drop_front [] ys = refl
+drop_front (x ∷ xs) ys = drop_front xs ys
+
+pub front_trans : {xs ys zs : List ℕ} → IsFront xs ys → IsFront ys zs → IsFront xs zs
+front_trans {xs} f g = record { rest = f.rest ++ g.rest; is = g.is ∙ (ap (λ (l : List ℕ). l ++ g.rest) f.is ∙ append_assoc xs f.rest g.rest) }
+
+pub front_more : (xs ys : List ℕ) → IsFront xs (xs ++ ys)
+front_more xs ys = record { rest = ys; is = refl }
+
+pub front_longer : {xs ys : List ℕ} (zs : List ℕ) → IsFront xs ys → IsFront xs (ys ++ zs)
+front_longer {xs} {ys} zs f = front_trans f (front_more ys zs)
+
+pub front_taken : (n : ℕ) (xs : List ℕ) → IsFront (take n xs) xs
+front_taken n xs = record { rest = drop n xs; is = sym (Rattle.std.proofs.Common.take-append-drop n xs) }
+
+-- more of what a front is taken from has it as a front
+pub front_next : {xs ys : List ℕ} (n : ℕ) → IsFront xs ys → IsFront xs (take (length xs + n) ys)
+front_next {xs} {ys} n f = record { rest = take n f.rest; is = ap (take (length xs + n)) f.is ∙ take_past xs f.rest n }
+
+-- ---- the world and its session
+
+-- the session s that the world holds is as its story tells, and what was decided and told is right but for
+-- what is dirty or due
+pub record Keeps (pipe : Pipe) (w : World) (s : Session) : Type 0 where
+  pub held : w.held ≡ Some s
+  pub pointer : w.pointer ≡ placement pipe
+  pub legal : IsLegal (session_of pipe) s.story (state_of s.story)
+  pub arrived : IsFront s.arrived w.said
+  pub got : IsFront (got_bytes s.story) s.arrived
+  pub received : IsFront w.received (put_bytes (session_of pipe) s.story)
+  pub heard : s.heard ≡ heard (session_of pipe) s.story
+  pub told : s.told ≡ told s.story
+  pub best : (p : PrefixValue) → has w.dirty p ≡ false → map.get w.best p ≡ brought pipe (map.get s.heard p)
+  pub due : (p : PrefixValue) → has w.due p ≡ false → state_of s.story ≡ Established → map.get s.told p ≡ to_tell pipe w p
+  pub untold : (p : PrefixValue) → state_of s.story ≢ Established → map.get s.told p ≡ None
+
+pub same_session : {pipe : Pipe} {w : World} {s t : Session} → Keeps pipe w s → w.held ≡ Some t → Keeps pipe w t
+same_session {pipe} {w} {s} {t} k e = subst (λ (x : Session). Keeps pipe w x) (same_Some _ _ (sym k.held ∙ e)) k
+
+-- what is unread follows what was got
+pub unread_is : {pipe : Pipe} {w : World} {s : Session} → Keeps pipe w s → s.arrived ≡ got_bytes s.story ++ unread s
+unread_is {pipe} {w} {s} k = k.got.is ∙ ap (λ (l : List ℕ). got_bytes s.story ++ l) (sym (ap (drop (length (got_bytes s.story))) k.got.is ∙ drop_front (got_bytes s.story) k.got.rest))
+
+none_brought : (pipe : Pipe) → brought pipe None ≡ None
+unfolding brought
+none_brought pipe = refl
+
+pub first_keeps : (pipe : Pipe) → Keeps pipe (first_world pipe) (first_session pipe)
+first_keeps pipe = record {
+  held = refl;
+  pointer = refl;
+  legal = Legal.opened (first_session pipe).story refl;
+  arrived = front_more [] (first_world pipe).said;
+  got = front_more [] [];
+  received = front_more [] (put_bytes (session_of pipe) (first_session pipe).story);
+  heard = refl;
+  told = refl;
+  best = λ p clean. map.get-empty prefix_cmp p ∙ (sym (none_brought pipe) ∙ ap (brought pipe) (sym (map.get-empty prefix_cmp p)));
+  due = λ p clean up. absurd cc;
+  untold = λ p down. map.get-empty prefix_cmp p;
+}

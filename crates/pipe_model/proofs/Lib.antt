@@ -1,0 +1,7 @@
+pub mod Tables
+pub mod Choices
+pub mod Replies
+pub mod Keeping
+pub mod Steps
+pub mod Gets
+pub mod Runs

@@ -1,0 +1,65 @@
+-- The world of a pipe: what its router, its remote and its operator are, and what is between them.
+use Rattle.std.specs.Prelude.{ℕ, List, [], ◌∷◌, length, drop, Option, Some, Bool, is_some}
+use Rattle.std.specs.FinMap as map
+use Rattle.bgp_types.specs.declared.message.Message.TheVariants.{OpenMsg}
+use Rattle.bgp_types.specs.Prefixes.{PrefixValue}
+use Rattle.bgp_types.specs.Tables.{prefix_cmp}
+use Rattle.bgp_story.specs.declared.line.Line.{Line}
+use Rattle.bgp_story.specs.declared.line.Line.TheVariants.{Put}
+use Rattle.bgp_story.specs.Readings.{Routes, got_bytes}
+use Rattle.route_policy.specs.declared.best.Best.{Best}
+use Rattle.pipe_model.specs.declared.pipe.Pipe.{Pipe}
+use Rattle.pipe_model.specs.Pipes.{session_of, opening}
+
+-- the best route to each prefix, and where it comes from
+abbrev pub BestRoutes : Type 0
+BestRoutes = map.FinMap prefix_cmp Best
+
+-- a set of prefixes
+abbrev pub Prefixes : Type 0
+Prefixes = map.FinMap prefix_cmp (Unit {0})
+
+abbrev pub has : Prefixes → PrefixValue → Bool
+has prefixes prefix = is_some (map.get prefixes prefix)
+
+-- a session: its story, the routes that it heard and told, and the remote's bytes that reached it
+pub record Session : Type 0 where
+  pub story : List Line
+  pub heard : Routes
+  pub told : Routes
+  pub arrived : List ℕ
+
+-- what reached a session and isn't got yet
+abbrev pub unread : Session → List ℕ
+unread session = drop (length (got_bytes session.story)) session.arrived
+
+pub record World : Type 0 where
+  -- the router: the session that it holds, its best routes, and the prefixes to decide and to tell on
+  pub held : Option Session
+  pub best : BestRoutes
+  pub dirty : Prefixes
+  pub due : Prefixes
+  -- the remote: what it said, what it received, and the router that its link points at
+  pub said : List ℕ
+  pub received : List ℕ
+  pub pointer : ℕ
+  -- the operator: how many steps it issued, and the orders that are on their way
+  pub issued : ℕ
+  pub orders : List ℕ
+
+-- The session has put its OPEN, the remote has said its opening, and nothing was carried or ordered.
+abbrev pub first_session : Pipe → Session
+first_session pipe = record { story = Put (OpenMsg (session_of pipe).first) ∷ []; heard = map.empty; told = map.empty; arrived = [] }
+
+abbrev pub first_world : Pipe → World
+first_world pipe = record {
+  held = Some (first_session pipe);
+  best = map.empty;
+  dirty = map.empty;
+  due = map.empty;
+  said = opening pipe;
+  received = [];
+  pointer = pipe.start.0;
+  issued = 0;
+  orders = [];
+}
