@@ -1,6 +1,6 @@
 -- Notes of what prefixes had.
 use Rattle.std.proofs.Common.{◌≡◌, Bool, true, false, cond, List, [], ◌∷◌, Option, Some, None, refl, sym, ap, ◌∙◌, subst}
-use Rattle.std.specs.Prelude.{fold, is_some}
+use Rattle.std.specs.Prelude.{fold, is_some, Result, Ok, Err, OnOk}
 use Rattle.std.specs.Option.{IfSome}
 use Rattle.std.specs.declared.cmp.Ordering.{Ordering}
 use Rattle.std.specs.declared.cmp.Ordering.TheVariants.{Less, Equal, Greater}
@@ -11,7 +11,8 @@ use Rattle.bgp_types.specs.declared.attrs.Attrs.{Attrs}
 use Rattle.bgp_types.specs.Prefixes.{PrefixValue}
 use Rattle.bgp_types.specs.Tables.{prefix_cmp}
 use Rattle.bgp_types.proofs.TableLaws.{prefix_total, exact_prefixes}
-use Rattle.bgp_story.specs.Readings.{Routes, announce}
+use Rattle.bgp_types.specs.declared.message.Update.{Update}
+use Rattle.bgp_story.specs.Readings.{Routes, announce, apply}
 use Rattle.adj_rib.specs.Changes.{Notes, noted, Tracks}
 
 equal : (o : Ordering) → is_eq o ≡ true → o ≡ Equal
@@ -77,3 +78,26 @@ module _ (before r s : Routes) (notes left : Notes) (p : PrefixValue) (had : Opt
 pub none_announced : (routes : Routes) (prefixes : List PrefixValue) → fold (announce None) routes prefixes ≡ routes
 none_announced routes [] = refl
 none_announced routes (p ∷ prefixes) = none_announced routes prefixes
+
+-- ---- an UPDATE
+
+-- what is so in any case is so where there is a value
+pub at_ok : {A E P : Type 0} (r : Result A E) → P → OnOk r P
+at_ok (Ok x) p = p
+at_ok (Err e) p = tt
+
+-- withdrawals, and then announcements
+pub applied_some : (old start middle end : Routes) (u : Update) (attrs : Attrs) → start ≡ old → middle ≡ fold map.remove start u.withdrawn → end ≡ fold (announce (Some attrs)) middle u.nlri → u.attrs ≡ Some attrs → end ≡ apply old u
+applied_some old start middle end u attrs s m e is = e
+    ∙ (ap (λ (r : Routes). fold (announce (Some attrs)) r u.nlri) (m ∙ ap (λ (r : Routes). fold map.remove r u.withdrawn) s)
+    ∙ ap (λ (o : Option Attrs). fold (announce o) (fold map.remove old u.withdrawn) u.nlri) (sym is))
+
+pub applied_none : (old start middle : Routes) (u : Update) → start ≡ old → middle ≡ fold map.remove start u.withdrawn → u.attrs ≡ None → middle ≡ apply old u
+applied_none old start middle u s m is = m
+    ∙ (ap (λ (r : Routes). fold map.remove r u.withdrawn) s
+    ∙ (sym (none_announced (fold map.remove old u.withdrawn) u.nlri)
+    ∙ ap (λ (o : Option Attrs). fold (announce o) (fold map.remove old u.withdrawn) u.nlri) (sym is)))
+
+-- at the start there are no notes
+pub starts : (old start : Routes) (notes : Notes) → start ≡ old → notes ≡ map.empty → Tracks old start notes
+starts old start notes s n = subst (λ (x : Notes). Tracks old start x) (sym n) (subst (λ (x : Routes). Tracks old x map.empty) (sym s) (no_notes old))

@@ -65,20 +65,20 @@ next_passes last p (k ∷ ks) e =
       | false ↦ λ a f. next_passes last p ks f
     ] refl e
 
-module _ (k : PrefixValue) (as bs : List PrefixValue) where
-  step_le : (a b : Bool) → (a ≡ true → b ≡ true) → length as ≤ length bs → length (cond a (k ∷ as) as) ≤ length (cond b (k ∷ bs) bs)
+module _ (k : PrefixValue) (xs ys : List PrefixValue) where
+  step_le : (a b : Bool) → (a ≡ true → b ≡ true) → length xs ≤ length ys → length (cond a (k ∷ xs) xs) ≤ length (cond b (k ∷ ys) ys)
   step_le true true h l = omega arith
   step_le true false h l = absurd (false≢true (h refl))
   step_le false true h l = omega arith
   step_le false false h l = l
 
-  step_lt : (a b : Bool) → (a ≡ true → b ≡ true) → length as < length bs → length (cond a (k ∷ as) as) < length (cond b (k ∷ bs) bs)
+  step_lt : (a b : Bool) → (a ≡ true → b ≡ true) → length xs < length ys → length (cond a (k ∷ xs) xs) < length (cond b (k ∷ ys) ys)
   step_lt true true h l = omega arith
   step_lt true false h l = absurd (false≢true (h refl))
   step_lt false true h l = omega arith
   step_lt false false h l = l
 
-  first_lt : (a b : Bool) → a ≡ false → b ≡ true → length as ≤ length bs → length (cond a (k ∷ as) as) < length (cond b (k ∷ bs) bs)
+  first_lt : (a b : Bool) → a ≡ false → b ≡ true → length xs ≤ length ys → length (cond a (k ∷ xs) xs) < length (cond b (k ∷ ys) ys)
   first_lt true b e f l = absurd (false≢true (sym e))
   first_lt false true e f l = omega arith
   first_lt false false e f l = absurd (false≢true f)
@@ -135,13 +135,13 @@ module _ {X : Type 0} where
 
 -- ---- the list of what changed
 
-pub when_true : {P Q : Type 0} (b : Bool) → b ≡ true → MatchBool b P Q → P
-when_true true e h = h
-when_true false e h = absurd (false≢true e)
+pub when_true : (P Q : Type 0) (b : Bool) → b ≡ true → MatchBool b P Q → P
+when_true P Q true e h = h
+when_true P Q false e h = absurd (false≢true e)
 
-pub when_false : {P Q : Type 0} (b : Bool) → b ≡ false → MatchBool b P Q → Q
-when_false true e h = absurd (false≢true (sym e))
-when_false false e h = h
+pub when_false : (P Q : Type 0) (b : Bool) → b ≡ false → MatchBool b P Q → Q
+when_false P Q true e h = absurd (false≢true (sym e))
+when_false P Q false e h = h
 
 -- the prefixes that changed, of those that the walk has passed
 pub record Walked (before now : Routes) (last : Option PrefixValue) (prefixes : List PrefixValue) : Type 0 where

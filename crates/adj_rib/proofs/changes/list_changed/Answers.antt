@@ -20,13 +20,13 @@ loop-prefix-preserved c = λ before t.
     let says = c.is_changed.ensures before t in
     elim c.if-is_changed.branch [
       | then-is_changed+in_ok-push b ↦
-          let e : c.if-is_changed.changed ≡ c.loop-prefix.changed ++ p ∷ [] = cc in
+          let e : c.if-is_changed.changed ≡ c.loop-prefix.changed ++ p ∷ [] = b.changed-is ∙ b.in_ok-push.ensures.ok in
           subst (λ (xs : List PrefixValue). Walked before now (Some p) xs) (sym e)
-          (walk_changed before now c.args.notes.now.contents t c.loop-prefix.last c.loop-prefix.changed w p next (when_true c.is_changed.result b.if-is_changed.true says))
+          (walk_changed before now c.args.notes.now.contents t c.loop-prefix.last c.loop-prefix.changed w p next (when_true _ _ c.is_changed.result b.if-is_changed.true says))
       | else-is_changed b ↦
-          let e : c.if-is_changed.changed ≡ c.loop-prefix.changed = cc in
+          let e : c.if-is_changed.changed ≡ c.loop-prefix.changed = b.changed-is in
           subst (λ (xs : List PrefixValue). Walked before now (Some p) xs) (sym e)
-          (walk_same before now c.args.notes.now.contents t c.loop-prefix.last c.loop-prefix.changed w p next (when_false c.is_changed.result b.if-is_changed.false says))
+          (walk_same before now c.args.notes.now.contents t c.loop-prefix.last c.loop-prefix.changed w p next (when_false _ _ c.is_changed.result b.if-is_changed.false says))
     ]
 
 pub returns : goal.returns
