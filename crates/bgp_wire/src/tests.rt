@@ -6,6 +6,7 @@ use crate::rows;
 use bgp_frame::{FrameStop, Framer};
 use bgp_types::*;
 use std::alloc::Global;
+use std::process::Abort;
 use std::test::*;
 
 const OPENING: Expected = Expected {
@@ -84,36 +85,42 @@ fn row_of(alloc: Global, line: &str) -> Result<(Vec<u8>, Vec<u8>), Fail> {
 }
 
 /// Each row is answered as it says.
-fn check(rt: &HostRuntime, rows: &str, expected: &Expected) -> Result<(), Fail> {
-    let alloc = rt.alloc();
+fn check(rt: &impl Abort, alloc: Global, rows: &str, expected: &Expected) -> Result<(), Fail> {
+    let mut wrong = String::new(alloc);
     for line in rows.lines() {
         let (frame, answer) = row_of(alloc, line)?;
         let mut framer = Framer::new(alloc);
         framer.feed(frame.as_slice()).ok().ok_or("memory")?;
         let answered = answer_to(alloc, &mut framer, expected)?;
-        assert_eq!(rt; answered.as_slice(), answer.as_slice(), "{line}");
+        if answered.as_slice() != answer.as_slice() {
+            wrong.push_str(line)?;
+            wrong.push_str(" GOT ")?;
+            wrong.push_str(hex::encode(alloc, answered.as_slice())?.as_str())?;
+            wrong.push_str("\n")?;
+        }
     }
+    assert_eq!(rt; wrong.as_str(), "");
     Ok(())
 }
 
 #[test]
 fn rows_of_headers_and_states(rt: HostRuntime) -> Result<(), Fail> {
-    check(&rt, rows::headers(), &ESTABLISHED)?;
+    check(&rt, rt.alloc(), rows::headers(), &ESTABLISHED)?;
     let confirm = Expected {
         state: SessionState::OpenConfirm,
         ..ESTABLISHED
     };
-    check(&rt, rows::confirms(), &confirm)?;
+    check(&rt, rt.alloc(), rows::confirms(), &confirm)?;
     let closed = Expected {
         state: SessionState::Closed,
         ..ESTABLISHED
     };
-    check(&rt, rows::closes(), &closed)
+    check(&rt, rt.alloc(), rows::closes(), &closed)
 }
 
 #[test]
 fn rows_of_opens(rt: HostRuntime) -> Result<(), Fail> {
-    check(&rt, rows::opens(), &OPENING)?;
+    check(&rt, rt.alloc(), rows::opens(), &OPENING)?;
     for (rows, remote_as, offered) in [
         (rows::offered_opens(), 70000u32, true),
         (rows::offered_short(), 65001, true),
@@ -124,7 +131,7 @@ fn rows_of_opens(rt: HostRuntime) -> Result<(), Fail> {
             offered,
             ..OPENING
         };
-        check(&rt, rows, &expected)?;
+        check(&rt, rt.alloc(), rows, &expected)?;
     }
     Ok(())
 }
@@ -137,7 +144,7 @@ fn rows_of_updates(rt: HostRuntime) -> Result<(), Fail> {
         rows::updates_c(),
         rows::updates_d(),
     ] {
-        check(&rt, rows, &ESTABLISHED)?;
+        check(&rt, rt.alloc(), rows, &ESTABLISHED)?;
     }
     Ok(())
 }
@@ -154,7 +161,7 @@ fn rows_of_wide_updates(rt: HostRuntime) -> Result<(), Fail> {
         rows::wide_updates_b(),
         rows::wide_updates_c(),
     ] {
-        check(&rt, rows, &wide)?;
+        check(&rt, rt.alloc(), rows, &wide)?;
     }
     Ok(())
 }
