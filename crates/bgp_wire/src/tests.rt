@@ -1,5 +1,4 @@
-ghost use Rattle.std.specs.Prelude.{◌≡◌, ◌∷◌, [], Some, false, true, IfOk};
-ghost use Rattle.bgp_types.specs.declared.message.Message.TheVariants.{NoticeMsg};
+ghost use Rattle.std.specs.Prelude.{◌≡◌, ◌≤◌, ◌∷◌, [], length, Some, false, true, IfOk};
 ghost use Rattle.bgp_types.specs.Header.{frame_at};
 ghost use Rattle.bgp_types.specs.Writable.{IsWritable};
 ghost use Rattle.bgp_wire.specs.Worked.{announced, opened};
@@ -310,13 +309,20 @@ fn wide_open(alloc: Global) -> Result<Message, Fail>
 }
 
 fn notice(alloc: Global, code: u8, subcode: u8, info: &[u8]) -> Result<Message, Fail>
-    ensures { IfOk result (λ message. message ≡ NoticeMsg (record { code = code; subcode = subcode; info = info.now })) }
+    requires { length info.now ≤ 4075 }
+    ensures { IfOk result (λ message. IsWritable message false) }
 {
     Ok(Message::NoticeMsg(Notice {
         code,
         subcode,
         info: Octets::from_slice(alloc, info)?,
     }))
+}
+
+fn keepalive() -> Message
+    ensures { IsWritable result false }
+{
+    Message::KeepaliveMsg
 }
 
 /// The octets of a text of words, behind a marker.
@@ -367,18 +373,25 @@ fn written_updates(rt: HostRuntime) -> Result<(), Fail> {
 }
 
 #[test]
-fn written_others(rt: HostRuntime) -> Result<(), Fail> {
+fn written_opens(rt: HostRuntime) -> Result<(), Fail> {
     let alloc = rt.alloc();
     let message = plain_open(alloc);
     assert!(rt; is_written(alloc, &message, false, "001D 01 04 FDE8 0000 0AFF0001 00")?);
     let message = wide_open(alloc)?;
     let text = "0025 01 04 FDE8 0000 0AFF0001 08 0206 4104 0000FDE8";
     assert!(rt; is_written(alloc, &message, false, text)?);
+    Ok(())
+}
+
+#[test]
+fn written_others(rt: HostRuntime) -> Result<(), Fail> {
+    let alloc = rt.alloc();
     let message = notice(alloc, 3, 3, &[1])?;
     assert!(rt; is_written(alloc, &message, false, "0016 03 03 03 01")?);
     let message = notice(alloc, 1, 2, &[0, 0x14])?;
     assert!(rt; is_written(alloc, &message, false, "0017 03 01 02 0014")?);
-    assert!(rt; is_written(alloc, &Message::KeepaliveMsg, false, "0013 04")?);
+    let message = keepalive();
+    assert!(rt; is_written(alloc, &message, false, "0013 04")?);
     Ok(())
 }
 
