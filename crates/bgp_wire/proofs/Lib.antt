@@ -1,0 +1,5 @@
+pub mod SetLaws
+pub mod PrefixLaws
+pub mod CapLaws
+pub mod FrameLaws
+pub mod TestMessages

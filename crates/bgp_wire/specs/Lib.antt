@@ -1,0 +1,5 @@
+pub mod Caps
+pub mod Faults
+pub mod Fields
+pub mod Sets
+pub mod Written
