@@ -51,9 +51,11 @@ pub record Adding (octets rest : List ℕ) (old new : List Cap) : Type 0 where
   pub added : new ≡ old ++ so_far.before
 
 pub adds_none : (octets : List ℕ) (old : List Cap) → Adding octets octets old old
+unfolding begins
 adds_none octets old = record { so_far = begins octets; added = sym (append-nil old) }
 
 pub adds_one : (octets rest : List ℕ) (old new : List Cap) (cap : Cap) (later : List ℕ) (new' : List Cap) → Adding octets rest old new → cap_at rest ≡ Some (cap, later) → new' ≡ new ++ cap ∷ [] → Adding octets later old new'
+unfolding goes_on
 adds_one octets rest old new cap later new' a e more = record {
   so_far = goes_on octets rest cap later a.so_far e;
   added = more ∙ (ap (λ (xs : List Cap). xs ++ cap ∷ []) a.added ∙ append_assoc old a.so_far.before (cap ∷ []));
