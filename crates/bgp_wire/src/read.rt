@@ -80,7 +80,6 @@ fn read_body(
 /// section 6). AS numbers have two octets, or four where the session is wide. It takes a time that
 /// grows with the length of the frame, and for prefixes out of order with its product with the
 /// logarithm of their count.
-#[tactic(auto, unfolding(bgp_types::specs::FirstFault::message_of))]
 pub fn read_message(
     alloc: Global,
     bytes: &[u8],
