@@ -1,12 +1,12 @@
 -- Parameters and capabilities, read one after another.
-use Rattle.std.proofs.Common.{◌≡◌, ℕ, ◌<◌, ◌≤◌, List, [], ◌∷◌, ◌++◌, length, take, drop, Bool, true, false, cond, eqb, ltb, Option, Some, None, Result, Ok, Err, refl, sym, ap, subst, ◌∙◌, arith, append_assoc, length-drop}
+use Rattle.std.proofs.Common.{◌≡◌, ℕ, ◌<◌, List, [], ◌∷◌, ◌++◌, length, drop, Bool, true, false, cond, eqb, ltb, Option, Some, None, Result, Ok, Err, refl, sym, ap, subst, ◌∙◌, arith, append_assoc, length-drop}
 use Rattle.std.specs.Prelude.{is_some}
 use Rattle.std.proofs.lemmas.List.{append-nil}
 use Rattle.std.proofs.lemmas.Option.{same_Some}
 use Rattle.bgp_types.specs.declared.message.Cap.{Cap}
 use Rattle.bgp_types.specs.declared.message.Notice.{Notice}
 use Rattle.bgp_types.specs.Faults.{fault_in}
-use Rattle.bgp_types.specs.Many.{many, many_within, if_whole, all_of}
+use Rattle.bgp_types.specs.Many.{many, if_whole, all_of}
 use Rattle.bgp_types.specs.OpenBody.{cap_at, open_fault, caps_of, with_caps, with_params}
 use Rattle.bgp_types.proofs.ManyLaws.{Shortens, after, after_more, many_some, many_none, kept_out}
 use Rattle.attr_codec.proofs.PathLaws.{stopped, finished}

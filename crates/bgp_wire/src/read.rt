@@ -34,9 +34,7 @@ fn is_in_state(state: SessionState, kind: u8) -> bool
     match state {
         SessionState::OpenSent => kind == OPEN || kind == NOTIFICATION,
         SessionState::OpenConfirm => kind == KEEPALIVE || kind == NOTIFICATION,
-        SessionState::Established => {
-            kind == KEEPALIVE || kind == UPDATE || kind == NOTIFICATION
-        }
+        SessionState::Established => { kind == KEEPALIVE || kind == UPDATE || kind == NOTIFICATION }
         SessionState::Closed => kind == NOTIFICATION,
     }
 }
@@ -80,11 +78,7 @@ fn read_body(
 /// section 6). AS numbers have two octets, or four where the session is wide. It takes a time that
 /// grows with the length of the frame, and for prefixes out of order with its product with the
 /// logarithm of their count.
-pub fn read_message(
-    alloc: Global,
-    bytes: &[u8],
-    expected: &Expected,
-) -> Result<Message, CodecFault>
+pub fn read_message(alloc: Global, bytes: &[u8], expected: &Expected) -> Result<Message, CodecFault>
     requires { frame_at bytes.now ≡ Some (bytes.now, []) }
     ensures { Answers result (message_of expected.now bytes.now) }
 {

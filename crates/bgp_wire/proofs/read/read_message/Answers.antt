@@ -1,4 +1,4 @@
-use Rattle.std.proofs.Common.{◌≡◌, ℕ, ◌≤◌, List, length, drop, get_or, true, false, subst, sym, ap, ◌∙◌, length-drop, rules, arith}
+use Rattle.std.proofs.Common.{◌≡◌, ℕ, List, drop, true, false, subst, sym, ap, length-drop, rules, arith}
 use Rattle.attr_codec.specs.Answers.{Stops, Answers}
 use Rattle.bgp_types.specs.FirstFault.{is_in_state, body_of}
 use Rattle.bgp_types.specs.Header.{kind_in}
