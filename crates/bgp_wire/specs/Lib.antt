@@ -3,3 +3,4 @@ pub mod Faults
 pub mod Fields
 pub mod Sets
 pub mod Written
+pub mod Worked
