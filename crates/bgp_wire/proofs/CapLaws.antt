@@ -1,12 +1,12 @@
 -- Parameters and capabilities, read one after another.
-use Rattle.std.proofs.Common.{◌≡◌, ℕ, ◌<◌, ◌≤◌, List, [], ◌∷◌, ◌++◌, length, take, drop, Bool, true, false, cond, eqb, ltb, Option, Some, None, Result, Ok, Err, refl, sym, ap, subst, ◌∙◌, arith, append_assoc, length-drop}
+use Rattle.std.proofs.Common.{◌≡◌, ℕ, ◌<◌, List, [], ◌∷◌, ◌++◌, length, drop, Bool, true, false, cond, eqb, ltb, Option, Some, None, Result, Ok, Err, refl, sym, ap, subst, ◌∙◌, arith, append_assoc, length-drop}
 use Rattle.std.specs.Prelude.{is_some}
 use Rattle.std.proofs.lemmas.List.{append-nil}
 use Rattle.std.proofs.lemmas.Option.{same_Some}
 use Rattle.bgp_types.specs.declared.message.Cap.{Cap}
 use Rattle.bgp_types.specs.declared.message.Notice.{Notice}
 use Rattle.bgp_types.specs.Faults.{fault_in}
-use Rattle.bgp_types.specs.Many.{many, many_within, if_whole, all_of}
+use Rattle.bgp_types.specs.Many.{many, if_whole, all_of}
 use Rattle.bgp_types.specs.OpenBody.{cap_at, open_fault, caps_of, with_caps, with_params}
 use Rattle.bgp_types.proofs.ManyLaws.{Shortens, after, after_more, many_some, many_none, kept_out}
 use Rattle.attr_codec.proofs.PathLaws.{stopped, finished}
@@ -51,9 +51,11 @@ pub record Adding (octets rest : List ℕ) (old new : List Cap) : Type 0 where
   pub added : new ≡ old ++ so_far.before
 
 pub adds_none : (octets : List ℕ) (old : List Cap) → Adding octets octets old old
+unfolding begins
 adds_none octets old = record { so_far = begins octets; added = sym (append-nil old) }
 
 pub adds_one : (octets rest : List ℕ) (old new : List Cap) (cap : Cap) (later : List ℕ) (new' : List Cap) → Adding octets rest old new → cap_at rest ≡ Some (cap, later) → new' ≡ new ++ cap ∷ [] → Adding octets later old new'
+unfolding goes_on
 adds_one octets rest old new cap later new' a e more = record {
   so_far = goes_on octets rest cap later a.so_far e;
   added = more ∙ (ap (λ (xs : List Cap). xs ++ cap ∷ []) a.added ∙ append_assoc old a.so_far.before (cap ∷ []));

@@ -1,13 +1,11 @@
 -- How long a frame of a type is, and how long the fields of a message are.
-use Rattle.std.proofs.Common.{◌≡◌, ℕ, ◌+◌, ◌-◌, ◌^◌, ◌<◌, ◌≤◌, List, [], ◌∷◌, ◌++◌, length, take, drop, get_or, Bool, true, false, cond, eqb, ltb, leb, Option, Some, None, refl, sym, ap, ◌∙◌, arith, subst, length-append, length-drop, length-take}
-use Rattle.std.specs.Prelude.{◌||◌, All, sum_by}
+use Rattle.std.proofs.Common.{◌≡◌, ℕ, ◌+◌, ◌<◌, ◌≤◌, List, [], ◌∷◌, ◌++◌, length, take, drop, Bool, true, false, cond, eqb, ltb, Option, Some, None, refl, ap, arith, subst, length-append, length-drop}
+use Rattle.std.specs.Prelude.{◌||◌, All}
 use Rattle.std.specs.List.{list_all, flat_map, AllByRecursion}
 use Rattle.std.specs.Int.{w16, to_be_bytes}
 use Rattle.std.proofs.lemmas.Bool.Decides.{nat_tests}
 use Rattle.std.proofs.lemmas.List.Elements.{All-from_recursion}
-use Rattle.attr_codec.specs.Fields.{FitsField}
 use Rattle.bgp_types.specs.declared.attrs.Attrs.{Attrs}
-use Rattle.bgp_types.specs.declared.fault.HeaderFault.{HeaderFault}
 use Rattle.bgp_types.specs.declared.fault.HeaderFault.TheVariants.{NotSynchronized, BadLength, BadType}
 use Rattle.bgp_types.specs.declared.message.Cap.{Cap}
 use Rattle.bgp_types.specs.declared.message.Message.{Message}

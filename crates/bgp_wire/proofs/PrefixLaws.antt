@@ -1,9 +1,9 @@
 -- Prefixes of a field, read one after another.
-use Rattle.std.proofs.Common.{◌≡◌, ℕ, ◌<◌, List, [], ◌∷◌, ◌++◌, length, map, Option, Some, None, refl, sym, ap, ◌∙◌, arith}
+use Rattle.std.proofs.Common.{◌≡◌, ℕ, ◌<◌, List, [], ◌∷◌, ◌++◌, length, map, Option, Some, None, refl, sym, ap, ◌∙◌}
 use Rattle.std.specs.Option.{option_map}
 use Rattle.std.proofs.lemmas.List.{map-append}
 use Rattle.std.proofs.lemmas.Option.{same_Some}
-use Rattle.bgp_types.specs.Many.{many, if_whole, all_of}
+use Rattle.bgp_types.specs.Many.{many}
 use Rattle.bgp_types.specs.Prefixes.{PrefixValue, WirePrefix, prefix_at, prefix_said}
 use Rattle.bgp_types.proofs.ManyLaws.{after, after_more}
 use Rattle.bgp_types.proofs.PrefixLaws.{prefix_reads}

@@ -76,9 +76,8 @@ fn read_body(
 /// Reads a whole frame with a sound header, as a framer gives it, in the state of a session: the
 /// message, or the NOTIFICATION that answers the first fault, in the state or in the body (RFC 4271,
 /// section 6). AS numbers have two octets, or four where the session is wide. It takes a time that
-/// grows with the length of the frame, and for prefixes out of order with its product with the
-/// logarithm of their count.
-#[tactic(auto, unfolding(bgp_types::specs::FirstFault::message_of))]
+/// grows with the length of the frame, and for its prefixes with the product of their count with the
+/// logarithm of that.
 pub fn read_message(alloc: Global, bytes: &[u8], expected: &Expected) -> Result<Message, CodecFault>
     requires { frame_at bytes.now ≡ Some (bytes.now, []) }
     ensures { Answers result (message_of expected.now bytes.now) }

@@ -2,7 +2,7 @@ use Rattle.std.proofs.Common.{◌≡◌, ◌<◌, rules, length, Some, None, sym
 use Rattle.attr_codec.specs.Answers.{Stops}
 use Rattle.bgp_types.specs.OpenBody.{cap_at}
 use Rattle.bgp_wire.specs.Caps.{cap_of, caps_fault}
-use Rattle.bgp_wire.proofs.CapLaws.{Adding, adds_none, adds_one, added_all, stops_short}
+use Rattle.bgp_wire.proofs.CapLaws.{adds_none, adds_one, added_all, stops_short}
 use Rattle.bgp_wire.proofs.open.add_caps.Goals as goal
 
 pub loop-rest-init : goal.loop-rest-init
