@@ -71,9 +71,9 @@ fn paths(rt: HostRuntime) -> Result<(), Fail> {
 #[test]
 fn all_attributes(rt: HostRuntime) -> Result<(), Fail> {
     let field = [
-        0xE0u8, 99, 2, 0xAA, 0xBB, 0xC0, 8, 0, 0x80, 4, 4, 0, 0, 0, 50, 0x40, 6, 0, 0xC0, 7, 6, 0x5B,
-        0xA0, 192, 0, 2, 1, 0xC0, 18, 8, 0, 1, 0x11, 0x70, 192, 0, 2, 2, 0x40, 3, 4, 192, 0, 2, 1,
-        0x40, 1, 1, 2,
+        0xE0u8, 99, 2, 0xAA, 0xBB, 0xC0, 8, 0, 0x80, 4, 4, 0, 0, 0, 50, 0x40, 6, 0, 0xC0, 7, 6,
+        0x5B, 0xA0, 192, 0, 2, 1, 0xC0, 18, 8, 0, 1, 0x11, 0x70, 192, 0, 2, 2, 0x40, 3, 4, 192, 0,
+        2, 1, 0x40, 1, 1, 2,
     ];
     let found = read(rt.alloc(), field.as_slice(), false)?;
     let aggregator = Aggregator {

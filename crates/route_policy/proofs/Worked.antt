@@ -6,10 +6,9 @@ use Rattle.bgp_types.specs.PathOctets.{path_octets}
 use Rattle.bgp_types.specs.Spelling.{spell, spell_attrs, attrs_written}
 use Rattle.bgp_types.specs.declared.attrs.Attrs.{Attrs}
 use Rattle.bgp_types.specs.declared.attrs.Origin.TheVariants.{Igp}
-use Rattle.bgp_types.specs.declared.attrs.Route.{Route}
 use Rattle.bgp_types.specs.declared.path.PathPart.TheVariants.{Sequence}
-use Rattle.bgp_types.specs.declared.rank.From.{From}
 use Rattle.bgp_types.specs.declared.rank.From.TheVariants.{Own, Peering, Router}
+use Rattle.route_policy.specs.declared.best.Best.{Best}
 use Rattle.route_policy.specs.declared.rule.Rule.{Rule}
 use Rattle.route_policy.specs.Candidates.{SessionRoute, RouterRoute, candidates, imported}
 use Rattle.route_policy.specs.Telling.{OutSide, tell_in, tell_out}
@@ -39,7 +38,7 @@ imported-loop = refl
 abbrev teller : RouterRoute
 teller = record { router = record { 0 = 1 }; identifier = 5; cost = 4; told = Some (record { attrs = heard; pref = 100 }) }
 
-places : map (λ c. c.0.0) (candidates 65000 prefix true (session ∷ []) (teller ∷ [])) ≡ Own ∷ (Peering (record { 0 = 3 }) ∷ (Router (record { 0 = 1 }) ∷ []))
+places : map (λ c. c.0.from) (candidates 65000 prefix true (session ∷ []) (teller ∷ [])) ≡ Own ∷ (Peering (record { 0 = 3 }) ∷ (Router (record { 0 = 1 }) ∷ []))
 places = refl
 
 ranks : map (λ c. c.1) (candidates 65000 prefix false (session ∷ []) (teller ∷ []))
@@ -50,8 +49,8 @@ ranks = refl
 abbrev out : OutSide
 out = record { peering = record { 0 = 2 }; local_address = 3221225990; export_rules = Some (record raises { med = Some 50 } ∷ []) }
 
-abbrev best : From × Route
-best = (Peering (record { 0 = 3 }), record { attrs = heard; pref = 200 })
+abbrev best : Best
+best = record { from = Peering (record { 0 = 3 }); route = record { attrs = heard; pref = 200 } }
 
 -- the home AS once more than the policy says, the local address, the policy's MED, Partial set
 told : tell_out 65000 out prefix (Some best)
@@ -66,8 +65,8 @@ unfolding spell spell_attrs attrs_written path_octets
 told-without_med = refl
 
 -- with an unknown attribute of so many octets the UPDATE has 4,096, and with one more it is too long
-abbrev grown : ℕ → From × Route
-grown n = (Peering (record { 0 = 3 }), record { attrs = record heard { unknown = record { kind = 200; partial = false; bytes = replicate n 1 } ∷ [] }; pref = 200 })
+abbrev grown : ℕ → Best
+grown n = record { from = Peering (record { 0 = 3 }); route = record { attrs = record heard { unknown = record { kind = 200; partial = false; bytes = replicate n 1 } ∷ [] }; pref = 200 } }
 
 told-longest : is_some (tell_out 65000 out prefix (Some (grown 4029))) ≡ true
 unfolding spell spell_attrs attrs_written path_octets
@@ -84,5 +83,5 @@ told-denied : tell_out 65000 (record out { export_rules = Some (record raises { 
 told-denied = refl
 
 -- a route that another home router told isn't told on inside
-told-inside : tell_in (Some (Router (record { 0 = 1 }), record { attrs = heard; pref = 100 })) ≡ None
+told-inside : tell_in (Some (record { from = Router (record { 0 = 1 }); route = record { attrs = heard; pref = 100 } })) ≡ None
 told-inside = refl

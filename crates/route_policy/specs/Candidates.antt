@@ -8,12 +8,12 @@ use Rattle.bgp_types.specs.Paths.{path_count, neighbour_of}
 use Rattle.bgp_types.specs.declared.attrs.Attrs.{Attrs}
 use Rattle.bgp_types.specs.declared.attrs.Origin.TheVariants.{Igp}
 use Rattle.bgp_types.specs.declared.attrs.Route.{Route}
-use Rattle.bgp_types.specs.declared.rank.From.{From}
 use Rattle.bgp_types.specs.declared.rank.From.TheVariants.{Own, Peering, Router}
 use Rattle.bgp_types.specs.declared.rank.Rank.{Rank}
 use Rattle.bgp_types.specs.Spelling.{origin_number}
 use Rattle.route_policy.specs.Rules.{holds_as}
 use Rattle.route_policy.specs.Policies.{policy}
+use Rattle.route_policy.specs.declared.best.Best.{Best}
 use Rattle.route_policy.specs.declared.rule.Rule.{Rule}
 
 -- what a session, or the shadow of one that moved away, gives for a prefix: the identifier of the
@@ -35,7 +35,7 @@ pub record RouterRoute : Type 0 where
 
 -- a candidate: where it comes from and the route, and beside them the rank by which the choice goes
 abbrev pub Candidate : Type 0
-Candidate = (From × Route) × Rank
+Candidate = Best × Rank
 
 -- ---- ranks
 
@@ -78,7 +78,7 @@ own_route = record {
 }
 
 abbrev pub own_candidates : ℕ → Bool → List Candidate
-own_candidates home_as has_network = if has_network then ((Own, own_route), own_rank home_as) ∷ [] else []
+own_candidates home_as has_network = if has_network then (record { from = Own; route = own_route }, own_rank home_as) ∷ [] else []
 
 -- What a session brings in. A route whose path has the home AS would be a loop and is none
 -- (section 9.1.2). Preference is 100 where the policy sets none; an absent policy lets all through.
@@ -91,13 +91,13 @@ imported home_as prefix session (Some heard) =
 abbrev pub session_candidate : ℕ → SessionRoute → Option Route → Option Candidate
 session_candidate home_as session None = None
 session_candidate home_as session (Some route) =
-    Some ((Peering session.peering, route), rank_of home_as true 0 session.identifier session.address route)
+    Some (record { from = Peering session.peering; route = route }, rank_of home_as true 0 session.identifier session.address route)
 
 -- a told route has the telling router's identifier for its identifier and its address
 abbrev pub router_candidate : ℕ → RouterRoute → Option Route → Option Candidate
 router_candidate home_as teller None = None
 router_candidate home_as teller (Some route) =
-    Some ((Router teller.router, route), rank_of home_as false teller.cost teller.identifier teller.identifier route)
+    Some (record { from = Router teller.router; route = route }, rank_of home_as false teller.cost teller.identifier teller.identifier route)
 
 -- The own network first, then the sessions and shadows by rising peering, then the other routers by
 -- rising number.

@@ -12,15 +12,19 @@ use Rattle.bgp_types.specs.declared.rank.From.{From}
 use Rattle.bgp_types.specs.declared.rank.From.TheVariants.{Own, Peering, Router}
 use Rattle.route_policy.specs.Paths.{prepend}
 use Rattle.route_policy.specs.Policies.{policy}
+use Rattle.route_policy.specs.declared.best.Best.{Best}
 use Rattle.route_policy.specs.declared.rule.Rule.{Rule}
 
 -- ---- to another home router: the best, where it is own or external
 
-abbrev pub tell_in : Option (From × Route) → Option Route
+abbrev pub inside : From → Route → Option Route
+inside Own route = Some route
+inside (Peering peering) route = Some route
+inside (Router router) route = None
+
+abbrev pub tell_in : Option Best → Option Route
 tell_in None = None
-tell_in (Some (Own, route)) = Some route
-tell_in (Some (Peering peering, route)) = Some route
-tell_in (Some (Router router, route)) = None
+tell_in (Some best) = inside best.from best.route
 
 -- ---- on a session
 
@@ -72,8 +76,8 @@ told_where_it_fits home_as out prefix (Some route) =
 
 -- Nothing is told where there is no best, where it came from this peering, where the export policy
 -- denies it, or where its UPDATE would be too long in either width.
-abbrev pub tell_out : ℕ → OutSide → PrefixValue → Option (From × Route) → Option Attrs
+abbrev pub tell_out : ℕ → OutSide → PrefixValue → Option Best → Option Attrs
 tell_out home_as out prefix None = None
-tell_out home_as out prefix (Some (from, route)) =
-    if comes_from from out.peering then None
-    else told_where_it_fits home_as out prefix (exported home_as out prefix route)
+tell_out home_as out prefix (Some best) =
+    if comes_from best.from out.peering then None
+    else told_where_it_fits home_as out prefix (exported home_as out prefix best.route)
