@@ -1,26 +1,20 @@
 -- The messages that the tests write are writable, and what the tests read is whole.
-use Rattle.std.proofs.Common.{◌≡◌, ℕ, ◌^◌, ◌<◌, ◌≤◌, List, [], ◌∷◌, ◌++◌, length, Bool, true, false, Some, None, refl, sym, subst, lit<, lit≤, arith}
+use Rattle.std.proofs.Common.{◌≡◌, ℕ, ◌^◌, ◌<◌, ◌≤◌, List, [], ◌∷◌, length, true, false, Some, refl, subst, lit<, lit≤, arith}
 use Rattle.std.specs.Prelude.{All}
 use Rattle.std.specs.List.{IsDistinct}
 use Rattle.std.proofs.lemmas.List.{append-nil}
 use Rattle.std.proofs.lemmas.List.Elements.{All-from_recursion}
-use Rattle.bgp_types.specs.declared.attrs.Attrs.{Attrs}
-use Rattle.bgp_types.specs.declared.attrs.Origin.TheVariants as origins
 use Rattle.bgp_types.specs.declared.attrs.RawAttr.{RawAttr}
 use Rattle.bgp_types.specs.declared.message.Cap.{Cap}
-use Rattle.bgp_types.specs.declared.message.Message.{Message}
 use Rattle.bgp_types.specs.declared.message.Message.TheVariants as messages
-use Rattle.bgp_types.specs.declared.message.Notice.{Notice}
-use Rattle.bgp_types.specs.declared.message.OpenMsg.{OpenMsg}
-use Rattle.bgp_types.specs.declared.message.Update.{Update}
 use Rattle.bgp_types.specs.declared.path.PathPart.TheVariants as parts
 use Rattle.bgp_types.specs.Header.{frame_at}
 use Rattle.bgp_types.specs.PathOctets.{path_octets}
-use Rattle.bgp_types.specs.Prefixes.{PrefixValue, IsPrefix}
+use Rattle.bgp_types.specs.Prefixes.{IsPrefix}
 use Rattle.bgp_types.specs.Spelling.{attrs_written, spell_attrs, spell}
 use Rattle.bgp_types.specs.Rising.{IsRising}
 use Rattle.bgp_types.specs.Values.{is_no_host, other_kind}
-use Rattle.bgp_types.specs.Writable.{IsPart, IsOther, IsWritableAttrs, IsWritableOpen, IsWritableUpdate, IsWritableBody, IsWritable}
+use Rattle.bgp_types.specs.Writable.{IsPart, IsOther, IsWritableBody, IsWritable}
 use Rattle.bgp_types.proofs.FrameLaws.{front_frame}
 use Rattle.bgp_types.proofs.Lengths.{framed_size}
 use Rattle.bgp_wire.specs.Worked.{ten, announced, withdrawn, opened}

@@ -1,6 +1,5 @@
 -- Messages that the tests write.
 use Rattle.std.specs.Prelude.{ℕ, List, [], ◌∷◌, Some, None, false}
-use Rattle.bgp_types.specs.declared.attrs.Attrs.{Attrs}
 use Rattle.bgp_types.specs.declared.attrs.Origin.TheVariants as origins
 use Rattle.bgp_types.specs.declared.attrs.RawAttr.{RawAttr}
 use Rattle.bgp_types.specs.declared.message.Cap.{Cap}

@@ -1,4 +1,4 @@
-use Rattle.std.proofs.Common.{[], false, subst, sym, ap, ◌∙◌}
+use Rattle.std.proofs.Common.{false, subst, sym, ap, ◌∙◌}
 use Rattle.bgp_types.specs.declared.message.Message.{Message}
 use Rattle.bgp_types.specs.Writable.{IsWritable}
 use Rattle.bgp_wire.specs.Worked.{opened}
