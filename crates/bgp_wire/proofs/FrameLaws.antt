@@ -1,12 +1,12 @@
 -- How long a frame of a type is, and how long the fields of a message are.
-use Rattle.std.proofs.Common.{◌≡◌, ℕ, ◌+◌, ◌<◌, ◌≤◌, List, [], ◌∷◌, ◌++◌, length, take, drop, Bool, true, false, cond, eqb, ltb, Option, Some, None, refl, ap, arith, subst, length-append, length-drop}
-use Rattle.std.specs.Prelude.{◌||◌, All}
+use Rattle.std.proofs.Common.{◌≡◌, ℕ, ◌+◌, ◌<◌, ◌≤◌, List, [], ◌∷◌, ◌++◌, length, take, drop, Bool, true, false, cond, eqb, Option, Some, None, ap, arith, subst, length-append, length-drop}
+use Rattle.std.specs.Prelude.{All}
 use Rattle.std.specs.List.{list_all, flat_map, AllByRecursion}
 use Rattle.std.specs.Int.{w16, to_be_bytes}
 use Rattle.std.proofs.lemmas.Bool.Decides.{nat_tests}
 use Rattle.std.proofs.lemmas.List.Elements.{All-from_recursion}
 use Rattle.bgp_types.specs.declared.attrs.Attrs.{Attrs}
-use Rattle.bgp_types.specs.declared.fault.HeaderFault.TheVariants.{NotSynchronized, BadLength, BadType}
+use Rattle.bgp_types.specs.declared.fault.HeaderFault.TheVariants.{NotSynchronized}
 use Rattle.bgp_types.specs.declared.message.Cap.{Cap}
 use Rattle.bgp_types.specs.declared.message.Message.{Message}
 use Rattle.bgp_types.specs.declared.message.Message.TheVariants as messages
@@ -17,6 +17,7 @@ use Rattle.bgp_types.specs.Spelling.{counted, cap_octets, param_octets, spell_pr
 use Rattle.bgp_types.specs.Writable.{HasAttrsFor, IsWritable, IsWritableBody}
 use Rattle.bgp_types.proofs.FrameLaws.{frame_is}
 use Rattle.bgp_types.proofs.Lengths.{framed_size}
+use Rattle.bgp_types.proofs.MessageLaws.{room_is}
 use Rattle.bgp_wire.specs.Written.{FitsSome, FitsUpdate, FitsBody}
 
 -- what a whole frame has
@@ -26,21 +27,11 @@ pub record IsSound (frame : List ℕ) : Type 0 where
   pub open_long : kind_in frame ≡ 1 → 29 ≤ length frame
   pub notice_long : kind_in frame ≡ 3 → 21 ≤ length frame
 
-kind_room : (kind len : ℕ) → fault_of_kind kind len ≡ None → has_room kind len ≡ true
-kind_room kind len e = by_test (ltb len 19) (ltb 4096 len) (eqb kind 0) (ltb 4 kind) (has_room kind len) e where
-  by_test : (t u v w x : Bool) → cond (t || u) (Some (BadLength len)) (cond (v || w) (Some (BadType kind)) (cond x None (Some (BadLength len)))) ≡ None → x ≡ true
-  by_test true u v w x e = absurd cc
-  by_test false true v w x e = absurd cc
-  by_test false false true w x e = absurd cc
-  by_test false false false true x e = absurd cc
-  by_test false false false false false e = absurd cc
-  by_test false false false false true e = refl
-
 sound_room : (bytes : List ℕ) → header_fault bytes ≡ None → has_room (kind_in bytes) (len_in bytes) ≡ true
 unfolding header_fault
 sound_room bytes e = by_test (list_all (λ b. eqb b 255) (take 16 bytes)) e where
   by_test : (t : Bool) → cond t (fault_of_kind (kind_in bytes) (len_in bytes)) (Some NotSynchronized) ≡ None → has_room (kind_in bytes) (len_in bytes) ≡ true
-  by_test true e = kind_room (kind_in bytes) (len_in bytes) e
+  by_test true e = (room_is (kind_in bytes) (len_in bytes) e).room
   by_test false e = absurd cc
 
 open_room : (kind len : ℕ) → has_room kind len ≡ true → kind ≡ 1 → 29 ≤ len
