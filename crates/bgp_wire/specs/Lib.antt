@@ -1,0 +1,6 @@
+pub mod Caps
+pub mod Faults
+pub mod Fields
+pub mod Sets
+pub mod Written
+pub mod Worked

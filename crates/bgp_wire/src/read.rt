@@ -1,0 +1,91 @@
+//! Reading a whole frame.
+
+ghost use Rattle.std.specs.Prelude.{◌≡◌, ◌≤◌, [], length, Some, IfOk};
+ghost use Rattle.attr_codec.specs.Answers.{Answers};
+ghost use Rattle.bgp_types.specs.FirstFault.{is_in_state, notice_of, body_of, message_of};
+ghost use Rattle.bgp_types.specs.Header.{frame_at};
+
+use crate::number::fault;
+use crate::open::read_open;
+use crate::update::read_update;
+use attr_codec::CodecFault;
+use bgp_types::{Expected, Message, NoMemory, Notice, Octets, SessionState};
+use std::alloc::Global;
+
+/// The types of messages.
+pub const OPEN: u8 = 1;
+
+pub const UPDATE: u8 = 2;
+
+pub const NOTIFICATION: u8 = 3;
+
+pub const KEEPALIVE: u8 = 4;
+
+/// The octets of a header.
+pub const HEADER: usize = 19;
+
+/// The code of a fault in the state machine.
+const STATE_FAULT: u8 = 5;
+
+/// Whether a session in this state takes a message of this type.
+fn is_in_state(state: SessionState, kind: u8) -> bool
+    ensures { result ≡ is_in_state state kind }
+{
+    match state {
+        SessionState::OpenSent => kind == OPEN || kind == NOTIFICATION,
+        SessionState::OpenConfirm => kind == KEEPALIVE || kind == NOTIFICATION,
+        SessionState::Established => { kind == KEEPALIVE || kind == UPDATE || kind == NOTIFICATION }
+        SessionState::Closed => kind == NOTIFICATION,
+    }
+}
+
+/// What a NOTIFICATION says: code, subcode and data.
+fn read_notice(alloc: Global, body: &[u8]) -> Result<Notice, NoMemory>
+    requires { 2 ≤ length body.now }
+    ensures { IfOk result (λ n. n ≡ notice_of body.now) }
+{
+    let (code, subcode) = (body[0], body[1]);
+    let (_, info) = body.split_at(2);
+    Ok(Notice {
+        code,
+        subcode,
+        info: Octets::from_slice(alloc, info)?,
+    })
+}
+
+/// The message of a type with this body, or the first fault of the body.
+#[tactic(auto, unfolding(bgp_types::specs::FirstFault::body_of))]
+fn read_body(
+    alloc: Global,
+    kind: u8,
+    body: &[u8],
+    expected: &Expected,
+) -> Result<Message, CodecFault>
+    requires open_long { kind ≡ 1 → 10 ≤ length body.now }
+    requires notice_long { kind ≡ 3 → 2 ≤ length body.now }
+    ensures { Answers result (body_of expected.now kind body.now) }
+{
+    match kind {
+        OPEN => Ok(Message::OpenMsg(read_open(alloc, body, expected)?)),
+        UPDATE => Ok(Message::UpdateMsg(read_update(alloc, body, expected.wide)?)),
+        NOTIFICATION => Ok(Message::NoticeMsg(read_notice(alloc, body)?)),
+        _ => Ok(Message::KeepaliveMsg),
+    }
+}
+
+/// Reads a whole frame with a sound header, as a framer gives it, in the state of a session: the
+/// message, or the NOTIFICATION that answers the first fault, in the state or in the body (RFC 4271,
+/// section 6). AS numbers have two octets, or four where the session is wide. It takes a time that
+/// grows with the length of the frame, and for its prefixes with the product of their count with the
+/// logarithm of that.
+pub fn read_message(alloc: Global, bytes: &[u8], expected: &Expected) -> Result<Message, CodecFault>
+    requires { frame_at bytes.now ≡ Some (bytes.now, []) }
+    ensures { Answers result (message_of expected.now bytes.now) }
+{
+    let kind = bytes[18];
+    if !is_in_state(expected.state, kind) {
+        return Err(fault(alloc, STATE_FAULT, 0, &[]));
+    }
+    let (_, body) = bytes.split_at(HEADER);
+    read_body(alloc, kind, body, expected)
+}

@@ -1,0 +1,76 @@
+//! Sets of prefixes, by which a prefix that stood before is found.
+
+ghost use Rattle.std.specs.Prelude.{◌≡◌, [], true, not, IfOk, OnOk, if◌then◌else◌};
+ghost use Rattle.bgp_types.specs.Prefixes.{PrefixValue, same_prefix, put_once, once_after};
+ghost use Rattle.bgp_wire.specs.Sets.{has, IsSetOf};
+
+use bgp_types::{NoMemory, Prefix, PrefixList};
+use std::alloc::Global;
+use std::collections::BTreeSet;
+
+/// A set of prefixes.
+#[derive(Drop)]
+pub struct PrefixSet {
+    prefixes: BTreeSet<Prefix>,
+}
+
+impl PrefixSet {
+    /// No prefix.
+    pub fn new(alloc: Global) -> PrefixSet
+        ensures { IsSetOf result [] }
+    {
+        PrefixSet {
+            prefixes: BTreeSet::new(alloc),
+        }
+    }
+
+    /// Puts a prefix in, and answers whether it is new.
+    #[tactic(auto, using(crate::proofs::SetLaws::is_same))]
+    fn put(&mut self, prefix: Prefix) -> Result<bool, NoMemory>
+        ensures new { IfOk result (λ new. new ≡ not (has self.old prefix)) }
+        ensures all { OnOk result ((p : PrefixValue) → has self.new p ≡ (if same_prefix p prefix then true else has self.old p)) }
+    {
+        Ok(self.prefixes.insert(prefix)?)
+    }
+
+    /// The set of these prefixes.
+    pub fn of(alloc: Global, prefixes: &[Prefix]) -> Result<PrefixSet, NoMemory>
+        ensures { IfOk result (λ set. IsSetOf set prefixes.now) }
+    {
+        let mut set = PrefixSet::new(alloc);
+        for prefix in prefixes {
+            set.put(*prefix)?;
+        }
+        Ok(set)
+    }
+
+    pub fn has(&self, prefix: Prefix) -> bool
+        ensures { result ≡ has self.now prefix }
+    {
+        self.prefixes.contains(&prefix)
+    }
+}
+
+/// Puts a prefix at the end of a list, unless it is there; the set has the prefixes of the list.
+fn put_once(set: &mut PrefixSet, list: &mut PrefixList, prefix: Prefix) -> Result<(), NoMemory>
+    requires { IsSetOf set.old list.old }
+    ensures list { OnOk result (list.new ≡ put_once list.old prefix) }
+    ensures set { OnOk result (IsSetOf set.new list.new) }
+{
+    if set.put(prefix)? {
+        list.push(prefix)?;
+    }
+    Ok(())
+}
+
+/// The prefixes, each once, at its first place.
+pub fn once(alloc: Global, prefixes: &[Prefix]) -> Result<PrefixList, NoMemory>
+    ensures { IfOk result (λ list. list ≡ once_after [] prefixes.now) }
+{
+    let mut set = PrefixSet::new(alloc);
+    let mut list = PrefixList::new(alloc);
+    for prefix in prefixes {
+        put_once(&mut set, &mut list, *prefix)?;
+    }
+    Ok(list)
+}
