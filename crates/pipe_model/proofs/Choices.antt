@@ -14,7 +14,8 @@ use Rattle.route_policy.specs.Rules.{holds_as}
 use Rattle.route_policy.specs.declared.best.Best.{Best}
 use Rattle.pipe_model.specs.declared.pipe.Pipe.{Pipe}
 use Rattle.pipe_model.specs.Worlds.{Session}
-use Rattle.pipe_model.specs.Decisions.{the_peering, chosen, session_route}
+use Rattle.route_policy.specs.Telling.{tell_out}
+use Rattle.pipe_model.specs.Decisions.{the_peering, chosen, session_route, out_side}
 
 -- ---- a list of one
 
@@ -102,3 +103,12 @@ chosen_is pipe s p = by_heard (map.get s.heard p) refl where
   by_heard : (heard : Option Attrs) → map.get s.heard p ≡ heard → choice (candidates pipe.home_as p false (route heard ∷ []) []) ≡ brought pipe heard
   by_heard None e = choice_none
   by_heard (Some attrs) e = by_loop attrs (holds_as attrs.path pipe.home_as) refl
+
+-- what the session brings in isn't told on it
+pub brought_untold : (pipe : Pipe) (p : PrefixValue) (o : Option Attrs) → tell_out pipe.home_as (out_side pipe) p (brought pipe o) ≡ None
+unfolding brought
+brought_untold pipe p None = refl
+brought_untold pipe p (Some attrs) = by_loop (holds_as attrs.path pipe.home_as) where
+  by_loop : (t : Bool) → tell_out pipe.home_as (out_side pipe) p (cond t None (Some (record { from = Peering the_peering; route = record { attrs = attrs; pref = 100 } }))) ≡ None
+  by_loop true = refl
+  by_loop false = refl

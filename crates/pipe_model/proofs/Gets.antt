@@ -1,5 +1,5 @@
 -- A message that is got keeps what is kept.
-use Rattle.std.proofs.Common.{◌≡◌, ℕ, false, List, ◌∷◌, ◌++◌, Option, None, Result, refl, sym, ap, ◌∙◌, subst, append_assoc}
+use Rattle.std.proofs.Common.{◌≡◌, ℕ, true, false, List, ◌∷◌, ◌++◌, Option, None, Result, refl, sym, ap, ◌∙◌, subst, append_assoc}
 use Rattle.std.specs.Prelude.{◌≢◌, fold}
 use Rattle.std.specs.FinMap as map
 use Rattle.std.proofs.lemmas.List.{append-nil}
@@ -25,7 +25,7 @@ use Rattle.pipe_model.specs.Worlds.{Session, World, has}
 use Rattle.pipe_model.specs.Decisions.{to_tell}
 use Rattle.pipe_model.specs.Rows.{GetsRow, due_then}
 use Rattle.pipe_model.specs.Claims.{IsFront}
-use Rattle.pipe_model.proofs.Tables.{no_best}
+use Rattle.pipe_model.proofs.Tables.{has_none, no_best}
 use Rattle.pipe_model.proofs.Choices.{brought}
 use Rattle.pipe_model.proofs.Replies.{answer_gets, answer_tells, answer_hears, while_unclosed, established_from, confirmed_from, same_update}
 use Rattle.pipe_model.proofs.Keeping.{Keeps, same_session, unread_is, front_longer}
@@ -135,7 +135,7 @@ module _ (pipe : Pipe) (w v : World) (row : GetsRow pipe w v) (k : Keeps pipe w 
   -- what was told before it was established is nothing
   due_from : (state next : SessionState) → before ≡ state → row.next ≡ next → next ≡ Established → (p : PrefixValue) → has (due_then state next w.best w.due) p ≡ false → map.get s.told p ≡ to_tell pipe w p
   due_from OpenSent Established e f g p h = absurd (established_from (expected (session_of pipe) s.story before) row.bytes row.answer (row.reply ∙ ap (λ (x : SessionState). (row.answer, x)) f) e)
-  due_from OpenConfirm Established e f g p h = k.untold p (λ x. let y : OpenConfirm ≡ Established = sym e ∙ x in absurd cc) ∙ sym (ap (λ (x : Option _). Rattle.route_policy.specs.Telling.tell_out pipe.home_as (Rattle.pipe_model.specs.Decisions.out_side pipe) p x) (no_best w.best w.due p h))
+  due_from OpenConfirm Established e f g p h = k.untold p ∙ sym (ap (λ (x : Option _). Rattle.route_policy.specs.Telling.tell_out pipe.home_as (Rattle.pipe_model.specs.Decisions.out_side pipe) p x) (no_best w.best w.due p h))
   due_from Established Established e f g p h = k.due p h e
   due_from Closed Established e f g p h = absurd (row.unclosed e)
   due_from state OpenSent e f g p h = absurd cc
@@ -147,11 +147,36 @@ module _ (pipe : Pipe) (w v : World) (row : GetsRow pipe w v) (k : Keeps pipe w 
       let e : row.next ≡ Established = sym then_is ∙ up in
       ap (λ (x : SessionState). map.get (unless_closed x s.told) p) e ∙ due_from before row.next refl refl e p h
 
-  untold_from : (next : SessionState) → row.next ≡ next → next ≢ Established → (p : PrefixValue) → map.get (unless_closed next s.told) p ≡ None
-  untold_from OpenSent f o p = k.untold p (λ x. let y = sym (confirmed_from (expected (session_of pipe) s.story before) row.bytes row.answer row.next row.reply (λ z. o (sym f ∙ z)) (λ z. let q : OpenSent ≡ Closed = sym f ∙ z in absurd cc)) ∙ x in absurd cc)
-  untold_from OpenConfirm f o p = k.untold p (λ x. let y = sym (confirmed_from (expected (session_of pipe) s.story before) row.bytes row.answer row.next row.reply (λ z. o (sym f ∙ z)) (λ z. let q : OpenConfirm ≡ Closed = sym f ∙ z in absurd cc)) ∙ x in absurd cc)
-  untold_from Established f o p = absurd (o refl)
-  untold_from Closed f o p = map.get-empty prefix_cmp p
+  untold_from : (next : SessionState) (p : PrefixValue) → map.get (unless_closed next s.told) p ≡ None
+  untold_from OpenSent p = k.untold p
+  untold_from OpenConfirm p = k.untold p
+  untold_from Established p = k.untold p
+  untold_from Closed p = map.get-empty prefix_cmp p
+
+  -- an established session stays so until it is closed
+  stays : (next : SessionState) → row.next ≡ next → next ≢ Closed → before ≡ Established → next ≡ Established
+  stays OpenSent f c e = let y = sym (confirmed_from (expected (session_of pipe) s.story before) row.bytes row.answer row.next row.reply (λ z. let q : OpenSent ≡ Established = sym f ∙ z in absurd cc) (λ z. c (sym f ∙ z))) ∙ e in absurd cc
+  stays OpenConfirm f c e = let y = sym (confirmed_from (expected (session_of pipe) s.story before) row.bytes row.answer row.next row.reply (λ z. let q : OpenConfirm ≡ Established = sym f ∙ z in absurd cc) (λ z. c (sym f ∙ z))) ∙ e in absurd cc
+  stays Established f c e = refl
+  stays Closed f c e = absurd (c refl)
+
+  up_from : (state next : SessionState) → before ≡ state → row.next ≡ next → (p : PrefixValue) → has (due_then state next w.best w.due) p ≡ true → next ≡ Established
+  up_from OpenSent OpenSent e f p h = stays OpenSent f (λ c. absurd cc) (k.due_up p h)
+  up_from OpenSent OpenConfirm e f p h = stays OpenConfirm f (λ c. absurd cc) (k.due_up p h)
+  up_from OpenSent Established e f p h = stays Established f (λ c. absurd cc) (k.due_up p h)
+  up_from OpenSent Closed e f p h = let n = has_none p in absurd cc
+  up_from OpenConfirm OpenSent e f p h = stays OpenSent f (λ c. absurd cc) (k.due_up p h)
+  up_from OpenConfirm OpenConfirm e f p h = stays OpenConfirm f (λ c. absurd cc) (k.due_up p h)
+  up_from OpenConfirm Established e f p h = refl
+  up_from OpenConfirm Closed e f p h = let n = has_none p in absurd cc
+  up_from Established OpenSent e f p h = stays OpenSent f (λ c. absurd cc) (k.due_up p h)
+  up_from Established OpenConfirm e f p h = stays OpenConfirm f (λ c. absurd cc) (k.due_up p h)
+  up_from Established Established e f p h = stays Established f (λ c. absurd cc) (k.due_up p h)
+  up_from Established Closed e f p h = let n = has_none p in absurd cc
+  up_from Closed OpenSent e f p h = stays OpenSent f (λ c. absurd cc) (k.due_up p h)
+  up_from Closed OpenConfirm e f p h = stays OpenConfirm f (λ c. absurd cc) (k.due_up p h)
+  up_from Closed Established e f p h = stays Established f (λ c. absurd cc) (k.due_up p h)
+  up_from Closed Closed e f p h = let n = has_none p in absurd cc
 
   pub gets_keeps : Keeps pipe v after
   gets_keeps = subst (λ (x : World). Keeps pipe x after) (sym row.effect) (record {
@@ -165,5 +190,7 @@ module _ (pipe : Pipe) (w v : World) (row : GetsRow pipe w v) (k : Keeps pipe w 
     told = told_is;
     best = λ p clean. k.best p (row.marks.clean p clean).0 ∙ ap (brought pipe) (sym (row.marks.clean p clean).1);
     due = due_is;
-    untold = λ p down. untold_from row.next refl (λ x. down (then_is ∙ x)) p;
+    untold = untold_from row.next;
+    own_way = k.own_way;
+    due_up = λ p h. then_is ∙ up_from before row.next refl refl p h;
   })

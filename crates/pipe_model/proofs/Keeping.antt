@@ -12,8 +12,12 @@ use Rattle.bgp_story.specs.States.{state_of}
 use Rattle.pipe_model.specs.declared.pipe.Pipe.{Pipe}
 use Rattle.pipe_model.specs.Pipes.{session_of}
 use Rattle.pipe_model.specs.Worlds.{Session, World, unread, has, first_world, first_session}
-use Rattle.pipe_model.specs.Decisions.{to_tell}
+use Rattle.bgp_types.specs.declared.attrs.Attrs.{Attrs}
+use Rattle.route_policy.specs.declared.best.Best.{Best}
+use Rattle.route_policy.specs.Telling.{tell_out}
+use Rattle.pipe_model.specs.Decisions.{to_tell, out_side}
 use Rattle.pipe_model.specs.Claims.{IsFront, placement}
+use Rattle.pipe_model.proofs.Tables.{has_none}
 use Rattle.pipe_model.proofs.Choices.{brought}
 
 -- ---- fronts
@@ -59,7 +63,11 @@ pub record Keeps (pipe : Pipe) (w : World) (s : Session) : Type 0 where
   pub told : s.told ≡ told s.story
   pub best : (p : PrefixValue) → has w.dirty p ≡ false → map.get w.best p ≡ brought pipe (map.get s.heard p)
   pub due : (p : PrefixValue) → has w.due p ≡ false → state_of s.story ≡ Established → map.get s.told p ≡ to_tell pipe w p
-  pub untold : (p : PrefixValue) → state_of s.story ≢ Established → map.get s.told p ≡ None
+  -- nothing is ever told, since each best route comes from the session; and only an established session has
+  -- anything due
+  pub untold : (p : PrefixValue) → map.get s.told p ≡ None
+  pub own_way : (p : PrefixValue) → to_tell pipe w p ≡ None
+  pub due_up : (p : PrefixValue) → has w.due p ≡ true → state_of s.story ≡ Established
 
 pub same_session : {pipe : Pipe} {w : World} {s t : Session} → Keeps pipe w s → w.held ≡ Some t → Keeps pipe w t
 same_session {pipe} {w} {s} {t} k e = subst (λ (x : Session). Keeps pipe w x) (same_Some _ _ (sym k.held ∙ e)) k
@@ -67,6 +75,10 @@ same_session {pipe} {w} {s} {t} k e = subst (λ (x : Session). Keeps pipe w x) (
 -- what is unread follows what was got
 pub unread_is : {pipe : Pipe} {w : World} {s : Session} → Keeps pipe w s → s.arrived ≡ got_bytes s.story ++ unread s
 unread_is {pipe} {w} {s} k = k.got.is ∙ ap (λ (l : List ℕ). got_bytes s.story ++ l) (sym (ap (drop (length (got_bytes s.story))) k.got.is ∙ drop_front (got_bytes s.story) k.got.rest))
+
+-- what is to be told of a best route
+abbrev pub to_tell_of : Pipe → PrefixValue → Option Best → Option Attrs
+to_tell_of pipe p best = tell_out pipe.home_as (out_side pipe) p best
 
 none_brought : (pipe : Pipe) → brought pipe None ≡ None
 unfolding brought
@@ -84,5 +96,7 @@ first_keeps pipe = record {
   told = refl;
   best = λ p clean. map.get-empty prefix_cmp p ∙ (sym (none_brought pipe) ∙ ap (brought pipe) (sym (map.get-empty prefix_cmp p)));
   due = λ p clean up. absurd cc;
-  untold = λ p down. map.get-empty prefix_cmp p;
+  untold = λ p. map.get-empty prefix_cmp p;
+  own_way = λ p. ap (to_tell_of pipe p) (map.get-empty prefix_cmp p);
+  due_up = λ p e. let n = has_none p in absurd cc;
 }

@@ -39,7 +39,7 @@ run_keeps pipe (event ∷ events) w v s k run =
     let next : Kept pipe run.0 = step_keeps pipe event w run.0 s k run.1 in
     run_keeps pipe events run.0 v next.0 next.1 run.2
 
-kept : (pipe : Pipe) (events : List Event) (w : World) → Run pipe (first_world pipe) events w → Kept pipe w
+pub kept : (pipe : Pipe) (events : List Event) (w : World) → Run pipe (first_world pipe) events w → Kept pipe w
 kept pipe events w run = run_keeps pipe events (first_world pipe) w (first_session pipe) (first_keeps pipe) run
 
 one_is : {pipe : Pipe} {w : World} {s : Session} → Keeps pipe w s → sessions_in w ≡ s ∷ []
@@ -81,7 +81,7 @@ solves pipe events w sound run q = of (kept pipe events w run) where
         place = sound.start;
         pointer = k.pointer;
         best = λ p. k.best p (not_in w.dirty q.decided p) ∙ (sym (chosen_is pipe s p) ∙ ap (λ (x : Option Session). chosen pipe x p) (sym k.held));
-        told = λ p. told_by_state (state_of s.story) (map.get s.told p) (to_tell pipe w p) (k.due p (not_in w.due q.told p)) (k.untold p);
+        told = λ p. told_by_state (state_of s.story) (map.get s.told p) (to_tell pipe w p) (k.due p (not_in w.due q.told p)) (λ down. k.untold p);
         received = rest.received;
         got = record {
           rest = unread s;

@@ -1,10 +1,10 @@
 -- Every event keeps what is kept.
-use Rattle.std.proofs.Common.{◌≡◌, ℕ, ◌+◌, Bool, true, false, cond, List, length, take, Option, Some, refl, sym, ap, ◌∙◌, subst, inl, inr}
+use Rattle.std.proofs.Common.{◌≡◌, ℕ, ◌+◌, Bool, true, false, cond, List, length, take, Option, Some, None, refl, sym, ap, ◌∙◌, subst, inl, inr}
 use Rattle.std.specs.Prelude.{◌≢◌, ◌&&◌, ◌⊎◌}
 use Rattle.std.specs.FinMap as map
 use Rattle.bgp_types.specs.declared.attrs.Attrs.{Attrs}
 use Rattle.bgp_types.specs.declared.message.SessionState.{SessionState}
-use Rattle.bgp_types.specs.declared.message.SessionState.TheVariants.{Established}
+use Rattle.bgp_types.specs.declared.message.SessionState.TheVariants.{OpenSent, OpenConfirm, Established, Closed}
 use Rattle.bgp_types.specs.Prefixes.{PrefixValue}
 use Rattle.bgp_story.specs.Readings.{put_bytes, told}
 use Rattle.bgp_story.specs.States.{state_of}
@@ -17,13 +17,13 @@ use Rattle.pipe_model.specs.Decisions.{chosen, to_tell, out_side}
 use Rattle.pipe_model.specs.Rows.{PassesRow, DecidesRow, SaysRow, OrdersRow, CarriesHome, CarriesOut, due_in, due_on, with_best}
 use Rattle.pipe_model.specs.Claims.{IsFront}
 use Rattle.pipe_model.proofs.Tables.{same, same_is, has_put, has_removed, none_of, get_with}
-use Rattle.pipe_model.proofs.Choices.{brought, chosen_is}
-use Rattle.pipe_model.proofs.Keeping.{Keeps, same_session, front_trans, front_longer, front_taken, front_next}
+use Rattle.pipe_model.proofs.Choices.{brought, chosen_is, brought_untold}
+use Rattle.pipe_model.proofs.Keeping.{Keeps, to_tell_of, same_session, front_trans, front_longer, front_taken, front_next}
 
 -- ---- what is due may change where nothing else does
 
-due_kept : (pipe : Pipe) (w : World) (s : Session) (due : Prefixes) → Keeps pipe w s → ((p : PrefixValue) → has due p ≡ false → state_of s.story ≡ Established → map.get s.told p ≡ to_tell pipe w p) → Keeps pipe (record w { due = due }) s
-due_kept pipe w s due k h = record {
+due_kept : (pipe : Pipe) (w : World) (s : Session) (due : Prefixes) → Keeps pipe w s → ((p : PrefixValue) → has due p ≡ true → state_of s.story ≡ Established) → ((p : PrefixValue) → has due p ≡ false → state_of s.story ≡ Established → map.get s.told p ≡ to_tell pipe w p) → Keeps pipe (record w { due = due }) s
+due_kept pipe w s due k up h = record {
   held = k.held;
   pointer = k.pointer;
   legal = k.legal;
@@ -35,14 +35,23 @@ due_kept pipe w s due k h = record {
   best = k.best;
   due = h;
   untold = k.untold;
+  own_way = k.own_way;
+  due_up = up;
 }
+
+both_true : (t u : Bool) → (t && u) ≡ true → t ≡ true
+both_true true u e = refl
+both_true false u e = absurd cc
 
 left_waits : (t u : Bool) → (t && u) ≡ false → t ≡ true → u ≡ false
 left_waits true u e f = e
 left_waits false u e f = absurd cc
 
 pub passes_keeps : (pipe : Pipe) (w v : World) (s : Session) → Keeps pipe w s → PassesRow pipe w v → Keeps pipe v s
-passes_keeps pipe w v s k row = subst (λ (x : World). Keeps pipe x s) (sym row.effect) (due_kept pipe w s v.due k told) where
+passes_keeps pipe w v s k row = subst (λ (x : World). Keeps pipe x s) (sym row.effect) (due_kept pipe w s v.due k still told) where
+  still : (p : PrefixValue) → has v.due p ≡ true → state_of s.story ≡ Established
+  still p e = k.due_up p (both_true (has w.due p) (has w.dirty p) (sym (row.left p) ∙ e))
+
   told : (p : PrefixValue) → has v.due p ≡ false → state_of s.story ≡ Established → map.get s.told p ≡ to_tell pipe w p
   told p e up = by_due (has w.due p) refl where
     here : Keeps pipe w row.session
@@ -70,6 +79,8 @@ says_keeps pipe step w v s k row = subst (λ (x : World). Keeps pipe x s) (sym r
   best = k.best;
   due = k.due;
   untold = k.untold;
+  own_way = k.own_way;
+  due_up = k.due_up;
 })
 
 pub orders_keeps : (pipe : Pipe) (step : ℕ) (w v : World) (s : Session) → Keeps pipe w s → OrdersRow pipe step w v → Keeps pipe v s
@@ -85,6 +96,8 @@ orders_keeps pipe step w v s k row = subst (λ (x : World). Keeps pipe x s) (sym
   best = k.best;
   due = k.due;
   untold = k.untold;
+  own_way = k.own_way;
+  due_up = k.due_up;
 })
 
 pub carries_out_keeps : (pipe : Pipe) (n : ℕ) (w v : World) (s : Session) → Keeps pipe w s → CarriesOut pipe n w v → Keeps pipe v s
@@ -100,6 +113,8 @@ carries_out_keeps pipe n w v s k row = subst (λ (x : World). Keeps pipe x s) (s
   best = k.best;
   due = k.due;
   untold = k.untold;
+  own_way = k.own_way;
+  due_up = k.due_up;
 }) where
   one : s ≡ row.session
   one = Rattle.std.proofs.lemmas.Option.same_Some _ _ (sym k.held ∙ row.live)
@@ -121,6 +136,8 @@ home_kept pipe n w s k = record {
   best = k.best;
   due = k.due;
   untold = k.untold;
+  own_way = k.own_way;
+  due_up = k.due_up;
 }
 
 pub carries_home_keeps : (pipe : Pipe) (n : ℕ) (w v : World) (s : Session) → Keeps pipe w s → CarriesHome n w v → (t : Session) × Keeps pipe v t
@@ -140,9 +157,6 @@ best_decided pipe w s q k p e = get_with w.best q (chosen pipe w.held q) p ∙ b
       ∙ (chosen_is pipe s q ∙ ap (λ (x : PrefixValue). brought pipe (map.get s.heard x)) (sym (same_is p q f)))
   by_same false f = k.best p (sym (ap (λ (t : Bool). cond t false (has w.dirty p)) f) ∙ (sym (has_removed w.dirty q p) ∙ e))
 
-to_tell_of : Pipe → PrefixValue → Option Best → Option Attrs
-to_tell_of pipe p best = tell_out pipe.home_as (out_side pipe) p best
-
 -- the chosen route is the one that there was
 unchanged : (best : BestRoutes) (q : PrefixValue) (c : Option Best) → c ≡ map.get best q → (p : PrefixValue) → map.get (with_best best q c) p ≡ map.get best p
 unchanged best q c e p = get_with best q c p ∙ by_same (same p q) refl where
@@ -150,11 +164,26 @@ unchanged best q c e p = get_with best q c p ∙ by_same (same p q) refl where
   by_same true f = e ∙ ap (λ (x : PrefixValue). map.get best x) (sym (same_is p q f))
   by_same false f = refl
 
+own_way_decided : (pipe : Pipe) (w : World) (s : Session) (q : PrefixValue) → Keeps pipe w s → (p : PrefixValue) → to_tell_of pipe p (map.get (with_best w.best q (chosen pipe w.held q)) p) ≡ None
+own_way_decided pipe w s q k p = ap (to_tell_of pipe p) (get_with w.best q (chosen pipe w.held q) p) ∙ by_same (same p q) where
+  chosen_here : chosen pipe w.held q ≡ brought pipe (map.get s.heard q)
+  chosen_here = ap (λ (h : Option Session). chosen pipe h q) k.held ∙ chosen_is pipe s q
+
+  by_same : (t : Bool) → to_tell_of pipe p (cond t (chosen pipe w.held q) (map.get w.best p)) ≡ None
+  by_same true = ap (to_tell_of pipe p) chosen_here ∙ brought_untold pipe p (map.get s.heard q)
+  by_same false = k.own_way p
+
+due_in_up : (state : SessionState) (due : Prefixes) (q p : PrefixValue) → (has due p ≡ true → state ≡ Established) → has (due_in state due q) p ≡ true → state ≡ Established
+due_in_up OpenSent due q p h e = h e
+due_in_up OpenConfirm due q p h e = h e
+due_in_up Established due q p h e = refl
+due_in_up Closed due q p h e = h e
+
 decided_kept : (pipe : Pipe) (w : World) (s : Session) (q : PrefixValue) (due : Prefixes) → Keeps pipe w s
     → ((p : PrefixValue) → has due p ≡ false → state_of s.story ≡ Established → map.get s.told p ≡ to_tell_of pipe p (map.get (with_best w.best q (chosen pipe w.held q)) p))
+    → ((p : PrefixValue) → has due p ≡ true → state_of s.story ≡ Established)
     → Keeps pipe (decided w q (chosen pipe w.held q) due) s
-unfolding to_tell_of
-decided_kept pipe w s q due k told = record {
+decided_kept pipe w s q due k told up = record {
   held = k.held;
   pointer = k.pointer;
   legal = k.legal;
@@ -166,13 +195,20 @@ decided_kept pipe w s q due k told = record {
   best = best_decided pipe w s q k;
   due = told;
   untold = k.untold;
+  own_way = own_way_decided pipe w s q k;
+  due_up = up;
 }
 
 pub decides_keeps : (pipe : Pipe) (q : PrefixValue) (w v : World) (s : Session) → Keeps pipe w s → DecidesRow pipe q w v → Keeps pipe v s
-unfolding to_tell_of
-decides_keeps pipe q w v s k row = subst (λ (x : World). Keeps pipe x s) (sym row.effect) (decided_kept pipe w s q v.due k (by_due row.due)) where
+decides_keeps pipe q w v s k row = subst (λ (x : World). Keeps pipe x s) (sym row.effect) (decided_kept pipe w s q v.due k (by_due row.due) (up_by row.due)) where
   c : Option Best
   c = chosen pipe w.held q
+
+  up_by : ((c ≡ map.get w.best q) × (v.due ≡ w.due)) ⊎ ((c ≢ map.get w.best q) × (v.due ≡ due_on w.held w.due q)) → (p : PrefixValue) → has v.due p ≡ true → state_of s.story ≡ Established
+  up_by (inl h) p e = k.due_up p (ap (λ (x : Prefixes). has x p) (sym h.1) ∙ e)
+  up_by (inr h) p e =
+      let marked : v.due ≡ due_in (state_of s.story) w.due q = h.1 ∙ ap (λ (x : Option Session). due_on x w.due q) k.held in
+      due_in_up (state_of s.story) w.due q p (k.due_up p) (ap (λ (x : Prefixes). has x p) (sym marked) ∙ e)
 
   by_due : ((c ≡ map.get w.best q) × (v.due ≡ w.due)) ⊎ ((c ≢ map.get w.best q) × (v.due ≡ due_on w.held w.due q))
       → (p : PrefixValue) → has v.due p ≡ false → state_of s.story ≡ Established → map.get s.told p ≡ to_tell_of pipe p (map.get (with_best w.best q c) p)

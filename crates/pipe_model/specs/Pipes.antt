@@ -1,5 +1,5 @@
 -- One home router and one remote that a pipe joins, and what the remote says.
-use Rattle.std.specs.Prelude.{◌≡◌, ℕ, ◌^◌, ◌<◌, List, ◌++◌, unwrap_or, slice_get, [], false}
+use Rattle.std.specs.Prelude.{◌≡◌, ℕ, ◌^◌, ◌<◌, List, ◌++◌, length, unwrap_or, slice_get, [], false}
 use Rattle.bgp_types.specs.declared.message.Message.{Message}
 use Rattle.bgp_types.specs.declared.message.Message.TheVariants.{OpenMsg, KeepaliveMsg}
 use Rattle.bgp_types.specs.Spelling.{spell}
@@ -8,10 +8,11 @@ use Rattle.bgp_story.specs.Legal.{Peering}
 use Rattle.bgp_story.specs.Opens.{home_open}
 use Rattle.pipe_model.specs.declared.pipe.Pipe.{Pipe}
 
--- The router has number 0, and the session starts there. Both sides' OPENs can be put.
+-- The router has number 0, and the session starts there. Its OPEN can be put, and each step has a number.
 pub record IsSound (pipe : Pipe) : Type 0 where
   pub home_as : pipe.home_as < 2 ^ 16
   pub host : is_no_host pipe.identifier ≡ false
+  pub few : length pipe.says < 2 ^ 32
   pub start : pipe.start.0 ≡ 0
 
 -- Home puts an OPEN with hold time 0 and without capabilities.
