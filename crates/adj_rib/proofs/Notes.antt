@@ -61,9 +61,9 @@ module _ (before r s : Routes) (notes : Notes) (p : PrefixValue) (had : Option A
 
   pub note_tracks : Tracks before s (noted notes p had)
   note_tracks = elim (is_some (map.get notes p)) as (λ b. is_some (map.get notes p) ≡ b → Tracks before s (cond b notes (map.insert notes p had))) [
-        | true ↦ λ e. record { noted = t.noted; others = others_kept e }
-        | false ↦ λ e. record { noted = noted_at (none_of _ e); others = others_at }
-      ] refl
+    | true ↦ λ e. record { noted = t.noted; others = others_kept e }
+    | false ↦ λ e. record { noted = noted_at (none_of _ e); others = others_at }
+  ] refl
 
 module _ (before r s : Routes) (notes left : Notes) (p : PrefixValue) (had : Option Attrs) (is : had ≡ map.get r p) (note : left ≡ noted notes p had) (t : Tracks before r notes) where
   pub remove_tracks : s ≡ map.remove r p → Tracks before s left

@@ -37,10 +37,10 @@ above_too (Some l) p q a b = ap is_lt (prefix_total.trans l p q (less _ a) (less
 -- what isn't above the last one is below what is
 below : (last : Option PrefixValue) (p q : PrefixValue) → is_above last p ≡ true → is_above last q ≡ false → prefix_cmp q p ≡ Less
 below last p q a n = elim (prefix_cmp q p) as (λ o. prefix_cmp q p ≡ o → prefix_cmp q p ≡ Less) [
-    | Less ↦ λ e. e
-    | Equal ↦ λ e. absurd (false≢true (sym n ∙ (ap (is_above last) (exact_prefixes q p e) ∙ a)))
-    | Greater ↦ λ e. absurd (false≢true (sym n ∙ above_too last p q a (ap is_lt (reversed q p Greater e))))
-  ] refl
+  | Less ↦ λ e. e
+  | Equal ↦ λ e. absurd (false≢true (sym n ∙ (ap (is_above last) (exact_prefixes q p e) ∙ a)))
+  | Greater ↦ λ e. absurd (false≢true (sym n ∙ above_too last p q a (ap is_lt (reversed q p Greater e))))
+] refl
 
 not_above : (p q : PrefixValue) → prefix_cmp q p ≡ Less → is_above (Some p) q ≡ false
 not_above p q e = ap is_lt (reversed q p Less e)
@@ -50,10 +50,10 @@ not_itself p = ap is_lt (tied_itself prefix_total p)
 
 one_or_below : (p q : PrefixValue) → is_above (Some p) q ≡ false → (q ≡ p) ⊎ (prefix_cmp q p ≡ Less)
 one_or_below p q n = elim (prefix_cmp p q) as (λ o. prefix_cmp p q ≡ o → (q ≡ p) ⊎ (prefix_cmp q p ≡ Less)) [
-    | Less ↦ λ e. absurd (false≢true (sym n ∙ ap is_lt e))
-    | Equal ↦ λ e. inl (sym (exact_prefixes p q e))
-    | Greater ↦ λ e. inr (reversed p q Greater e)
-  ] refl
+  | Less ↦ λ e. absurd (false≢true (sym n ∙ ap is_lt e))
+  | Equal ↦ λ e. inl (sym (exact_prefixes p q e))
+  | Greater ↦ λ e. inr (reversed p q Greater e)
+] refl
 
 -- ---- the next prefix
 

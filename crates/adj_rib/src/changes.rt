@@ -5,8 +5,7 @@ ghost use Rattle.std.specs.FinMap as map;
 ghost use Rattle.bgp_story.specs.Readings.{Routes, announce as announced};
 ghost use Rattle.adj_rib.specs.Changes.{Changed, Tracks, noted};
 
-use bgp_types::{Attrs, NoMemory, Prefix, PrefixList, Table};
-use bgp_types::{Items, TryCopy};
+use bgp_types::{Attrs, Items, NoMemory, Prefix, PrefixList, Table, TryCopy};
 use prefix_trie::TrieTable;
 use same_routes::is_same_attrs;
 use std::alloc::Global;

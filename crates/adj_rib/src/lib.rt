@@ -5,3 +5,6 @@ mod changes;
 mod rib;
 
 pub use rib::AdjRib;
+
+#[cfg(test)]
+mod tests;

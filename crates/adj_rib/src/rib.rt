@@ -53,12 +53,7 @@ impl AdjRib {
         let mut notes = TrieTable::new(self.alloc);
         withdraw(&mut self.routes, &mut notes, update.withdrawn.as_slice())?;
         if let Some(attrs) = &update.attrs {
-            announce(
-                &mut self.routes,
-                &mut notes,
-                attrs,
-                update.nlri.as_slice(),
-            )?;
+            announce(&mut self.routes, &mut notes, attrs, update.nlri.as_slice())?;
         }
         list_changed(self.alloc, &self.routes, &notes)
     }
