@@ -14,7 +14,8 @@ use Rattle.pipe_model.specs.declared.pipe.Pipe.{Pipe}
 use Rattle.pipe_model.specs.Pipes.{session_of}
 use Rattle.pipe_model.specs.Worlds.{BestRoutes, Prefixes, Session, World, has}
 use Rattle.pipe_model.specs.Decisions.{chosen, to_tell, out_side}
-use Rattle.pipe_model.specs.Rows.{PassesRow, DecidesRow, SaysRow, OrdersRow, CarriesHome, CarriesOut, due_in, due_on, with_best}
+use Rattle.loc_rib.specs.Values.{with_best}
+use Rattle.pipe_model.specs.Rows.{PassesRow, DecidesRow, SaysRow, OrdersRow, CarriesHome, CarriesOut, due_in, due_on}
 use Rattle.pipe_model.specs.Claims.{IsFront}
 use Rattle.pipe_model.proofs.Tables.{same, same_is, has_put, has_removed, none_of, get_with}
 use Rattle.pipe_model.proofs.Choices.{brought, chosen_is, brought_untold}

@@ -11,7 +11,7 @@ use Rattle.bgp_types.specs.Tables.{prefix_cmp}
 use Rattle.bgp_types.proofs.TableLaws.{prefix_total, exact_prefixes}
 use Rattle.route_policy.specs.declared.best.Best.{Best}
 use Rattle.pipe_model.specs.Worlds.{BestRoutes, Prefixes, has}
-use Rattle.pipe_model.specs.Rows.{with_best}
+use Rattle.loc_rib.specs.Values.{with_best}
 
 abbrev pub same : PrefixValue → PrefixValue → Bool
 same p q = eq_by_cmp prefix_cmp p q

@@ -10,9 +10,9 @@ use Rattle.bgp_story.specs.declared.line.Line.TheVariants.{Got}
 use Rattle.bgp_story.specs.Legal.{IsGot, expected, reply_to}
 use Rattle.bgp_story.specs.Readings.{Routes, apply_if, update_in, unless_closed, put_bytes}
 use Rattle.bgp_story.specs.States.{state_of}
-use Rattle.route_policy.specs.declared.best.Best.{Best}
 use Rattle.pipe_model.specs.declared.pipe.Pipe.{Pipe}
 use Rattle.pipe_model.specs.Pipes.{session_of, said_at}
+use Rattle.loc_rib.specs.Values.{with_best}
 use Rattle.pipe_model.specs.Worlds.{BestRoutes, Prefixes, has, Session, unread, World}
 use Rattle.pipe_model.specs.Decisions.{chosen, to_tell}
 
@@ -78,11 +78,6 @@ pub record GetsRow (pipe : Pipe) (w v : World) : Type 0 where
     dirty = v.dirty;
     due = due_then (state_of session.story) next w.best w.due;
   }
-
--- a table with a route for a prefix, or without
-abbrev pub with_best : BestRoutes → PrefixValue → Option Best → BestRoutes
-with_best best prefix None = map.remove best prefix
-with_best best prefix (Some route) = map.insert best prefix route
 
 -- a prefix is due on the session where that is established
 abbrev pub due_in : SessionState → Prefixes → PrefixValue → Prefixes
