@@ -1,6 +1,6 @@
 //! What an UPDATE does to routes, with notes of what they were.
 
-ghost use Rattle.std.specs.Prelude.{◌≡◌, ◌≢◌, ◌↔◌, IsTrue, MatchBool, fold, option_copied, IfOk, OnOk};
+ghost use Rattle.std.specs.Prelude.{◌≡◌, ◌≢◌, MatchBool, fold, option_copied, IfOk, OnOk};
 ghost use Rattle.std.specs.FinMap as map;
 ghost use Rattle.bgp_story.specs.Readings.{Routes, announce as announced};
 ghost use Rattle.adj_rib.specs.Changes.{Changed, Tracks, noted};

@@ -1,10 +1,10 @@
-use Rattle.std.proofs.Common.{◌≡◌, List, Option, Some, None, sym, ap, ◌∙◌, subst}
+use Rattle.std.proofs.Common.{◌≡◌, List, Option, Some, sym, ap, ◌∙◌, subst}
 use Rattle.std.specs.Prelude.{fold}
 use Rattle.std.specs.FinMap as map
 use Rattle.bgp_types.specs.declared.attrs.Attrs.{Attrs}
 use Rattle.bgp_types.specs.Prefixes.{PrefixValue}
 use Rattle.prefix_trie.specs.Table.{TableValue}
-use Rattle.bgp_story.specs.Readings.{Routes, apply, announce}
+use Rattle.bgp_story.specs.Readings.{Routes, announce}
 use Rattle.adj_rib.specs.declared.rib.AdjRib.TheInside.{Inside}
 use Rattle.adj_rib.specs.Changes.{Notes, Tracks}
 use Rattle.adj_rib.proofs.Notes.{at_ok, applied_some, applied_none, starts}
