@@ -5,6 +5,7 @@ use Rattle.std.specs.Int.Bits.{bit_xor, xor_self, xor_assoc, xor_zero_l, xor_zer
 use Rattle.std.specs.Int.Count.{count_leading_zeros}
 use Rattle.std.proofs.lemmas.Bool.{cases_lt}
 use Rattle.std.proofs.lemmas.Nat.{pow-add, shl-shr, shr-shr, shr_split, mod_below, pow_pos, div-mul-add, xor_shr, xor_lt, leading_top, le-div}
+use Rattle.std.specs.Prelude.{◌↔◌}
 use Rattle.bgp_types.specs.Prefixes.{PrefixValue, IsPrefix, Covers, cleared, prefix_of}
 use Rattle.prefix_trie.specs.Halves.{size, middle, past, Within, IsFork}
 
@@ -96,6 +97,16 @@ middle_le_past p h = elim (cases_lt p.len 32) [
       let e : p.len ≡ 32 = omega arith in
       rw e (omega arith)
 ]
+
+-- Half of how far into a prefix an address lies is less than its half.
+pub covers_by_half : (p q : PrefixValue) → IsPrefix p → p.len < q.len → q.len ≤ 32 → p.address ≤ q.address → (q.address - p.address) / 2 < 2 ^ 31 / 2 ^ p.len ↔ Covers p q
+covers_by_half p q is longer fits from =
+    let e = half p.len (omega arith) in
+    let n : 32 - p.len ≡ suc (31 - p.len) = omega arith in
+    let whole : size p ≡ 2 ^ (31 - p.len) * 2 = ap (λ (k : ℕ). 2 ^ k) n ∙ pow-suc 2 (31 - p.len) in (
+      (λ h. covers_in p q is (omega arith) from (omega arith)),
+      (λ covers. let to = covered_to p q covers in omega arith),
+    )
 
 -- ---- the fork of two addresses
 

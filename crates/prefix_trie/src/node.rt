@@ -2,7 +2,7 @@
 //! branches: those whose next bit is 0, and those whose next bit is 1. A node without a value is there
 //! for its two branches alone.
 
-ghost use Rattle.std.specs.Prelude.{◌+◌, ◌-◌, ◌<◌, ◌≤◌, ◌≡◌, ℕ, nat_lt, option_copied, map, length, ◌++◌, if◌then◌else◌, IsSome, IfSome, IfNone, OnSome, OnOk, OnErr, ◌/◌};
+ghost use Rattle.std.specs.Prelude.{◌+◌, ◌-◌, ◌<◌, ◌≤◌, ◌≡◌, ℕ, nat_lt, option_copied, map, length, ◌++◌, if◌then◌else◌, IsSome, IfSome, IfNone, IsTrue, OnSome, OnOk, OnErr, ◌/◌, ◌^◌, ◌↔◌};
 ghost use Rattle.std.specs.FinMap as table;
 ghost use Rattle.bgp_types.specs.Tables.{prefix_cmp, first_above};
 ghost use Rattle.std.specs.List.{AllByRecursion};
@@ -47,6 +47,32 @@ fn is_early(address: u32, prefix: Prefix) -> bool
     ensures { result ≡ nat_lt address (middle prefix) }
 {
     u64::from(address) < middle(prefix)
+}
+
+/// How many addresses a half of a prefix of this length has.
+fn half(len: u8) -> u32
+    requires { len < 32 }
+    ensures { result ≡ 2 ^ 31 / 2 ^ len }
+{
+    1 << 31 >> len
+}
+
+/// Whether a prefix is longer than another and one of its addresses begins it.
+fn is_below(prefix: Prefix, at: Prefix) -> bool
+    ensures { IsTrue result ↔ (Covers at prefix × at.len < prefix.len) }
+{
+    at.len() < prefix.len()
+        && at.address() <= prefix.address()
+        && (prefix.address() - at.address()) / 2 < half(at.len())
+}
+
+/// The same as `is_early` for an address that doesn't lie before the prefix.
+fn is_first_half(address: u32, prefix: Prefix) -> bool
+    requires from { prefix.address ≤ address }
+    requires short { prefix.len < 32 }
+    ensures { result ≡ nat_lt address (middle prefix) }
+{
+    address - prefix.address() < half(prefix.len())
 }
 
 /// The value of a prefix.
@@ -215,18 +241,18 @@ pub fn put<V: Drop>(
         }
         Tree::Fork(node) => {
             let node: &mut Node<V> = node;
+            if is_below(prefix, node.prefix) {
+                if is_first_half(prefix.address(), node.prefix) {
+                    return put(alloc, &mut node.zero, spares, prefix, value);
+                }
+                return put(alloc, &mut node.one, spares, prefix, value);
+            }
             if node.prefix == prefix {
                 mem::swap(&mut node.value, value);
                 return true;
             }
-            if !node.prefix.covers(&prefix) {
-                let at = node.prefix;
-                return put_above(alloc, tree, spares, at, prefix, value);
-            }
-            if is_early(prefix.address(), node.prefix) {
-                return put(alloc, &mut node.zero, spares, prefix, value);
-            }
-            put(alloc, &mut node.one, spares, prefix, value)
+            let at = node.prefix;
+            put_above(alloc, tree, spares, at, prefix, value)
         }
     }
 }

@@ -4,8 +4,8 @@ use Rattle.bgp_types.specs.Prefixes.{PrefixValue}
 use Rattle.bgp_types.specs.Tables.{prefix_cmp}
 use Rattle.prefix_trie.specs.Halves.{middle, past, Within}
 use Rattle.prefix_trie.specs.Nodes.{own, entries, put_given, PutResult}
-use Rattle.prefix_trie.proofs.Nodes.{at_opened, same_prefix, other_prefix, find_here, is_before, is_past}
-use Rattle.prefix_trie.proofs.Puts.{all_under, covers_strict, put_same, put_keeps, within_zero, within_one, put_zero, put_one}
+use Rattle.prefix_trie.proofs.Nodes.{at_opened, same_prefix, find_here, is_before, is_past}
+use Rattle.prefix_trie.proofs.Puts.{all_under, put_same, put_keeps, within_zero, within_one, put_zero, put_one}
 use Rattle.prefix_trie.proofs.node.+put.Goals as goal
 
 pub returns-then-eq-clause-put : goal.returns-then-eq-clause-put
@@ -44,56 +44,52 @@ put_above-requires-clause-sound_at g t c =
     let f = at_opened c.args.tree.now c.in-Fork.node n c.in-Fork.is c.deref_mut-node.ensures.value c.requires.trie in
     f.node.is
 
-pub returns-then-not-covers-clause-put : goal.returns-then-not-covers-clause-put
-returns-then-not-covers-clause-put g t c =
+pub returns-else-eq-clause-put : goal.returns-else-eq-clause-put
+returns-else-eq-clause-put g t c =
     let n = c.deref_mut-node.result.now in
     let f = at_opened c.args.tree.now c.in-Fork.node n c.in-Fork.is c.deref_mut-node.ensures.value c.requires.trie in
     subst (λ (es : List (PrefixValue × g.row.V.Denot)). PutResult c.put_above.result c.args.prefix c.args.value.now c.put_above.new.value es (entries c.put_above.new.tree) (length c.args.spares.now.items) (length c.put_above.new.spares.items)) (sym f.is) c.put_above.ensures.put
 
-pub returns-then-is_early-clause-trie : goal.returns-then-is_early-clause-trie
-returns-then-is_early-clause-trie g t c =
+pub returns-then-is_first_half-clause-trie : goal.returns-then-is_first_half-clause-trie
+returns-then-is_first_half-clause-trie g t c =
     let n = c.deref_mut-node.result.now in
     let f = at_opened c.args.tree.now c.in-Fork.node n c.in-Fork.is c.deref_mut-node.ensures.value c.requires.trie in
-    let covers = c.covers.ensures.0 c.if-not-covers.false in
-    let longer = covers_strict n.prefix c.args.prefix covers c.requires.sound (other_prefix n.prefix c.args.prefix (sym c.eq.ensures ∙ c.if-eq.false)) in (
+    let below = c.is_below.ensures.0 c.if-is_below.true in (
       record {
         is = f.node.is;
-        zeros = put_keeps (Within n.prefix.address (middle n.prefix) n.prefix.len) c.put.result c.args.prefix c.args.value.now c.put.new.value (entries n.zero) (entries c.put.new.tree) _ _ c.put.ensures.put (within_zero n.prefix n.value (entries n.zero) (entries n.one) f.node c.args.prefix c.requires.sound covers longer (is_before c.is_early.result c.address.result c.args.prefix.address (middle n.prefix) c.address.ensures.value c.is_early.ensures c.if-is_early.true)) f.node.zeros;
+        zeros = put_keeps (Within n.prefix.address (middle n.prefix) n.prefix.len) c.put.result c.args.prefix c.args.value.now c.put.new.value (entries n.zero) (entries c.put.new.tree) _ _ c.put.ensures.put (within_zero n.prefix n.value (entries n.zero) (entries n.one) f.node c.args.prefix c.requires.sound below.0 below.1 (is_before c.is_first_half.result c.address.result c.args.prefix.address (middle n.prefix) c.address.ensures.value c.is_first_half.ensures c.if-is_first_half.true)) f.node.zeros;
         ones = f.node.ones;
       },
       c.put.ensures.trie,
       f.one,
     )
 
-pub returns-then-is_early-clause-put : goal.returns-then-is_early-clause-put
-returns-then-is_early-clause-put g t c =
+pub returns-then-is_first_half-clause-put : goal.returns-then-is_first_half-clause-put
+returns-then-is_first_half-clause-put g t c =
     let n = c.deref_mut-node.result.now in
     let f = at_opened c.args.tree.now c.in-Fork.node n c.in-Fork.is c.deref_mut-node.ensures.value c.requires.trie in
-    let covers = c.covers.ensures.0 c.if-not-covers.false in
-    let longer = covers_strict n.prefix c.args.prefix covers c.requires.sound (other_prefix n.prefix c.args.prefix (sym c.eq.ensures ∙ c.if-eq.false)) in
+    let below = c.is_below.ensures.0 c.if-is_below.true in
     subst (λ (es : List (PrefixValue × g.row.V.Denot)). PutResult c.put.result c.args.prefix c.args.value.now c.put.new.value es (own n.prefix n.value ++ (entries c.put.new.tree ++ entries n.one)) (length c.args.spares.now.items) (length c.put.new.spares.items)) (sym f.is)
-    (put_zero n.prefix n.value (entries n.zero) (entries n.one) f.node c.args.prefix c.requires.sound covers longer c.put.result c.args.value.now c.put.new.value (entries c.put.new.tree) _ _ (is_before c.is_early.result c.address.result c.args.prefix.address (middle n.prefix) c.address.ensures.value c.is_early.ensures c.if-is_early.true) c.put.ensures.put)
+    (put_zero n.prefix n.value (entries n.zero) (entries n.one) f.node c.args.prefix c.requires.sound below.0 below.1 c.put.result c.args.value.now c.put.new.value (entries c.put.new.tree) _ _ (is_before c.is_first_half.result c.address.result c.args.prefix.address (middle n.prefix) c.address.ensures.value c.is_first_half.ensures c.if-is_first_half.true) c.put.ensures.put)
 
-pub returns-else-is_early-clause-trie : goal.returns-else-is_early-clause-trie
-returns-else-is_early-clause-trie g t c =
+pub returns-then-is_below-clause-trie : goal.returns-then-is_below-clause-trie
+returns-then-is_below-clause-trie g t c =
     let n = c.deref_mut-node.result.now in
     let f = at_opened c.args.tree.now c.in-Fork.node n c.in-Fork.is c.deref_mut-node.ensures.value c.requires.trie in
-    let covers = c.covers.ensures.0 c.if-not-covers.false in
-    let longer = covers_strict n.prefix c.args.prefix covers c.requires.sound (other_prefix n.prefix c.args.prefix (sym c.eq.ensures ∙ c.if-eq.false)) in (
+    let below = c.is_below.ensures.0 c.if-is_below.true in (
       record {
         is = f.node.is;
         zeros = f.node.zeros;
-        ones = put_keeps (Within (middle n.prefix) (past n.prefix) n.prefix.len) c.put-in-Fork.result c.args.prefix c.args.value.now c.put-in-Fork.new.value (entries n.one) (entries c.put-in-Fork.new.tree) _ _ c.put-in-Fork.ensures.put (within_one n.prefix n.value (entries n.zero) (entries n.one) f.node c.args.prefix c.requires.sound covers longer (is_past c.is_early.result c.address.result c.args.prefix.address (middle n.prefix) c.address.ensures.value c.is_early.ensures c.if-is_early.false)) f.node.ones;
+        ones = put_keeps (Within (middle n.prefix) (past n.prefix) n.prefix.len) c.put-then-is_below.result c.args.prefix c.args.value.now c.put-then-is_below.new.value (entries n.one) (entries c.put-then-is_below.new.tree) _ _ c.put-then-is_below.ensures.put (within_one n.prefix n.value (entries n.zero) (entries n.one) f.node c.args.prefix c.requires.sound below.0 below.1 (is_past c.is_first_half.result c.address.result c.args.prefix.address (middle n.prefix) c.address.ensures.value c.is_first_half.ensures c.if-is_first_half.false)) f.node.ones;
       },
       f.zero,
-      c.put-in-Fork.ensures.trie,
+      c.put-then-is_below.ensures.trie,
     )
 
-pub returns-else-is_early-clause-put : goal.returns-else-is_early-clause-put
-returns-else-is_early-clause-put g t c =
+pub returns-then-is_below-clause-put : goal.returns-then-is_below-clause-put
+returns-then-is_below-clause-put g t c =
     let n = c.deref_mut-node.result.now in
     let f = at_opened c.args.tree.now c.in-Fork.node n c.in-Fork.is c.deref_mut-node.ensures.value c.requires.trie in
-    let covers = c.covers.ensures.0 c.if-not-covers.false in
-    let longer = covers_strict n.prefix c.args.prefix covers c.requires.sound (other_prefix n.prefix c.args.prefix (sym c.eq.ensures ∙ c.if-eq.false)) in
-    subst (λ (es : List (PrefixValue × g.row.V.Denot)). PutResult c.put-in-Fork.result c.args.prefix c.args.value.now c.put-in-Fork.new.value es (own n.prefix n.value ++ (entries n.zero ++ entries c.put-in-Fork.new.tree)) (length c.args.spares.now.items) (length c.put-in-Fork.new.spares.items)) (sym f.is)
-    (put_one n.prefix n.value (entries n.zero) (entries n.one) f.node c.args.prefix c.requires.sound covers longer c.put-in-Fork.result c.args.value.now c.put-in-Fork.new.value (entries c.put-in-Fork.new.tree) _ _ (is_past c.is_early.result c.address.result c.args.prefix.address (middle n.prefix) c.address.ensures.value c.is_early.ensures c.if-is_early.false) c.put-in-Fork.ensures.put)
+    let below = c.is_below.ensures.0 c.if-is_below.true in
+    subst (λ (es : List (PrefixValue × g.row.V.Denot)). PutResult c.put-then-is_below.result c.args.prefix c.args.value.now c.put-then-is_below.new.value es (own n.prefix n.value ++ (entries n.zero ++ entries c.put-then-is_below.new.tree)) (length c.args.spares.now.items) (length c.put-then-is_below.new.spares.items)) (sym f.is)
+    (put_one n.prefix n.value (entries n.zero) (entries n.one) f.node c.args.prefix c.requires.sound below.0 below.1 c.put-then-is_below.result c.args.value.now c.put-then-is_below.new.value (entries c.put-then-is_below.new.tree) _ _ (is_past c.is_first_half.result c.address.result c.args.prefix.address (middle n.prefix) c.address.ensures.value c.is_first_half.ensures c.if-is_first_half.false) c.put-then-is_below.ensures.put)
