@@ -57,7 +57,7 @@ fn half(len: u8) -> u32
     1 << 31 >> len
 }
 
-/// Whether a prefix is longer than another and one of its addresses begins it.
+/// Whether a prefix is longer than another that covers it.
 fn is_below(prefix: Prefix, at: Prefix) -> bool
     ensures { IsTrue result ↔ (Covers at prefix × at.len < prefix.len) }
 {
@@ -66,7 +66,7 @@ fn is_below(prefix: Prefix, at: Prefix) -> bool
         && (prefix.address() - at.address()) / 2 < half(at.len())
 }
 
-/// The same as `is_early` for an address that doesn't lie before the prefix.
+/// The same as `is_early` where the address is known not to lie before the prefix.
 fn is_first_half(address: u32, prefix: Prefix) -> bool
     requires from { prefix.address ≤ address }
     requires short { prefix.len < 32 }
@@ -383,12 +383,12 @@ pub fn take<V: Drop>(tree: &mut Tree<V>, spares: &mut Spares<V>, prefix: Prefix)
         return None;
     };
     let node: &mut Node<V> = node;
-    if node.prefix == prefix {
-        let here = node.value.take();
-        tidy(tree, spares);
-        return here;
-    }
     if node.prefix.len() >= prefix.len() {
+        if node.prefix == prefix {
+            let here = node.value.take();
+            tidy(tree, spares);
+            return here;
+        }
         return None;
     }
     if is_early(prefix.address(), node.prefix) {
