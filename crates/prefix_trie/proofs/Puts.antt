@@ -170,16 +170,6 @@ module _ {V : Type 0} (at p : PrefixValue) (es : List (PrefixValue × V)) (under
 pub untrue : (b : Bool) → b ≡ false → IsTrue b → ⊥
 untrue b e h = absurd cc
 
-pub covers_strict : (q p : PrefixValue) → Covers q p → IsPrefix p → q ≢ p → q.len < p.len
-covers_strict q p covers is other = elim (cases_lt q.len p.len) [
-  | inl less ↦ less
-  | inr ge ↦
-      let le = covers.shorter in
-      let same : q.len ≡ p.len = omega arith in
-      let here : q.address ≡ p.address = sym covers.front ∙ (ap (λ (n : ℕ). cleared n p.address) same ∙ is.clear) in
-      absurd (other (λ i. record { address = here i; len = same i }))
-]
-
 module _ {V : Type 0} (q : PrefixValue) (o : Option V) (zs os : List (PrefixValue × V)) (node : IsNode q zs os) where
   pub put_same : (given : Option V) → IsSome given → own q given ++ (zs ++ os) ≡ put_given q given (own q o ++ (zs ++ os))
   put_same None some = absurd cc
