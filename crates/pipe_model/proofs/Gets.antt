@@ -1,6 +1,6 @@
 -- A message that is got keeps what is kept.
-use Rattle.std.proofs.Common.{◌≡◌, ℕ, true, false, List, ◌∷◌, ◌++◌, Option, None, Result, refl, sym, ap, ◌∙◌, subst, append_assoc}
-use Rattle.std.specs.Prelude.{◌≢◌, fold}
+use Rattle.std.proofs.Common.{◌≡◌, ℕ, Bool, true, false, List, ◌∷◌, ◌++◌, Option, None, Result, refl, sym, ap, ◌∙◌, subst, append_assoc, inl, inr}
+use Rattle.std.specs.Prelude.{◌⊎◌, ◌≢◌, fold}
 use Rattle.std.specs.FinMap as map
 use Rattle.std.proofs.lemmas.List.{append-nil}
 use Rattle.bgp_types.specs.declared.fault.Expected.{Expected}
@@ -8,6 +8,7 @@ use Rattle.bgp_types.specs.declared.message.Message.{Message}
 use Rattle.bgp_types.specs.declared.message.Notice.{Notice}
 use Rattle.bgp_types.specs.declared.message.SessionState.{SessionState}
 use Rattle.bgp_types.specs.declared.message.SessionState.TheVariants.{OpenSent, OpenConfirm, Established, Closed}
+use Rattle.bgp_types.specs.declared.message.Update.{Update}
 use Rattle.bgp_types.specs.FirstFault.{message_of}
 use Rattle.bgp_types.specs.Prefixes.{PrefixValue}
 use Rattle.bgp_types.specs.Tables.{prefix_cmp}
@@ -27,8 +28,8 @@ use Rattle.pipe_model.specs.Rows.{GetsRow, due_then}
 use Rattle.pipe_model.specs.Claims.{IsFront}
 use Rattle.pipe_model.proofs.Tables.{has_none, no_best}
 use Rattle.pipe_model.proofs.Choices.{brought}
-use Rattle.pipe_model.proofs.Replies.{answer_gets, answer_tells, answer_hears, while_unclosed, established_from, confirmed_from, same_update}
-use Rattle.pipe_model.proofs.Keeping.{Keeps, same_session, unread_is, front_longer}
+use Rattle.pipe_model.proofs.Replies.{no_update, answer_gets, answer_tells, answer_hears, while_unclosed, established_from, confirmed_from, same_update}
+use Rattle.pipe_model.proofs.Keeping.{Early, Keeps, same_session, unread_is, front_longer}
 
 -- a state is closed or not
 by_closed : {A : Type 0} (state : SessionState) → (state ≡ Closed → A) → (state ≢ Closed → A) → A
@@ -178,6 +179,36 @@ module _ (pipe : Pipe) (w v : World) (row : GetsRow pipe w v) (k : Keeps pipe w 
   up_from Closed Established e f p h = stays Established f (λ c. absurd cc) (k.due_up p h)
   up_from Closed Closed e f p h = let n = has_none p in absurd cc
 
+  -- before it is established nothing was heard, so nothing is now
+  early_is : row.next ≢ Established → row.next ≢ Closed → Early v after
+  early_is o c = subst (λ (x : World). Early x after) (sym row.effect) (record {
+    best = e.best;
+    clean = λ p. clean p (has v.dirty p) refl;
+    heard = unheard;
+  }) where
+    first : before ≡ OpenSent
+    first = confirmed_from (expected (session_of pipe) s.story before) row.bytes row.answer row.next row.reply o c
+
+    e : Early w s
+    e = k.early (λ x. let y : OpenSent ≡ Established = sym first ∙ x in absurd cc) row.unclosed
+
+    same_heard : row.heard ≡ s.heard
+    same_heard =
+        row.hears
+        ∙ (ap (λ (x : Option Update). unless_closed row.next (apply_if s.heard x)) (no_update (message_of (expected (session_of pipe) s.story before) row.bytes) row.answer row.next row.reply o)
+        ∙ while_unclosed row.next s.heard c)
+
+    unheard : (p : PrefixValue) → map.get row.heard p ≡ None
+    unheard p = ap (λ (x : Routes). map.get x p) same_heard ∙ e.heard p
+
+    by_mark : (p : PrefixValue) → (has w.dirty p ≡ true) ⊎ (map.get row.heard p ≢ map.get s.heard p) → has v.dirty p ≡ false
+    by_mark p (inl d) = let n = e.clean p in absurd cc
+    by_mark p (inr d) = absurd (d (ap (λ (x : Routes). map.get x p) same_heard))
+
+    clean : (p : PrefixValue) (t : Bool) → has v.dirty p ≡ t → has v.dirty p ≡ false
+    clean p false h = h
+    clean p true h = by_mark p (row.marks.dirty p h)
+
   pub gets_keeps : Keeps pipe v after
   gets_keeps = subst (λ (x : World). Keeps pipe x after) (sym row.effect) (record {
     held = refl;
@@ -193,4 +224,5 @@ module _ (pipe : Pipe) (w v : World) (row : GetsRow pipe w v) (k : Keeps pipe w 
     untold = untold_from row.next;
     own_way = k.own_way;
     due_up = λ p h. then_is ∙ up_from before row.next refl refl p h;
+    early = λ o c. let e = early_is (λ x. o (then_is ∙ x)) (λ x. c (then_is ∙ x)) in let f = subst (λ (x : World). Early x after) row.effect e in record { best = f.best; clean = f.clean; heard = f.heard };
   })

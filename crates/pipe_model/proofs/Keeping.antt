@@ -3,7 +3,7 @@ use Rattle.std.proofs.Common.{◌≡◌, ℕ, suc, ◌+◌, ◌≤◌, Bool, tru
 use Rattle.std.specs.Prelude.{◌≢◌}
 use Rattle.std.specs.FinMap as map
 use Rattle.std.proofs.lemmas.Option.{same_Some}
-use Rattle.bgp_types.specs.declared.message.SessionState.TheVariants.{Established}
+use Rattle.bgp_types.specs.declared.message.SessionState.TheVariants.{Established, Closed}
 use Rattle.bgp_types.specs.Prefixes.{PrefixValue}
 use Rattle.bgp_types.specs.Tables.{prefix_cmp}
 use Rattle.bgp_story.specs.Legal.{Legal}
@@ -28,7 +28,7 @@ take_past (x ∷ xs) ys n =
     let e : length (x ∷ xs) + n ≡ suc (length xs + n) = omega arith in
     ap (λ (k : ℕ). take k (x ∷ (xs ++ ys))) e ∙ ap (λ (l : List ℕ). x ∷ l) (take_past xs ys n)
 
-drop_front : (xs ys : List ℕ) → drop (length xs) (xs ++ ys) ≡ ys
+pub drop_front : (xs ys : List ℕ) → drop (length xs) (xs ++ ys) ≡ ys
 drop_front [] ys = refl
 drop_front (x ∷ xs) ys = drop_front xs ys
 
@@ -50,6 +50,12 @@ front_next {xs} {ys} n f = record { rest = take n f.rest; is = ap (take (length 
 
 -- ---- the world and its session
 
+-- nothing was heard or decided, and nothing is dirty
+pub record Early (w : World) (s : Session) : Type 0 where
+  pub best : w.best ≡ map.empty
+  pub clean : (p : PrefixValue) → has w.dirty p ≡ false
+  pub heard : (p : PrefixValue) → map.get s.heard p ≡ None
+
 -- the session s that the world holds is as its story tells, and what was decided and told is right but for
 -- what is dirty or due
 pub record Keeps (pipe : Pipe) (w : World) (s : Session) : Type 0 where
@@ -68,6 +74,7 @@ pub record Keeps (pipe : Pipe) (w : World) (s : Session) : Type 0 where
   pub untold : (p : PrefixValue) → map.get s.told p ≡ None
   pub own_way : (p : PrefixValue) → to_tell pipe w p ≡ None
   pub due_up : (p : PrefixValue) → has w.due p ≡ true → state_of s.story ≡ Established
+  pub early : state_of s.story ≢ Established → state_of s.story ≢ Closed → Early w s
 
 pub same_session : {pipe : Pipe} {w : World} {s t : Session} → Keeps pipe w s → w.held ≡ Some t → Keeps pipe w t
 same_session {pipe} {w} {s} {t} k e = subst (λ (x : Session). Keeps pipe w x) (same_Some _ _ (sym k.held ∙ e)) k
@@ -99,4 +106,5 @@ first_keeps pipe = record {
   untold = λ p. map.get-empty prefix_cmp p;
   own_way = λ p. ap (to_tell_of pipe p) (map.get-empty prefix_cmp p);
   due_up = λ p e. let n = has_none p in absurd cc;
+  early = λ o c. record { best = refl; clean = has_none; heard = λ p. map.get-empty prefix_cmp p };
 }

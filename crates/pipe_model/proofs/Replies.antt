@@ -115,3 +115,11 @@ same_update p lines more state bytes answer next l r c = by_message (message_of 
       let read = read_of (expected p lines state) bytes KeepaliveMsg g in
       keepalive_again later bytes read.sound read.kind
   by_message (Err n) g f = absurd (c (sym (ap (λ y. y.1) f)))
+
+-- a message that doesn't establish the session says no UPDATE
+pub no_update : (m : Result Message Notice) (answer : List Line) (next : SessionState) → reply_to m ≡ (answer, next) → next ≢ Established → update_in m ≡ None
+no_update (Ok (OpenMsg o)) answer next r e = refl
+no_update (Ok (UpdateMsg u)) answer next r e = absurd (e (sym (ap (λ y. y.1) r)))
+no_update (Ok (NoticeMsg n)) answer next r e = refl
+no_update (Ok KeepaliveMsg) answer next r e = refl
+no_update (Err n) answer next r e = refl

@@ -2,18 +2,16 @@
 use Rattle.std.proofs.Common.{◌≡◌, ℕ, ◌+◌, Bool, true, false, cond, List, length, take, Option, Some, None, refl, sym, ap, ◌∙◌, subst, inl, inr}
 use Rattle.std.specs.Prelude.{◌≢◌, ◌&&◌, ◌⊎◌}
 use Rattle.std.specs.FinMap as map
-use Rattle.bgp_types.specs.declared.attrs.Attrs.{Attrs}
 use Rattle.bgp_types.specs.declared.message.SessionState.{SessionState}
 use Rattle.bgp_types.specs.declared.message.SessionState.TheVariants.{OpenSent, OpenConfirm, Established, Closed}
 use Rattle.bgp_types.specs.Prefixes.{PrefixValue}
 use Rattle.bgp_story.specs.Readings.{put_bytes, told}
 use Rattle.bgp_story.specs.States.{state_of}
-use Rattle.route_policy.specs.Telling.{tell_out}
 use Rattle.route_policy.specs.declared.best.Best.{Best}
 use Rattle.pipe_model.specs.declared.pipe.Pipe.{Pipe}
 use Rattle.pipe_model.specs.Pipes.{session_of}
 use Rattle.pipe_model.specs.Worlds.{BestRoutes, Prefixes, Session, World, has}
-use Rattle.pipe_model.specs.Decisions.{chosen, to_tell, out_side}
+use Rattle.pipe_model.specs.Decisions.{chosen, to_tell}
 use Rattle.loc_rib.specs.Values.{with_best}
 use Rattle.pipe_model.specs.Rows.{PassesRow, DecidesRow, SaysRow, OrdersRow, CarriesHome, CarriesOut, due_in, due_on}
 use Rattle.pipe_model.specs.Claims.{IsFront}
@@ -38,6 +36,7 @@ due_kept pipe w s due k up h = record {
   untold = k.untold;
   own_way = k.own_way;
   due_up = up;
+  early = λ o c. let e = k.early o c in record { best = e.best; clean = e.clean; heard = e.heard };
 }
 
 both_true : (t u : Bool) → (t && u) ≡ true → t ≡ true
@@ -82,6 +81,7 @@ says_keeps pipe step w v s k row = subst (λ (x : World). Keeps pipe x s) (sym r
   untold = k.untold;
   own_way = k.own_way;
   due_up = k.due_up;
+  early = λ o c. let e = k.early o c in record { best = e.best; clean = e.clean; heard = e.heard };
 })
 
 pub orders_keeps : (pipe : Pipe) (step : ℕ) (w v : World) (s : Session) → Keeps pipe w s → OrdersRow pipe step w v → Keeps pipe v s
@@ -99,6 +99,7 @@ orders_keeps pipe step w v s k row = subst (λ (x : World). Keeps pipe x s) (sym
   untold = k.untold;
   own_way = k.own_way;
   due_up = k.due_up;
+  early = λ o c. let e = k.early o c in record { best = e.best; clean = e.clean; heard = e.heard };
 })
 
 pub carries_out_keeps : (pipe : Pipe) (n : ℕ) (w v : World) (s : Session) → Keeps pipe w s → CarriesOut pipe n w v → Keeps pipe v s
@@ -116,6 +117,7 @@ carries_out_keeps pipe n w v s k row = subst (λ (x : World). Keeps pipe x s) (s
   untold = k.untold;
   own_way = k.own_way;
   due_up = k.due_up;
+  early = λ o c. let e = k.early o c in record { best = e.best; clean = e.clean; heard = e.heard };
 }) where
   one : s ≡ row.session
   one = Rattle.std.proofs.lemmas.Option.same_Some _ _ (sym k.held ∙ row.live)
@@ -139,6 +141,7 @@ home_kept pipe n w s k = record {
   untold = k.untold;
   own_way = k.own_way;
   due_up = k.due_up;
+  early = λ o c. let e = k.early o c in record { best = e.best; clean = e.clean; heard = e.heard };
 }
 
 pub carries_home_keeps : (pipe : Pipe) (n : ℕ) (w v : World) (s : Session) → Keeps pipe w s → CarriesHome n w v → (t : Session) × Keeps pipe v t
@@ -183,8 +186,9 @@ due_in_up Closed due q p h e = h e
 decided_kept : (pipe : Pipe) (w : World) (s : Session) (q : PrefixValue) (due : Prefixes) → Keeps pipe w s
     → ((p : PrefixValue) → has due p ≡ false → state_of s.story ≡ Established → map.get s.told p ≡ to_tell_of pipe p (map.get (with_best w.best q (chosen pipe w.held q)) p))
     → ((p : PrefixValue) → has due p ≡ true → state_of s.story ≡ Established)
+    → has w.dirty q ≡ true
     → Keeps pipe (decided w q (chosen pipe w.held q) due) s
-decided_kept pipe w s q due k told up = record {
+decided_kept pipe w s q due k told up dirty = record {
   held = k.held;
   pointer = k.pointer;
   legal = k.legal;
@@ -198,10 +202,11 @@ decided_kept pipe w s q due k told up = record {
   untold = k.untold;
   own_way = own_way_decided pipe w s q k;
   due_up = up;
+  early = λ o c. let e = (k.early o c).clean q in absurd cc;
 }
 
 pub decides_keeps : (pipe : Pipe) (q : PrefixValue) (w v : World) (s : Session) → Keeps pipe w s → DecidesRow pipe q w v → Keeps pipe v s
-decides_keeps pipe q w v s k row = subst (λ (x : World). Keeps pipe x s) (sym row.effect) (decided_kept pipe w s q v.due k (by_due row.due) (up_by row.due)) where
+decides_keeps pipe q w v s k row = subst (λ (x : World). Keeps pipe x s) (sym row.effect) (decided_kept pipe w s q v.due k (by_due row.due) (up_by row.due) row.dirty) where
   c : Option Best
   c = chosen pipe w.held q
 

@@ -8,10 +8,13 @@ use Rattle.bgp_story.specs.Legal.{Peering}
 use Rattle.bgp_story.specs.Opens.{home_open}
 use Rattle.pipe_model.specs.declared.pipe.Pipe.{Pipe}
 
--- The router has number 0, and the session starts there. Its OPEN can be put, and each step has a number.
+-- The router has number 0, and the session starts there. The OPENs of both sides can be put, and each
+-- step has a number.
 pub record IsSound (pipe : Pipe) : Type 0 where
   pub home_as : pipe.home_as < 2 ^ 16
   pub host : is_no_host pipe.identifier ≡ false
+  pub remote_as : pipe.remote_as < 2 ^ 16
+  pub remote_host : is_no_host pipe.remote_address ≡ false
   pub few : length pipe.says < 2 ^ 32
   pub start : pipe.start.0 ≡ 0
 

@@ -1,5 +1,5 @@
 -- The events of a pipe. Each has a condition and an effect; what an effect doesn't name stays.
-use Rattle.std.specs.Prelude.{◌≡◌, ◌≢◌, ℕ, ◌+◌, ◌≤◌, ◌<◌, List, [], ◌∷◌, ◌++◌, length, take, fold, Option, Some, None, true, false, ◌&&◌, ◌⊎◌, slice_get}
+use Rattle.std.specs.Prelude.{◌≡◌, ◌≢◌, ℕ, ◌+◌, ◌≤◌, ◌<◌, List, [], ◌∷◌, ◌++◌, length, take, fold, Option, Some, None, true, false, ◌&&◌, ◌⊎◌}
 use Rattle.std.specs.FinMap as map
 use Rattle.bgp_types.specs.declared.message.SessionState.{SessionState}
 use Rattle.bgp_types.specs.declared.message.SessionState.TheVariants.{OpenConfirm, Established, Closed}

@@ -1,0 +1,12 @@
+pub mod Standing
+pub mod Turns
+pub mod Firsts
+pub mod Routing
+pub mod Gotten
+pub mod Rounds
+pub mod Beginnings
+pub mod Fronts
+pub mod Cases
+pub mod Marking
+pub mod NoticeLaws
+pub mod AtFronts

@@ -1,0 +1,12 @@
+use Rattle.std.proofs.Common.{lit<, refl, subst, sym, false}
+use Rattle.bgp_types.specs.declared.message.OpenMsg.{OpenMsg}
+use Rattle.bgp_types.specs.declared.message.Message.TheVariants as messages
+use Rattle.bgp_types.specs.Writable.{IsWritable}
+use Rattle.pipe_world.proofs.Beginnings.{open_fits, keepalive_fits}
+use Rattle.pipe_world.proofs.first.first_said.Goals as goal
+
+pub write_message-requires : goal.write_message-requires
+write_message-requires c = subst (λ (o : OpenMsg). IsWritable (messages.OpenMsg o) false) (sym c.plain_open-open.ensures) (open_fits c.args.pipe.now.remote_as 180 c.args.pipe.now.remote_address (lit< tt) refl c.requires.remote_host)
+
+pub write_message-requires-2 : goal.write_message-requires-2
+write_message-requires-2 c = keepalive_fits
