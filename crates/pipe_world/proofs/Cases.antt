@@ -24,7 +24,7 @@ use Rattle.pipe_model.specs.Worlds.{BestRoutes, Prefixes}
 use Rattle.pipe_model.specs.Rows.{Marks, due_then}
 use Rattle.pipe_model.proofs.Keeping.{Early}
 use Rattle.pipe_world.specs.declared.world.PipeWorld.{PipeWorld}
-use Rattle.pipe_world.specs.Views.{session_in, world_of, noted, reading, AtFront, Stands}
+use Rattle.pipe_world.specs.Views.{session_in, world_of, noted, reading, AtFront, After}
 use Rattle.pipe_world.proofs.Firsts.{no_keys}
 use Rattle.pipe_world.proofs.Gotten.{got_went, begins_answered}
 use Rattle.pipe_world.proofs.Routing.{keeps_of}
@@ -79,7 +79,7 @@ no_best_yet w bytes f o = let e : Early (world_of w) (session_in w) = (keeps_of 
 
 module _ (w : PipeWorld) (bytes : List ℕ) (f : AtFront w bytes) where
   abbrev pub Leaves : PipeWorld → Type 0
-  Leaves v = Stands v × (v.pipe ≡ w.pipe)
+  Leaves v = After w v
 
   put_once : (m : Message) → w.put ++ spell m false ≡ w.put ++ flat_map (put_in false) (Put m ∷ [])
   put_once m = ap (λ (l : List ℕ). w.put ++ l) (sym (append-nil (spell m false)))

@@ -27,7 +27,7 @@ use Rattle.pipe_model.specs.Rows.{Gets, Marks, due_then}
 use Rattle.pipe_model.proofs.Gets.{state_next, got_then}
 use Rattle.pipe_model.proofs.Keeping.{Keeps, drop_front}
 use Rattle.pipe_world.specs.declared.world.PipeWorld.{PipeWorld}
-use Rattle.pipe_world.specs.Views.{session_in, world_of, noted, reading, IsKept, AtFront, Stands}
+use Rattle.pipe_world.specs.Views.{session_in, world_of, noted, reading, IsKept, AtFront, After}
 use Rattle.pipe_world.proofs.Routing.{keeps_of}
 use Rattle.pipe_world.proofs.Standing.{went}
 
@@ -71,7 +71,7 @@ pub got_went : (w : PipeWorld) (bytes : List ℕ) (answer : List Line) (next : S
     → heard ≡ unless_closed next (apply_if w.heard (update_in (reading w bytes)))
     → Marks w.loc.dirty dirty w.heard heard
     → due.contents ≡ due_then (state_of w.story.lines) next w.loc.best w.due.contents
-    → Stands (gotten w bytes answer heard dirty due) × (w.pipe ≡ w.pipe)
+    → After w (gotten w bytes answer heard dirty due)
 got_went w bytes answer next heard dirty due f reply hears marks dues = went Gets (record w { framer = f.held }) (gotten w bytes answer heard dirty due) f.stands (record {
   kept = record {
     sound = kept.sound;

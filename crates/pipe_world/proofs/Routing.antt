@@ -24,7 +24,7 @@ use Rattle.pipe_model.proofs.Runs.{kept, Kept}
 use Rattle.pipe_model.proofs.Tables.{has_none}
 use Rattle.pipe_world.specs.declared.world.PipeWorld.{PipeWorld}
 use Rattle.pipe_world.specs.Entries.{entry}
-use Rattle.pipe_world.specs.Views.{session_in, world_of, noted, is_established, Stands}
+use Rattle.pipe_world.specs.Views.{session_in, world_of, noted, is_established, Stands, After}
 use Rattle.pipe_world.proofs.Firsts.{first_has}
 use Rattle.pipe_world.proofs.Standing.{went}
 
@@ -56,7 +56,7 @@ and_false true u e = e
 and_false false u e = refl
 
 pub pass_went : (w : PipeWorld) (due : TableValue (Unit {0})) (p : PrefixValue) → Stands w → w.loc.dirty ≡ map.empty → first_above None (map.keys w.due.contents) ≡ Some p → due.contents ≡ map.empty
-    → let v : PipeWorld = noted (record w { due = due }) 0 1 0 0 in Stands v × (v.pipe ≡ w.pipe)
+    → let v : PipeWorld = noted (record w { due = due }) 0 1 0 0 in After w v
 pass_went w due p s clean first none = went Passes w (noted (record w { due = due }) 0 1 0 0) s (record {
   kept = record {
     sound = s.kept.sound;
@@ -107,7 +107,7 @@ pub decide_went : (w : PipeWorld) (loc : LocValue) (due : TableValue (Unit {0}))
     → first_above None (map.keys w.loc.dirty) ≡ Some p → best ≡ brought w.pipe (map.get w.heard p) → AreApart best (map.get w.loc.best p) changed
     → loc ≡ record { best = with_best w.loc.best p best; dirty = map.remove w.loc.dirty p }
     → due.contents ≡ due_if (changed && is_established (state_of w.story.lines)) w.due.contents p
-    → let v : PipeWorld = noted (record w { loc = loc; due = due }) 0 6 a b in Stands v × (v.pipe ≡ w.pipe)
+    → let v : PipeWorld = noted (record w { loc = loc; due = due }) 0 6 a b in After w v
 decide_went w loc due p best changed a b s address len first is_brought apart loc_is due_is = went (Decides p) w (noted (record w { loc = loc; due = due }) 0 6 a b) s (record {
   kept = record {
     sound = s.kept.sound;

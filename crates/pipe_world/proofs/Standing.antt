@@ -7,7 +7,7 @@ use Rattle.pipe_model.specs.Runs.{Step, Run}
 use Rattle.pipe_world.specs.declared.entry.JournalEntry.{JournalEntry}
 use Rattle.pipe_world.specs.declared.world.PipeWorld.{PipeWorld}
 use Rattle.pipe_world.specs.Entries.{entry_of, entries_after}
-use Rattle.pipe_world.specs.Views.{world_of, Stands, Made}
+use Rattle.pipe_world.specs.Views.{world_of, Stands, Made, After}
 
 run_more : (pipe : Pipe) (events : List Event) (event : Event) (w u v : World) → Run pipe w events u → Step pipe event u v → Run pipe w (events ++ event ∷ []) v
 run_more pipe [] event w u v run step = (v, subst (λ (x : World). Step pipe event x v) run step, refl)
@@ -18,7 +18,7 @@ entries_more clock [] event = ap (λ (c : ℕ). entry_of c event ∷ []) (omega 
 entries_more clock (e ∷ events) event =
     ap (λ (l : List JournalEntry). entry_of (clock + 1) e ∷ l) (entries_more (clock + 1) events event ∙ ap (λ (c : ℕ). entries_after (clock + 1) events ++ entry_of c event ∷ []) (omega arith))
 
-pub went : (event : Event) (old new : PipeWorld) → Stands old → Made event old new → Stands new × (new.pipe ≡ old.pipe)
+pub went : (event : Event) (old new : PipeWorld) → Stands old → Made event old new → After old new
 went event old new s m = (
   record {
     kept = m.kept;
@@ -28,4 +28,5 @@ went event old new s m = (
     run = subst (λ (p : Pipe). Run p (first_world p) (s.events ++ event ∷ []) (world_of new)) (sym m.pipe) (run_more old.pipe s.events event (first_world old.pipe) (world_of old) (world_of new) s.run m.step);
   },
   m.pipe,
+  (let c = m.clock in omega arith),
 )

@@ -12,14 +12,14 @@ use Rattle.pipe_model.proofs.Runs.{Kept, kept}
 use Rattle.pipe_model.specs.Pipes.{said_at}
 use Rattle.pipe_model.specs.Rows.{Orders, Says, Carries, Homeward, Remoteward}
 use Rattle.pipe_world.specs.declared.world.PipeWorld.{PipeWorld}
-use Rattle.pipe_world.specs.Views.{session_in, world_of, noted, Stands}
+use Rattle.pipe_world.specs.Views.{session_in, world_of, noted, Stands, After}
 use Rattle.pipe_world.proofs.Standing.{went}
 
 -- a step is ordered
 abbrev pub ordered : PipeWorld → VecDeque ℕ Global → PipeWorld
 ordered w orders = noted (record w { orders = orders; issued = w.issued + 1 }) 2 24 w.issued 0
 
-pub order_went : (w : PipeWorld) (orders : VecDeque ℕ Global) → Stands w → w.issued < length w.pipe.says → orders.items ≡ w.orders.items ++ w.issued ∷ [] → Stands (ordered w orders) × (w.pipe ≡ w.pipe)
+pub order_went : (w : PipeWorld) (orders : VecDeque ℕ Global) → Stands w → w.issued < length w.pipe.says → orders.items ≡ w.orders.items ++ w.issued ∷ [] → After w (ordered w orders)
 order_went w orders s there items = went (Orders w.issued) w (ordered w orders) s (record {
   kept = record {
     sound = s.kept.sound;
@@ -39,7 +39,7 @@ order_went w orders s there items = went (Orders w.issued) w (ordered w orders) 
 
 -- an ordered step is said
 pub say_went : (w : PipeWorld) (orders : VecDeque ℕ Global) (step : ℕ) (said : List ℕ) → Stands w → w.orders.items ≡ step ∷ orders.items → said ≡ w.said ++ said_at w.pipe step
-    → let v : PipeWorld = noted (record w { orders = orders; said = said }) 1 17 step 0 in Stands v × (v.pipe ≡ w.pipe)
+    → let v : PipeWorld = noted (record w { orders = orders; said = said }) 1 17 step 0 in After w v
 say_went w orders step said s first more = went (Says step) w (noted (record w { orders = orders; said = said }) 1 17 step 0) s (record {
   kept = record {
     sound = s.kept.sound;
@@ -68,7 +68,7 @@ say_went w orders step said s first more = went (Says step) w (noted (record w {
 
 -- bytes that were put reach the remote
 pub out_went : (w : PipeWorld) (n : ℕ) → Stands w → 1 ≤ n → w.received + n ≤ length w.put
-    → let v : PipeWorld = noted (record w { received = w.received + n }) 0 101 1 n in Stands v × (v.pipe ≡ w.pipe)
+    → let v : PipeWorld = noted (record w { received = w.received + n }) 0 101 1 n in After w v
 out_went w n s some there = went (Carries Remoteward n) w (noted (record w { received = w.received + n }) 0 101 1 n) s (record {
   kept = record {
     sound = s.kept.sound;
@@ -107,7 +107,7 @@ take_more (suc m) n (x ∷ xs) h =
     ap (λ (l : List ℕ). x ∷ l) (take_more m n xs (let z : suc m ≤ length (x ∷ xs) = h in omega arith)) ∙ ap (λ (k : ℕ). take k (x ∷ xs)) e
 
 pub home_went : (w : PipeWorld) (n : ℕ) (framer : List ℕ) → Stands w → 1 ≤ n → w.arrived + n ≤ length w.said → framer ≡ w.framer ++ take n (drop w.arrived w.said)
-    → let v : PipeWorld = noted (record w { framer = framer; arrived = w.arrived + n }) 1 101 0 n in Stands v × (v.pipe ≡ w.pipe)
+    → let v : PipeWorld = noted (record w { framer = framer; arrived = w.arrived + n }) 1 101 0 n in After w v
 home_went w n framer s some there fed = went (Carries Homeward n) w (noted (record w { framer = framer; arrived = w.arrived + n }) 1 101 0 n) s (record {
   kept = record {
     sound = s.kept.sound;

@@ -1,5 +1,5 @@
 -- The world that a running pipe is, and the run that led to it.
-use Rattle.std.specs.Prelude.{◌≡◌, ◌≢◌, ℕ, ◌+◌, ◌≤◌, List, [], ◌∷◌, ◌++◌, length, take, drop, Some, None, Result, Bool, true, false, ◌⊎◌}
+use Rattle.std.specs.Prelude.{◌≡◌, ◌≢◌, ℕ, ◌+◌, ◌<◌, ◌≤◌, List, [], ◌∷◌, ◌++◌, length, take, drop, Some, None, Result, Bool, true, false, ◌⊎◌}
 use Rattle.std.specs.FinMap as map
 use Rattle.bgp_types.specs.declared.message.SessionState.{SessionState}
 use Rattle.bgp_types.specs.declared.message.SessionState.TheVariants.{OpenSent, OpenConfirm, Established, Closed}
@@ -71,9 +71,13 @@ pub record Made (event : Event) (old new : PipeWorld) : Type 0 where
   pub journal : new.journal ≡ old.journal ++ entry_of (old.clock + 1) event ∷ []
   pub clock : new.clock ≡ old.clock + 1
 
--- An event was made and the pipe stands, or nothing has changed.
+-- Events were made and noted, and the pipe stands.
+abbrev pub After : PipeWorld → PipeWorld → Type 0
+After old new = Stands new × (new.pipe ≡ old.pipe) × (old.clock < new.clock)
+
+-- Events were made, or nothing has changed.
 abbrev pub Went : Bool → PipeWorld → PipeWorld → Type 0
-Went true old new = Stands new × (new.pipe ≡ old.pipe)
+Went true old new = After old new
 Went false old new = new ≡ old
 
 -- ---- what is got

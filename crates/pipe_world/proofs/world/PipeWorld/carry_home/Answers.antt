@@ -1,10 +1,10 @@
 use Rattle.std.proofs.Common.{rules, ◌≡◌, subst, sym}
 use Rattle.pipe_world.specs.declared.world.PipeWorld.{PipeWorld}
-use Rattle.pipe_world.specs.Views.{Stands}
+use Rattle.pipe_world.specs.Views.{After}
 use Rattle.pipe_world.proofs.Turns.{home_went}
 use Rattle.pipe_world.proofs.world.PipeWorld.carry_home.Goals as goal
 
 pub returns-clause-went : goal.returns-clause-went
 returns-clause-went c =
-    subst (λ (x : PipeWorld). Stands x × (x.pipe ≡ c.args.self.now.pipe)) (sym c.in_ok-note.ensures)
+    subst (λ (x : PipeWorld). After c.args.self.now x) (sym c.in_ok-note.ensures)
     (home_went c.args.self.now c.at_once-bytes.result c.feed.new.self c.requires (search rules) (search rules) (search rules))

@@ -1,6 +1,6 @@
 use Rattle.std.proofs.Common.{◌≡◌, subst, sym}
 use Rattle.pipe_world.specs.declared.world.PipeWorld.{PipeWorld}
-use Rattle.pipe_world.specs.Views.{Stands}
+use Rattle.pipe_world.specs.Views.{After}
 use Rattle.pipe_world.proofs.Gotten.{begins_got}
 use Rattle.pipe_world.proofs.Cases.{on_ok, close_leaves}
 use Rattle.pipe_world.proofs.world.PipeWorld.close.Goals as goal
@@ -9,5 +9,5 @@ pub write_got-requires : goal.write_got-requires
 write_got-requires c = record { begins = begins_got c.args.self.now c.args.bytes c.requires.front }
 
 pub returns : goal.returns
-returns c = on_ok c.note.result (λ e. subst (λ (x : PipeWorld). Stands x × (x.pipe ≡ c.args.self.now.pipe)) (sym e)
+returns c = on_ok c.note.result (λ e. subst (λ (x : PipeWorld). After c.args.self.now x) (sym e)
     (close_leaves c.args.self.now c.args.bytes c.requires.front c.write_got.new.self c.drop_routes.new.self c.requires.reply c.in_ok-write_got.ensures c.in_ok-drop_routes.ensures.routes c.in_ok-drop_routes.ensures.marks c.in_ok-drop_routes.ensures.due)) c.note.ensures

@@ -6,7 +6,7 @@ use Rattle.loc_rib.specs.Values.{LocValue}
 use Rattle.pipe_model.specs.Worlds.{Prefixes}
 use Rattle.pipe_model.specs.Rows.{Marks}
 use Rattle.pipe_world.specs.declared.world.PipeWorld.{PipeWorld}
-use Rattle.pipe_world.specs.Views.{Stands}
+use Rattle.pipe_world.specs.Views.{After}
 use Rattle.pipe_world.proofs.Gotten.{begins_got}
 use Rattle.pipe_world.proofs.Marking.{marks_changed}
 use Rattle.pipe_world.proofs.Cases.{on_ok, hear_leaves}
@@ -16,7 +16,7 @@ pub write_got-requires : goal.write_got-requires
 write_got-requires c = record { begins = begins_got c.args.self.now c.args.bytes c.requires.front }
 
 pub returns : goal.returns
-returns c = on_ok c.note.result (λ e. subst (λ (x : PipeWorld). Stands x × (x.pipe ≡ c.args.self.now.pipe)) (sym e)
+returns c = on_ok c.note.result (λ e. subst (λ (x : PipeWorld). After c.args.self.now x) (sym e)
     (hear_leaves c.args.self.now c.args.bytes c.requires.front c.write_got.new.self c.args.update.now c.apply.new.self c.mark_all.new.loc c.requires.reading c.in_ok-write_got.ensures c.in_ok-changed.ensures.routes
     (ap (λ (x : LocValue). x.best) c.in_ok-mark_all.ensures)
     (subst (λ (x : Prefixes). Marks c.write_got.new.self.loc.dirty x c.write_got.new.self.heard c.apply.new.self) (sym (ap (λ (x : LocValue). x.dirty) c.in_ok-mark_all.ensures ∙ ap (λ (ps : List PrefixValue). fold (λ (d : Prefixes) (p : PrefixValue). map.insert d p tt) c.write_got.new.self.loc.dirty ps) c.as_slice.ensures))

@@ -1,6 +1,6 @@
 use Rattle.std.proofs.Common.{◌≡◌, subst, sym, ap}
 use Rattle.pipe_world.specs.declared.world.PipeWorld.{PipeWorld}
-use Rattle.pipe_world.specs.Views.{Stands}
+use Rattle.pipe_world.specs.Views.{After}
 use Rattle.pipe_world.proofs.Gotten.{begins_got}
 use Rattle.bgp_types.specs.declared.message.Message.TheVariants.{NoticeMsg}
 use Rattle.bgp_story.specs.Legal.{reply_to}
@@ -18,5 +18,5 @@ pub answer-requires-clause-writable : goal.answer-requires-clause-writable
 answer-requires-clause-writable c = answer_writable _ c.args.bytes c.args.notice _ c.requires.fault
 
 pub returns : goal.returns
-returns c = on_ok c.note.result (λ e. subst (λ (x : PipeWorld). Stands x × (x.pipe ≡ c.args.self.now.pipe)) (sym e)
+returns c = on_ok c.note.result (λ e. subst (λ (x : PipeWorld). After c.args.self.now x) (sym e)
     (refuse_leaves c.args.self.now c.args.bytes c.requires.front c.write_got.new.self c.answer.new.self c.drop_routes.new.self c.args.notice c.requires.fault c.in_ok-write_got.ensures c.in_ok-answer.ensures c.in_ok-drop_routes.ensures.routes c.in_ok-drop_routes.ensures.marks c.in_ok-drop_routes.ensures.due)) c.note.ensures
