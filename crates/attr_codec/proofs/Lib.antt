@@ -1,3 +1,4 @@
+pub mod KeptLaws
 pub mod PathLaws
 pub mod PieceLaws
 pub mod SaidLaws

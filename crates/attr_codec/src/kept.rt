@@ -9,7 +9,7 @@ use bgp_types::{NoMemory, RawAttr, RawAttrs};
 use std::alloc::Global;
 use std::marker::Model;
 
-/// Attributes of unknown types, which are put in rising type.
+/// Attributes of unknown types, which are put in rising type: no type is lower than one before it.
 #[derive(Debug, Drop)]
 pub struct Kept {
     attrs: Vec<RawAttr>,
@@ -17,26 +17,15 @@ pub struct Kept {
 
 impl Model for Kept {
     ghost use Rattle.std.specs.Prelude.{List};
+    ghost use Rattle.std.specs.List.Sorted.{IsNonDecreasingBy};
     ghost use Rattle.bgp_types.specs.declared.attrs.RawAttr.{RawAttr};
+    ghost use Rattle.bgp_types.specs.Values.{other_kind};
 
     ghost Value = { List RawAttr };
 
     ghost view = { λ kept. kept.attrs.items };
-}
 
-/// How many attributes at the front have a lower type.
-fn place_of(attrs: &[RawAttr], kind: u8) -> usize
-    ensures within { result ≤ length attrs.now }
-    ensures place { (attr : RawAttr) → other_kind attr ≡ kind → insert attrs.now result attr ≡ insert_by other_kind attr attrs.now }
-{
-    let mut place = 0;
-    for attr in attrs {
-        if attr.kind >= kind {
-            return place;
-        }
-        place += 1;
-    }
-    place
+    ghost invariant = { λ kept. IsNonDecreasingBy other_kind kept.attrs.items };
 }
 
 impl Kept {
@@ -49,11 +38,19 @@ impl Kept {
         }
     }
 
+    /// How many attributes at the front have a lower type.
+    fn place_of(&self, kind: u8) -> usize
+        ensures within { result ≤ length self.now }
+        ensures place { (attr : RawAttr) → other_kind attr ≡ kind → insert self.now result attr ≡ insert_by other_kind attr self.now }
+    {
+        self.attrs.partition_point(|attr| attr.kind < kind)
+    }
+
     /// Puts an attribute before the first one of its type or of a higher type.
     pub fn put(&mut self, attr: RawAttr) -> Result<(), NoMemory>
         ensures { OnOk result (self.new ≡ insert_by other_kind attr self.old) }
     {
-        let place = place_of(self.attrs.as_slice(), attr.kind);
+        let place = self.place_of(attr.kind);
         Ok(self.attrs.insert(place, attr)?)
     }
 

@@ -1,4 +1,4 @@
-use Rattle.std.proofs.Common.{rules, ◌≡◌, subst, sym}
+use Rattle.std.proofs.Common.{rules, subst, sym}
 use Rattle.pipe_world.specs.declared.world.PipeWorld.{PipeWorld}
 use Rattle.pipe_world.specs.Views.{After}
 use Rattle.pipe_world.proofs.Turns.{order_went}

@@ -1,4 +1,4 @@
-use Rattle.std.proofs.Common.{◌≡◌, subst, sym, ap}
+use Rattle.std.proofs.Common.{subst, sym, ap}
 use Rattle.pipe_world.specs.declared.world.PipeWorld.{PipeWorld}
 use Rattle.pipe_world.specs.Views.{After}
 use Rattle.pipe_world.proofs.Gotten.{begins_got}
