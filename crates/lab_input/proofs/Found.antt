@@ -1,30 +1,17 @@
 -- What stands at a key, found.
-use Rattle.std.proofs.Common.{◌≡◌, ◌≢◌, ℕ, ◌<◌, ◌≤◌, List, [], ◌∷◌, length, get_or, map, ◌||◌, refl, sym, ap, ◌∙◌, subst, arith}
-use Rattle.std.specs.Prelude.{Option, Some, None, IsTrue, ◌↔◌, slice_index}
+use Rattle.std.proofs.Common.{◌≡◌, ℕ, List, [], ◌∷◌, length, get_or, map, ◌||◌, refl, sym, ap, ◌∙◌, subst, arith}
+use Rattle.std.specs.Prelude.{Some}
 use Rattle.std.proofs.Common.{Bool, true, false, not, is_some, string_bytes, String, Global}
 use Rattle.std.specs.List.{list_any}
 use Rattle.std.specs.Map.{keys_of}
-use Rattle.toml.specs.Data.{Data, string, integer, float, boolean, datetime, array, table, as_str, as_array, Items, no_items, item, Members, get_member}
+use Rattle.toml.specs.Data.{Data, string, integer, float, boolean, datetime, array, table, as_str, as_array, Items, no_items, item, Members}
 use Rattle.toml.specs.declared.value.Value.{Value}
 use Rattle.toml.specs.View.{view, items_view, members_view}
-use Rattle.bgp_types.specs.Finds.{Finds}
-use Rattle.bgp_types.specs.Prefixes.{PrefixValue}
-use Rattle.bgp_types.specs.Texts.{IsAddressText, IsPrefixText, IsHost}
+use Rattle.bgp_types.specs.Texts.{IsAddressText, IsHost}
 use Rattle.bgp_types.proofs.TextLemmas.{IsAddressText_unique}
-use Rattle.lab_input.specs.Fields.{TextAt, HostAt, PrefixesAt, stray_in, is_one_of}
+use Rattle.lab_input.specs.Fields.{TextAt, HostAt, stray_in, is_one_of}
 use Rattle.std.specs.Str.{bytes_eq}
 use Rattle.std.specs.Borrow.{Bor}
-use Rattle.std.specs.Prelude.{codes}
-use Rattle.lab_input.specs.declared.input.PeeringInput.{PeeringInput}
-use Rattle.lab_input.specs.declared.input.Step.{Step}
-use Rattle.lab_input.specs.declared.input.Step.TheVariants.{Announce}
-use Rattle.std.specs.Prelude.{slice_get, Err}
-use Rattle.lab_input.specs.declared.input.RouterInput.{RouterInput}
-use Rattle.lab_input.specs.declared.input.LabInput.{LabInput}
-use Rattle.lab_input.specs.declared.input.LabStop.{LabStop}
-use Rattle.lab_input.specs.declared.input.LabStop.TheVariants.{Bad, NoMemory}
-use Rattle.lab_input.specs.Labs.{Answers}
-use Rattle.lab_input.specs.Tables.{GivesStep, GivesPeering, GivesLab}
 
 -- an array that is seen as one item has one value
 pub one_item : (vs : List Value) (d : Data) → items_view vs ≡ item d no_items → length vs ≡ 1
@@ -38,20 +25,6 @@ no_host t key text address at written barred other is =
     let same : is.text ≡ text = cc in
     let there : IsAddressText text other = subst (λ w. IsAddressText w other) same is.address_text in
     barred (subst IsHost (IsAddressText_unique text other address there written) is.host)
-
--- the prefix of the one text at a key
-pub prefix_found : (t : Members) (key text : List ℕ) → get_member key t ≡ Some (array (item (string text) no_items)) → (o : Option PrefixValue) → Finds (IsPrefixText text) o → Finds (λ p. PrefixesAt t key (p ∷ [])) o
-prefix_found t key text at None none = λ p is.
-    let same : is.text ≡ text = cc in
-    none is.prefix (subst (λ w. IsPrefixText w is.prefix) same is.prefix_text)
-prefix_found t key text at (Some p) found = record { text = text; prefix = p; at = at; prefix_text = found; one = refl }
-
--- where the one value at a key is no text, no prefix stands there
-pub no_prefix : (t : Members) (key : List ℕ) (d : Data) → get_member key t ≡ Some (array (item d no_items)) → ((text : List ℕ) → d ≡ string text → ⊥) → (p : PrefixValue) → PrefixesAt t key (p ∷ []) → ⊥
-no_prefix t key d at other p is = let same : d ≡ string is.text = cc in other is.text same
-
-pub nothing_there : (t : Members) (key : List ℕ) → ((d : Data) → get_member key t ≡ Some (array (item d no_items)) → ⊥) → (p : PrefixValue) → PrefixesAt t key (p ∷ []) → ⊥
-nothing_there t key none p is = none (string is.text) is.at
 
 pub as_str-string : (text : List ℕ) (d : Data) → Some text ≡ as_str d → d ≡ string text
 as_str-string text (string s) is = cc
@@ -103,40 +76,3 @@ stray_in-known known es =
     list_any-same : {X : Type 0} (f g : X → Bool) → ((x : X) → f x ≡ g x) → (xs : List X) → list_any f xs ≡ list_any g xs
     list_any-same f g same [] = refl
     list_any-same f g same (x ∷ xs) = rw (same x) (ap (λ b. g x || b) (list_any-same f g same xs))
-
--- where no prefix stands at the key, the table gives no step
-pub no_step : (peerings : List PeeringInput) (t : Members) → ((p : PrefixValue) → PrefixesAt t (codes "prefixes") (p ∷ []) → ⊥) → (step : Step) → GivesStep peerings t step → ⊥
-no_step peerings t none (Announce place prefixes) gives =
-    let one = gives.prefixes.one in
-    none gives.prefixes.prefix (record { text = gives.prefixes.text; prefix = gives.prefixes.prefix; at = gives.prefixes.at; prefix_text = gives.prefixes.prefix_text; one = refl })
-
--- a step is given by the names of the peerings alone
-GivesStep-names : (ps qs : List PeeringInput) (t : Members) → map (λ p. p.name) ps ≡ map (λ p. p.name) qs → (step : Step) → GivesStep ps t step → GivesStep qs t step
-GivesStep-names ps qs t same (Announce place prefixes) gives = record {
-  announces = gives.announces;
-  peering = record { text = gives.peering.text; at = gives.peering.at; named = subst (λ names. slice_get names place.0 ≡ Some gives.peering.text) same gives.peering.named };
-  prefixes = gives.prefixes;
-  known = gives.known;
-}
-
--- where the one step's table gives no step of the one peering, the document gives no input
-pub no_input : (doc peering_table step_table : Members) (home_as : ℕ) (routers : List RouterInput) (p : PeeringInput)
-    → get_member (codes "peering") doc ≡ Some (array (item (table peering_table) no_items)) → GivesPeering home_as routers peering_table p
-    → get_member (codes "step") doc ≡ Some (array (item (table step_table) no_items)) → ((step : Step) → GivesStep (p ∷ []) step_table step → ⊥)
-    → (input : LabInput) → GivesLab doc input → ⊥
-no_input doc peering_table step_table home_as routers p peering_at peering step_at none input gives =
-    let other = gives.peering in
-    let table_same : other.inner ≡ peering_table = cc in
-    let given : GivesPeering input.home_as input.routers peering_table other.value = subst (λ t. GivesPeering input.home_as input.routers t other.value) table_same other.gives in
-    let name_same : other.value.name ≡ p.name = cc (given.name.at, peering.name.at) in
-    let names : map (λ q. q.name) input.peerings ≡ p.name ∷ [] = ap (map (λ q. q.name)) other.one ∙ ap (λ n. n ∷ []) name_same in
-    let step_same : gives.step.inner ≡ step_table = cc in
-    let step : GivesStep input.peerings step_table gives.step.value = subst (λ t. GivesStep input.peerings t gives.step.value) step_same gives.step.gives in
-    none gives.step.value (GivesStep-names input.peerings (p ∷ []) step_table names gives.step.value step)
-
-pub step_refused : (doc peering_table step_table : Members) (home_as : ℕ) (routers : List RouterInput) (p : PeeringInput)
-    → get_member (codes "peering") doc ≡ Some (array (item (table peering_table) no_items)) → GivesPeering home_as routers peering_table p
-    → get_member (codes "step") doc ≡ Some (array (item (table step_table) no_items))
-    → (stop : LabStop) → Answers (GivesStep (p ∷ []) step_table) (Err stop) → Answers (GivesLab doc) (Err stop)
-step_refused doc peering_table step_table home_as routers p peering_at peering step_at (Bad bad) none = no_input doc peering_table step_table home_as routers p peering_at peering step_at none
-step_refused doc peering_table step_table home_as routers p peering_at peering step_at NoMemory none = tt

@@ -1,9 +1,13 @@
 -- What stands at a key of a table, by the kind of the field.
-use Rattle.std.specs.Prelude.{◌≡◌, ℕ, ◌<◌, ◌≤◌, ◌==◌, pos, Bool, ◌&&◌, ◌||◌, nat_le, List, [], ◌∷◌, length, Option, Some, None, slice_get, slice_index, IsTrue, if◌then◌else◌}
+use Rattle.std.specs.Prelude.{◌⊎◌, codes, ◌≡◌, ℕ, ◌<◌, ◌≤◌, ◌==◌, pos, Bool, ◌&&◌, ◌||◌, nat_le, List, [], ◌∷◌, length, Option, Some, None, slice_get, slice_index, IsTrue, if◌then◌else◌}
 use Rattle.std.specs.List.{list_all, list_any}
 use Rattle.std.specs.Str.{bytes_eq}
 use Rattle.toml.specs.Data.{Data, string, integer, array, table, Items, no_items, item, Members, no_members, member, get_member}
-use Rattle.bgp_types.specs.Prefixes.{PrefixValue}
+use Rattle.bgp_types.specs.declared.attrs.Origin.{Origin}
+use Rattle.bgp_types.specs.declared.attrs.Origin.TheVariants.{Igp, Egp, Incomplete}
+use Rattle.bgp_types.specs.declared.path.PathPart.{PathPart}
+use Rattle.bgp_types.specs.declared.path.PathPart.TheVariants.{Sequence}
+use Rattle.bgp_types.specs.Prefixes.{PrefixValue, once_after}
 use Rattle.bgp_types.specs.Texts.{IsAddressText, IsPrefixText, IsHost}
 
 abbrev pub is_small_letter : ℕ → Bool
@@ -45,13 +49,62 @@ pub record NamedAt (t : Members) (key : List ℕ) (names : List (List ℕ)) (pla
   pub at : TextAt t key text
   pub named : slice_get names place ≡ Some text
 
--- an array of one prefix
-pub record PrefixesAt (t : Members) (key : List ℕ) (prefixes : List PrefixValue) : Type 0 where
+-- each item of an array gives the value at its place
+abbrev pub Each : {A : Type 0} → (Data → A → Type 0) → Items → List A → Type 0
+Each Gives no_items [] = Unit {0}
+Each Gives no_items (x ∷ xs) = ⊥
+Each Gives (item d ds) [] = ⊥
+Each Gives (item d ds) (x ∷ xs) = Gives d x × Each Gives ds xs
+
+-- an array whose items give these values, of which there are some number from low to high
+pub record ArrayAt {A : Type 0} (t : Members) (key : List ℕ) (low high : ℕ) (Gives : Data → A → Type 0) (values : List A) : Type 0 where
+  pub items : Items
+  pub at : get_member key t ≡ Some (array items)
+  pub gives : Each Gives items values
+  pub enough : low ≤ length values
+  pub few : length values ≤ high
+
+-- a text that writes this prefix
+pub record GivesPrefix (d : Data) (prefix : PrefixValue) : Type 0 where
   pub text : List ℕ
-  pub prefix : PrefixValue
-  pub at : get_member key t ≡ Some (array (item (string text) no_items))
+  pub at : d ≡ string text
   pub prefix_text : IsPrefixText text prefix
-  pub one : prefixes ≡ prefix ∷ []
+
+-- a number from 1 to 65535
+pub record GivesAs (d : Data) (as_number : ℕ) : Type 0 where
+  pub at : d ≡ integer (pos as_number)
+  pub some : 1 ≤ as_number
+  pub fits : as_number ≤ 65535
+
+-- 1 to 200 prefixes, of which each counts once, at its first place
+pub record PrefixesAt (t : Members) (key : List ℕ) (prefixes : List PrefixValue) : Type 0 where
+  pub written : List PrefixValue
+  pub at : ArrayAt t key 1 200 GivesPrefix written
+  pub once : prefixes ≡ once_after [] written
+
+-- what stands at a key that may be left out, or what counts where it is
+abbrev pub OrElse : {A : Type 0} → Members → List ℕ → (A → Type 0) → A → A → Type 0
+OrElse t key At default value = ((get_member key t ≡ None) × (value ≡ default)) ⊎ At value
+
+-- the origin by its name (RFC 4271, section 5.1.1)
+abbrev pub origin_text : Origin → List ℕ
+origin_text Igp = codes "igp"
+origin_text Egp = codes "egp"
+origin_text Incomplete = codes "incomplete"
+
+abbrev pub OriginAt : Members → List ℕ → Origin → Type 0
+OriginAt t key origin = TextAt t key (origin_text origin)
+
+-- a path of one sequence, or none
+abbrev pub path_of : List ℕ → List PathPart
+path_of [] = []
+path_of (as_number ∷ ases) = Sequence (as_number ∷ ases) ∷ []
+
+-- a table, which gives this value
+pub record GivesTable {A : Type 0} (Gives : Members → A → Type 0) (d : Data) (value : A) : Type 0 where
+  pub inner : Members
+  pub at : d ≡ table inner
+  pub gives : Gives inner value
 
 -- an array of one table, which gives this value
 pub record TableAt {A : Type 0} (t : Members) (key : List ℕ) (Gives : Members → A → Type 0) (values : List A) : Type 0 where

@@ -1,4 +1,5 @@
 pub mod Documents
 pub mod Fields
 pub mod Labs
+pub mod Said
 pub mod Tables

@@ -1,16 +1,20 @@
 //! What stands at a key of a table.
 
-ghost use Rattle.std.specs.Prelude.{◌≡◌, ◌≤◌, ◌<◌, ◌^◌, ◌↔◌, [], ◌∷◌, ℕ, List, Some, not, option_map, IsTrue, IsNone, map, string_bytes, is_some};
+ghost use Rattle.std.specs.Prelude.{◌≡◌, ◌<◌, ◌↔◌, [], ◌∷◌, Some, not, option_map, IsTrue, map, string_bytes, is_some};
 ghost use Rattle.std.specs.List.{list_any, list_all};
 ghost use Rattle.std.specs.Str.{bytes_eq};
 ghost use Rattle.std.specs.BTreeMap.{keys};
 ghost use Rattle.toml.specs.Data.{get_member, array, item, no_items, table as data_table};
 ghost use Rattle.toml.specs.View.{view, table_view};
 ghost use Rattle.bgp_types.specs.Finds.{Finds};
-ghost use Rattle.lab_input.specs.Fields.{TextAt, NumberAt, NameAt, HostAt, NamedAt, PrefixesAt, TableAt, IsName, is_name_char as is_name_char_lem, is_one_of as is_one_of_lem, stray_in};
+ghost use Rattle.lab_input.specs.Fields.{TextAt, NumberAt, NameAt, HostAt, NamedAt, IsName, is_name_char as is_name_char_lem, is_one_of as is_one_of_lem, stray_in};
 
-use bgp_types::{Prefix, is_host, read_address, read_prefix};
+use crate::input::{BadInput, LabStop};
+use bgp_types::{is_host, read_address};
 use toml::{Table, Value};
+
+/// What is answered where there is no value.
+pub(crate) const NOT_BUILT: LabStop = LabStop::Bad(BadInput::NotBuilt);
 
 fn is_name_char(c: u8) -> bool
     ensures { result ≡ is_name_char_lem c }
@@ -36,7 +40,7 @@ pub(crate) fn is_name(text: &str) -> bool
 }
 
 /// The value at a key.
-fn value_at<'a>(table: &'a Table, key: &str) -> Option<&'a Value>
+pub(crate) fn value_at<'a>(table: &'a Table, key: &str) -> Option<&'a Value>
     ensures { option_map (λ v. view v.now) result ≡ get_member key.now (table_view table.now) }
 {
     table.get(key)
@@ -106,19 +110,6 @@ fn item_at<'a>(table: &'a Table, key: &str) -> Option<&'a Value>
     } else {
         None
     }
-}
-
-/// The one prefix of the array at a key.
-pub(crate) fn prefix_at(table: &Table, key: &str) -> Option<Prefix>
-    ensures { Finds (λ p. PrefixesAt (table_view table.now) key.now (p ∷ [])) result }
-{
-    let Some(value) = item_at(table, key) else {
-        return None;
-    };
-    let Some(text) = value.as_str() else {
-        return None;
-    };
-    read_prefix(text)
 }
 
 /// The one table of the array at a key.

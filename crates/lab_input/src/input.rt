@@ -1,6 +1,6 @@
 //! The value of an input.
 
-use bgp_types::{Items, Name, NoMemory, PeeringId, PrefixList, RouterId};
+use bgp_types::{Attrs, Items, Name, NoMemory, PeeringId, PrefixList, RouterId};
 use thiserror::Error;
 
 /// A laboratory and its script: routers and peerings in the order of the input, names resolved to
@@ -33,11 +33,17 @@ pub struct PeeringInput {
     pub local_address: u32,
 }
 
-/// A step of the script.
+/// A step of the script. Each prefix stands once, at its first place.
 #[derive(Debug, Drop)]
 pub enum Step {
-    /// The remote of the peering announces these prefixes.
+    /// The remote of the peering announces these prefixes with these attributes.
     Announce {
+        peering: PeeringId,
+        prefixes: PrefixList,
+        attrs: Attrs,
+    },
+    /// The remote of the peering withdraws these prefixes.
+    Withdraw {
         peering: PeeringId,
         prefixes: PrefixList,
     },

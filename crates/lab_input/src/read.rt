@@ -4,18 +4,17 @@ ghost use Rattle.std.specs.Prelude.{◌≡◌, ◌∷◌, [], IfOk, is_some};
 ghost use Rattle.toml.specs.View.{table_view};
 ghost use Rattle.lab_input.specs.Labs.{InputOf, Answers};
 ghost use Rattle.lab_input.specs.Fields.{is_one_of, stray_in};
-ghost use Rattle.lab_input.specs.Tables.{GivesRouter, GivesPeering, GivesStep, GivesLab, peering_keys};
+ghost use Rattle.lab_input.specs.Tables.{GivesRouter, GivesPeering, GivesLab, peering_keys};
 
-use crate::fields::{has_stray, host_at, is_named_at, name_at, number_at, prefix_at, table_at};
-use crate::input::{BadInput, LabInput, LabStop, PeeringInput, RouterInput, Step};
-use bgp_types::{Items, Name, NoMemory, PeeringId, RouterId};
+use crate::fields::{NOT_BUILT, has_stray, host_at, is_named_at, name_at, number_at, table_at};
+use crate::input::{LabInput, LabStop, PeeringInput, RouterInput, Steps};
+use crate::steps::{name_few, steps_at};
+use bgp_types::{Items, Name, NoMemory, RouterId};
 use std::alloc::Global;
 use toml::Table;
 
 /// The greatest number of bytes of an input.
 pub const MOST_BYTES: usize = 4_194_304;
-
-const NOT_BUILT: LabStop = LabStop::Bad(BadInput::NotBuilt);
 
 fn read_router(alloc: Global, table: &Table) -> Result<RouterInput, LabStop>
     ensures { Answers (GivesRouter (table_view table.now)) result }
@@ -88,50 +87,25 @@ fn read_peering(
     }
 }
 
-/// A step of the one peering.
-fn read_step(alloc: Global, table: &Table, peering: &PeeringInput) -> Result<Step, LabStop>
-    ensures { Answers (GivesStep (peering.now ∷ []) (table_view table.now)) result }
-{
-    if !is_named_at(table, "do", "announce") {
-        return Err(NOT_BUILT);
-    }
-    if !is_named_at(table, "peering", peering.name.as_str()) {
-        return Err(NOT_BUILT);
-    }
-    let Some(prefix) = prefix_at(table, "prefixes") else {
-        return Err(NOT_BUILT);
-    };
-    if has_stray(table, &["do", "peering", "prefixes"]) {
-        return Err(NOT_BUILT);
-    }
-    match Items::one(alloc, prefix) {
-        Ok(prefixes) => Ok(Step::Announce {
-            peering: PeeringId(0),
-            prefixes,
-        }),
-        Err(_) => Err(LabStop::NoMemory),
-    }
-}
-
-/// The input with one router, one peering and one step.
+/// The input with one router, one peering and these steps.
 fn input_of_one(
     alloc: Global,
     home_as: u32,
     router: RouterInput,
     peering: PeeringInput,
-    step: Step,
+    steps: Steps,
 ) -> Result<LabInput, NoMemory>
-    ensures { IfOk result (λ input. input ≡ record { home_as = home_as; routers = router ∷ []; peerings = peering ∷ []; steps = step ∷ [] }) }
+    ensures { IfOk result (λ input. input ≡ record { home_as = home_as; routers = router ∷ []; peerings = peering ∷ []; steps = steps }) }
 {
     Ok(LabInput {
         home_as,
         routers: Items::one(alloc, router)?,
         peerings: Items::one(alloc, peering)?,
-        steps: Items::one(alloc, step)?,
+        steps,
     })
 }
 
-/// The input of a document of one router, one peering and one step.
+/// The input of a document of one router, one peering and steps.
 fn read_document(alloc: Global, doc: &Table) -> Result<LabInput, LabStop>
     ensures { Answers (GivesLab (table_view doc.now)) result }
 {
@@ -141,34 +115,23 @@ fn read_document(alloc: Global, doc: &Table) -> Result<LabInput, LabStop>
     let Some(router) = table_at(doc, "router") else {
         return Err(NOT_BUILT);
     };
-    let router = match read_router(alloc, router) {
-        Ok(router) => router,
-        Err(stop) => return Err(stop),
-    };
+    let router = read_router(alloc, router)?;
     let Some(peering) = table_at(doc, "peering") else {
         return Err(NOT_BUILT);
     };
-    let peering = match read_peering(alloc, peering, home_as, &router) {
-        Ok(peering) => peering,
-        Err(stop) => return Err(stop),
-    };
-    let Some(step) = table_at(doc, "step") else {
+    let peering = read_peering(alloc, peering, home_as, &router)?;
+    let steps = steps_at(alloc, doc, &peering)?;
+    if !name_few(steps.as_slice()) {
         return Err(NOT_BUILT);
-    };
-    let step = match read_step(alloc, step, &peering) {
-        Ok(step) => step,
-        Err(stop) => return Err(stop),
-    };
+    }
     if has_stray(doc, &["home_as", "router", "peering", "step"]) {
         return Err(NOT_BUILT);
     }
-    match input_of_one(alloc, home_as, router, peering, step) {
-        Ok(input) => Ok(input),
-        Err(_) => Err(LabStop::NoMemory),
-    }
+    Ok(input_of_one(alloc, home_as, router, peering, steps)?)
 }
 
-/// Reads the input that the bytes are.
+/// Reads the input that the bytes are, at most 4 MiB of TOML: one router, one peering, and 0 to 4,096
+/// steps that name at most 4,096 prefixes together. `Bad` says that they are no input.
 pub fn read_lab(alloc: Global, bytes: &[u8]) -> Result<LabInput, LabStop>
     ensures { Answers (InputOf bytes.now) result }
 {

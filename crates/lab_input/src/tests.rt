@@ -1,24 +1,12 @@
-use crate::{BadInput, LabStop, MOST_BYTES, Step, read_lab};
-use bgp_types::Prefix;
+//! What is tested besides the proofs.
+
+mod spellings;
+
+use self::spellings::{ACCEPTED, BASE, REFUSED, STEP, TWO_STEPS};
+use crate::{BadInput, LabInput, LabStop, MOST_BYTES, Step, read_lab};
+use bgp_types::{Attrs, Origin, PathPart, Prefix, PrefixList};
 use std::alloc::{AllocError, Global};
 use std::test::Fail;
-
-const BASE: &str = "home_as = 65000
-[[router]]
-name = \"a\"
-id = \"10.255.0.1\"
-sessions = 4
-[[peering]]
-name = \"c1\"
-at = \"a\"
-remote_as = 65001
-remote_address = \"192.0.2.1\"
-local_address = \"192.0.2.2\"
-[[step]]
-do = \"announce\"
-peering = \"c1\"
-prefixes = [\"10.0.0.0/8\"]
-";
 
 /// The base text with one part of it, at its first place, written otherwise.
 fn changed(alloc: Global, old: &str, new: &str) -> Result<String, AllocError> {
@@ -30,88 +18,6 @@ fn changed(alloc: Global, old: &str, new: &str) -> Result<String, AllocError> {
 }
 
 const NOT_BUILT: LabStop = LabStop::Bad(BadInput::NotBuilt);
-
-/// Other spellings of an input that is accepted.
-const ACCEPTED: [(&str, &str); 13] = [
-    ("home_as", "home_as"),
-    ("65000", "0xFDE8"),
-    ("65000", "6_5_0_0_0"),
-    ("65000", "1"),
-    ("65000", "65535"),
-    ("home_as", "\"home_as\""),
-    ("home_as", "# a comment\n\n  home_as"),
-    ("sessions = 4", "sessions = 1"),
-    ("sessions = 4", "sessions = 32"),
-    ("10.255.0.1", "223.255.255.255"),
-    ("10.0.0.0/8", "0.0.0.0/0"),
-    ("10.0.0.0/8", "255.255.255.255/32"),
-    ("\"10.0.0.0/8\"]", "'10.0.0.0/8', ]"),
-];
-
-/// What no input of this form has: keys that are missing, of a wrong type, out of form or out of
-/// range, names and keys that are unknown, and texts that are no document.
-const REFUSED: [(&str, &str); 60] = [
-    ("home_as = 65000\n", ""),
-    ("name = \"a\"\n", ""),
-    ("id = \"10.255.0.1\"\n", ""),
-    ("sessions = 4\n", ""),
-    ("name = \"c1\"\n", ""),
-    ("at = \"a\"\n", ""),
-    ("remote_as = 65001\n", ""),
-    ("remote_address = \"192.0.2.1\"\n", ""),
-    ("local_address = \"192.0.2.2\"\n", ""),
-    ("do = \"announce\"\n", ""),
-    ("peering = \"c1\"\n", ""),
-    ("prefixes = [\"10.0.0.0/8\"]\n", ""),
-    ("65000", "\"65000\""),
-    ("\"a\"", "1"),
-    ("\"10.255.0.1\"", "1"),
-    ("= 4", "= \"4\""),
-    ("at = \"a\"", "at = [\"a\"]"),
-    ("65001", "65001.0"),
-    ("\"192.0.2.1\"", "true"),
-    ("\"announce\"", "1979-05-27"),
-    ("[\"10.0.0.0/8\"]", "\"10.0.0.0/8\""),
-    ("[\"10.0.0.0/8\"]", "[10]"),
-    ("[\"10.0.0.0/8\"]", "[]"),
-    ("[\"10.0.0.0/8\"]", "[\"10.0.0.0/8\", \"11.0.0.0/8\"]"),
-    ("[[router]]", "[router]"),
-    ("\"c1\"", "\"C1\""),
-    ("\"c1\"", "\"\""),
-    ("\"c1\"", "\"1c\""),
-    ("\"c1\"", "\"c_1\""),
-    ("\"c1\"", "\"c1234567890123456\""),
-    ("10.255.0.1", "10.255.0"),
-    ("10.255.0.1", "10.255.0.1.1"),
-    ("10.255.0.1", "10.255.0.01"),
-    ("10.255.0.1", "10.255.0.256"),
-    ("10.255.0.1", " 10.255.0.1"),
-    ("10.255.0.1", "0.0.0.0"),
-    ("10.255.0.1", "224.0.0.1"),
-    ("10.0.0.0/8", "10.0.0.0"),
-    ("10.0.0.0/8", "10.0.0.0/"),
-    ("10.0.0.0/8", "/8"),
-    ("10.0.0.0/8", "10.0.0.0/33"),
-    ("10.0.0.0/8", "10.0.0.0/08"),
-    ("10.0.0.0/8", "10.0.0.0/+8"),
-    ("10.0.0.0/8", "10.0.0.0/8/8"),
-    ("65000", "0"),
-    ("65000", "65536"),
-    ("65000", "-5"),
-    ("65000", "9223372036854775808"),
-    ("= 4", "= 0"),
-    ("= 4", "= 33"),
-    ("65001", "0"),
-    ("65001", "65000"),
-    ("at = \"a\"", "at = \"z\""),
-    ("peering = \"c1\"", "peering = \"z\""),
-    ("\"announce\"", "\"withdraw\""),
-    ("home_as", "cost = []\nhome_as"),
-    ("sessions = 4", "sessions = 4\nnetworks = []"),
-    ("at = \"a\"", "at = \"a\"\nhold = 180"),
-    ("do =", "med = 1\ndo ="),
-    ("home_as = 65000", "home_as ="),
-];
 
 #[test]
 fn accepts_each_spelling(rt: HostRuntime) -> Result<(), Fail> {
@@ -144,7 +50,7 @@ fn refuses_what_is_no_input(rt: HostRuntime) -> Result<(), Fail> {
 #[test]
 fn gives_the_values_of_the_keys(rt: HostRuntime) -> Result<(), Fail> {
     let alloc = rt.alloc();
-    let text = changed(alloc, "10.0.0.0/8", "10.1.2.3/8")?;
+    let text = changed(alloc, STEP, TWO_STEPS)?;
     let input = read_lab(alloc, text.as_bytes())?;
     assert_eq!(rt; input.home_as, 65000);
     let router = input.routers.as_slice().first().ok_or("no router")?;
@@ -157,14 +63,156 @@ fn gives_the_values_of_the_keys(rt: HostRuntime) -> Result<(), Fail> {
     assert_eq!(rt; peering.remote_as, 65001);
     assert_eq!(rt; peering.remote_address, 0xC000_0201);
     assert_eq!(rt; peering.local_address, 0xC000_0202);
-    let Some(Step::Announce { peering, prefixes }) = input.steps.as_slice().first() else {
-        return Err(Fail::from("no step"));
+    let [
+        Step::Announce { peering, .. },
+        Step::Withdraw { prefixes, .. },
+    ] = input.steps.as_slice()
+    else {
+        return Err(Fail::from("no two steps"));
     };
     assert!(rt; peering.0 == 0);
     assert_eq!(rt;
         prefixes.as_slice().first().copied(),
-        Prefix::new(0x0A00_0000, 8)
+        Prefix::new(0x0B00_0000, 8)
     );
+    Ok(())
+}
+
+/// The prefixes and the attributes of the first step.
+fn announced(input: &LabInput) -> Option<(&PrefixList, &Attrs)> {
+    match input.steps.as_slice().first() {
+        Some(
+            Step::Announce {
+                prefixes,
+                attrs,
+                ..
+            },
+        ) => Some((prefixes, attrs)),
+        _ => None,
+    }
+}
+
+#[test]
+fn gives_the_attributes_that_are_left_out_and_those_given(rt: HostRuntime) -> Result<(), Fail> {
+    let alloc = rt.alloc();
+    let given = "[\"10.1.2.3/8\", \"11.0.0.0/8\", \"10.0.0.0/8\"]
+path = [65010, 65020]
+origin = \"incomplete\"
+med = 0
+next_hop = \"192.0.2.9\"";
+    for (prefixes, count, origin, ases, med, next_hop) in [
+        (
+            "[\"10.1.2.3/8\"]",
+            1,
+            Origin::Igp,
+            [65001].as_slice(),
+            None,
+            0xC000_0201,
+        ),
+        (
+            given,
+            2,
+            Origin::Incomplete,
+            [65010, 65020].as_slice(),
+            Some(0),
+            0xC000_0209,
+        ),
+    ] {
+        let text = changed(alloc, "[\"10.0.0.0/8\"]", prefixes)?;
+        let input = read_lab(alloc, text.as_bytes())?;
+        let (said, attrs) = announced(&input).ok_or("no step")?;
+        assert_eq!(rt;
+            said.as_slice().first().copied(),
+            Prefix::new(0x0A00_0000, 8)
+        );
+        assert_eq!(rt; said.len(), count);
+        let [PathPart::Sequence(found)] = attrs.path.as_slice() else {
+            return Err(Fail::from("no path"));
+        };
+        assert_eq!(rt; found.as_slice(), ases);
+        assert!(rt; attrs.origin == origin && attrs.med == med && attrs.next_hop == next_hop);
+        assert!(rt; !attrs.atomic && attrs.aggregator.is_none() && attrs.unknown.is_empty());
+    }
+    Ok(())
+}
+
+/// An array of so many different prefixes.
+fn prefixes_text(alloc: Global, count: usize) -> Result<String, Fail> {
+    let mut text = String::from_str(alloc, "[")?;
+    for place in 0..count {
+        let high = place / 256;
+        let low = place % 256;
+        let prefix = format!(in alloc; "\"10.{high}.{low}.0/24\", ")?;
+        text.push_str(prefix.as_str())?;
+    }
+    text.push_str("]")?;
+    Ok(text)
+}
+
+/// An input with so many steps of this text, and one more of that text.
+fn scripted(alloc: Global, count: usize, step: &str, last: &str) -> Result<String, AllocError> {
+    let mut text = changed(alloc, STEP, "")?;
+    for _ in 0..count {
+        text.push_str(step)?;
+    }
+    text.push_str(last)?;
+    Ok(text)
+}
+
+/// A step that withdraws the prefixes of this array.
+fn withdraw_text(alloc: Global, prefixes: &str) -> Result<String, AllocError> {
+    let mut text = String::from_str(
+        alloc,
+        "[[step]]\ndo = \"withdraw\"\npeering = \"c1\"\nprefixes = ",
+    )?;
+    text.push_str(prefixes)?;
+    text.push_str("\n")?;
+    Ok(text)
+}
+
+#[test]
+fn takes_so_many_prefixes_and_no_more(rt: HostRuntime) -> Result<(), Fail> {
+    let alloc = rt.alloc();
+    let whole = withdraw_text(alloc, prefixes_text(alloc, 200)?.as_str())?;
+    let twice = withdraw_text(alloc, "[\"10.0.0.0/8\", \"10.1.0.0/8\"]")?;
+    for (steps, step, last, is_taken) in [
+        (0, "", 0, false),
+        (0, "", 1, true),
+        (0, "", 200, true),
+        (0, "", 201, false),
+        (20, whole.as_str(), 96, true),
+        (20, whole.as_str(), 97, false),
+        (4095, twice.as_str(), 1, true),
+        (4095, twice.as_str(), 2, false),
+        (4096, twice.as_str(), 1, false),
+    ] {
+        let last_step = withdraw_text(alloc, prefixes_text(alloc, last)?.as_str())?;
+        let text = scripted(alloc, steps, step, last_step.as_str())?;
+        assert_eq!(rt;
+            read_lab(alloc, text.as_bytes()).is_ok(),
+            is_taken,
+            "{steps} {last}"
+        );
+    }
+    Ok(())
+}
+
+#[test]
+fn takes_paths_of_sixty_four_and_no_more(rt: HostRuntime) -> Result<(), Fail> {
+    let alloc = rt.alloc();
+    for (count, is_taken) in [(0, true), (1, true), (64, true), (65, false)] {
+        let mut path = String::from_str(alloc, "path = [")?;
+        for _ in 0..count {
+            path.push_str("65535, ")?;
+        }
+        path.push_str("]\ndo =")?;
+        let text = changed(alloc, "do =", path.as_str())?;
+        assert_eq!(rt;
+            read_lab(alloc, text.as_bytes()).is_ok(),
+            is_taken,
+            "{count}"
+        );
+    }
     Ok(())
 }
 

@@ -1,3 +1,5 @@
 pub mod Endings
+pub mod Entries
+pub mod Headlines
 pub mod Numbered
 pub mod Words

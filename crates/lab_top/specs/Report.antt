@@ -1,47 +1,46 @@
 -- The report of a run, as a text.
-use Rattle.std.specs.Prelude.{ℕ, ◌==◌, if◌then◌else◌, List, [], ◌∷◌, ◌++◌, map, fold, sum_by, Option, Some, None, codes, decimal, slice_get, slice_index, unwrap_or}
+use Rattle.std.specs.Prelude.{◌≡◌, ℕ, List, [], ◌∷◌, ◌++◌, map, Option, Some, None, false, codes, decimal, slice_get, unwrap_or}
 use Rattle.std.specs.List.{flat_map, enumerate_from}
-use Rattle.bgp_types.specs.declared.message.Message.TheVariants.{UpdateMsg}
+use Rattle.std.specs.FinMap as table
 use Rattle.bgp_types.specs.declared.message.SessionState.{SessionState}
 use Rattle.bgp_types.specs.declared.message.SessionState.TheVariants.{OpenSent, OpenConfirm, Established, Closed}
 use Rattle.bgp_types.specs.declared.path.PathPart.{PathPart}
 use Rattle.bgp_types.specs.declared.path.PathPart.TheVariants.{Set, Sequence}
 use Rattle.bgp_types.specs.declared.rank.From.{From}
-use Rattle.bgp_types.specs.declared.rank.From.TheVariants.{Own, Peering, Router}
+use Rattle.bgp_types.specs.declared.rank.From.TheVariants.{Own, Peering as FromPeering, Router}
 use Rattle.bgp_types.specs.Texts.{prefix_text}
+use Rattle.bgp_story.specs.declared.line.Line.{Line}
+use Rattle.bgp_story.specs.Legal.{Peering}
+use Rattle.bgp_story.specs.Opens.{home_open}
+use Rattle.bgp_story.specs.Readings.{heard, told}
+use Rattle.bgp_story.specs.States.{state_of}
 use Rattle.lab_input.specs.declared.input.LabInput.{LabInput}
 use Rattle.lab_input.specs.declared.input.RouterInput.{RouterInput}
 use Rattle.lab_input.specs.declared.input.PeeringInput.{PeeringInput}
 use Rattle.lab_top.specs.declared.lab.BestEntry.{BestEntry}
 use Rattle.lab_top.specs.declared.lab.RouterTable.{RouterTable}
+use Rattle.lab_top.specs.declared.lab.SessionView.{SessionView}
 use Rattle.lab_top.specs.declared.lab.Lab.{Lab}
-use Rattle.lab_top.specs.declared.lab.Line.{Line}
-use Rattle.lab_top.specs.declared.lab.Line.TheVariants.{Put, Got}
 use Rattle.lab_top.specs.declared.lab.Place.{Place}
 use Rattle.lab_top.specs.declared.lab.Place.TheVariants.{Held}
 
--- ---- what a story says
+-- ---- sessions
 
--- The type of a frame stands behind its marker and its length (RFC 4271, section 4.1).
-abbrev pub kind_in : List ℕ → ℕ
-kind_in frame = slice_index frame 18
+-- the BGP Identifier of the router at a place
+abbrev pub router_id : LabInput → ℕ → ℕ
+router_id input place = unwrap_or (slice_get (map (λ r. r.id) input.routers) place) 0
 
--- An OPEN is confirmed, and the KEEPALIVE behind it establishes the session (RFC 4271, section 8.2.2).
-abbrev pub after_line : SessionState → Line → SessionState
-after_line state (Put _) = state
-after_line state (Got frame) = if kind_in frame == 1 then OpenConfirm else (if kind_in frame == 4 then Established else state)
+-- what the stories of a peering depend on: home's OPEN has hold time 0 and offers nothing
+abbrev pub peering_of : LabInput → PeeringInput → Peering
+peering_of input p = record { first = home_open input.home_as 0 (router_id input p.at.0) false; remote_as = p.remote_as }
 
-abbrev pub state_of : List Line → SessionState
-state_of story = fold after_line OpenSent story
+-- The counts beside a story are the sizes of its tables.
+pub record IsCounted (p : Peering) (view : SessionView) : Type 0 where
+  pub heard : view.heard ≡ table.len (heard p view.story.lines)
+  pub told : view.told ≡ table.len (told view.story.lines)
 
--- Each UPDATE of this world announces one prefix, which no other does.
-abbrev pub hears : Line → ℕ
-hears (Put _) = 0
-hears (Got frame) = if kind_in frame == 2 then 1 else 0
-
-abbrev pub tells : Line → ℕ
-tells (Put (UpdateMsg _)) = 1
-tells _ = 0
+abbrev pub AreCounted : Lab → Type 0
+AreCounted lab = (place : ℕ) (p : PeeringInput) (view : SessionView) → slice_get lab.input.peerings place ≡ Some p → slice_get lab.sessions place ≡ Some view → IsCounted (peering_of lab.input p) view
 
 -- ---- texts
 
@@ -75,7 +74,7 @@ peering_name input place = name_at (map (λ p. p.name) input.peerings) place
 
 abbrev pub from_text : LabInput → From → List ℕ
 from_text input Own = codes "own"
-from_text input (Peering p) = codes "peering " ++ peering_name input p.0
+from_text input (FromPeering p) = codes "peering " ++ peering_name input p.0
 from_text input (Router r) = codes "router " ++ router_name input r.0
 
 abbrev pub state_text : SessionState → List ℕ
@@ -113,16 +112,16 @@ place_words name at = codes "peering " ++ name ++ codes " at " ++ at
 abbrev pub state_words : SessionState → ℕ → ℕ → List ℕ
 state_words state heard told = codes " state " ++ state_text state ++ codes " heard " ++ decimal heard ++ codes " told " ++ decimal told ++ line_end
 
-abbrev pub session_words : List Line → List ℕ
-session_words story = state_words (state_of story) (sum_by hears story) (sum_by tells story)
+abbrev pub session_words : Peering → List Line → List ℕ
+session_words p story = state_words (state_of story) (table.len (heard p story)) (table.len (told story))
 
--- a peering that has no story has no line
-abbrev pub story_words : Option (List Line) → List ℕ → List ℕ
-story_words None at = []
-story_words (Some story) at = at ++ session_words story
+-- a peering that has no session has no line
+abbrev pub view_words : Peering → Option SessionView → List ℕ → List ℕ
+view_words p None at = []
+view_words p (Some view) at = at ++ session_words p view.story.lines
 
 abbrev pub peering_line : Lab → ℕ × PeeringInput → List ℕ
-peering_line lab p = story_words (slice_get lab.stories p.0) (place_words p.1.name (place_text lab.input (slice_get lab.placement p.0)))
+peering_line lab p = view_words (peering_of lab.input p.1) (slice_get lab.sessions p.0) (place_words p.1.name (place_text lab.input (slice_get lab.placement p.0)))
 
 -- how the run ended, each router with its best routes, and each peering
 abbrev pub report_text : Lab → List ℕ

@@ -5,6 +5,7 @@
 mod lab;
 mod pipe;
 mod report;
+mod run;
 mod top;
 
 use graft_edge::{FreeGate, NoMemory, StdSink, StdSource, Words};

@@ -1,11 +1,13 @@
 //! The report of a run.
 
-ghost use Rattle.std.specs.Prelude.{◌≡◌, ◌++◌, OnOk, IfOk, string_bytes, codes, decimal, slice_get, sum_by};
+ghost use Rattle.std.specs.Prelude.{◌≡◌, ◌++◌, Some, OnOk, IfOk, string_bytes, codes, decimal, slice_get};
 ghost use Rattle.std.specs.List.{flat_map, enumerate_from};
-ghost use Rattle.lab_top.specs.Report.{ases_text, part_text, path_text, from_text, router_name as router_name_lem, peering_name as peering_name_lem, best_line, router_lines, peering_line, named_line, table_lines, place_words, state_words, session_words, place_text, state_text, report_text, state_of, hears, tells, after_line};
+ghost use Rattle.bgp_story.specs.Legal.{Peering};
+ghost use Rattle.bgp_story.specs.States.{state_of};
+ghost use Rattle.lab_top.specs.Report.{ases_text, part_text, path_text, from_text, router_name as router_name_lem, peering_name as peering_name_lem, best_line, router_lines, peering_line, named_line, table_lines, place_words, state_words, session_words, place_text, state_text, report_text, IsCounted, AreCounted};
 
-use crate::lab::{BestEntry, Lab, Line, Place, RouterTable, RunEnd, Story};
-use bgp_types::{AsList, AsPath, From, Message, NoMemory, PathPart, SessionState};
+use crate::lab::{BestEntry, Lab, Place, RouterTable, RunEnd, SessionView};
+use bgp_types::{AsList, AsPath, From, NoMemory, PathPart, SessionState};
 use lab_input::{LabInput, PeeringInput, RouterInput};
 use std::alloc::Global;
 use std::fmt::Write;
@@ -166,69 +168,6 @@ fn push_router(
     push_table_at(text, lab, place)
 }
 
-/// What a report says of a session: its state, and how many prefixes were heard and told on it.
-#[derive(Clone, Copy)]
-struct SessionView {
-    state: SessionState,
-    heard: usize,
-    told: usize,
-}
-
-/// The state after a line.
-fn state_after(state: SessionState, line: &Line) -> SessionState
-    ensures { result ≡ after_line state line.now }
-{
-    match line {
-        Line::Put(_) => state,
-        Line::Got(frame) => match frame.as_slice().get(18) {
-            Some(1) => SessionState::OpenConfirm,
-            Some(4) => SessionState::Established,
-            _ => state,
-        },
-    }
-}
-
-/// How many prefixes are heard by a line.
-fn heard_in(line: &Line) -> usize
-    ensures { result ≡ hears line.now }
-{
-    match line {
-        Line::Put(_) => 0,
-        Line::Got(frame) => match frame.as_slice().get(18) {
-            Some(2) => 1,
-            _ => 0,
-        },
-    }
-}
-
-/// How many prefixes are told by a line.
-fn told_in(line: &Line) -> usize
-    ensures { result ≡ tells line.now }
-{
-    match line {
-        Line::Put(Message::UpdateMsg(_)) => 1,
-        _ => 0,
-    }
-}
-
-/// The state after a story, and the sizes of its tables.
-fn view_of(story: &Story) -> SessionView
-    ensures state { result.state ≡ state_of story.now }
-    ensures heard { result.heard ≡ sum_by hears story.now }
-    ensures told { result.told ≡ sum_by tells story.now }
-{
-    let lines = story.as_slice();
-    let mut state = SessionState::OpenSent;
-    let mut heard = 0usize;
-    let mut told = 0usize;
-    for line in lines {
-        state = state_after(state, line);
-        heard += heard_in(line);
-        told += told_in(line);
-    }
-    SessionView { state, heard, told }
-}
-
 fn state_name(state: SessionState) -> &'static str
     ensures { result.now ≡ state_text state }
 {
@@ -262,43 +201,38 @@ fn push_place(text: &mut String, name: &str, at: &str) -> Result<(), NoMemory>
 }
 
 /// A session's state, and how many prefixes were heard and told on it.
-fn push_view(text: &mut String, view: SessionView) -> Result<(), NoMemory>
-    ensures { OnOk result (string_bytes text.new ≡ string_bytes text.old ++ state_words view.state view.heard view.told) }
+fn push_session(text: &mut String, view: &SessionView) -> Result<(), NoMemory>
+    ensures { OnOk result (string_bytes text.new ≡ string_bytes text.old ++ state_words (state_of view.now.story.lines) view.now.heard view.now.told) }
 {
     let heard = view.heard;
     let told = view.told;
     text.push_str(" state ")?;
-    text.push_str(state_name(view.state))?;
+    text.push_str(state_name(view.story.state()))?;
     write!(text, " heard {heard} told {told}\n")?;
     Ok(())
 }
 
-/// What a story says of its session.
-fn push_session(text: &mut String, story: &Story) -> Result<(), NoMemory>
-    ensures { OnOk result (string_bytes text.new ≡ string_bytes text.old ++ session_words story.now) }
-{
-    push_view(text, view_of(story))
-}
-
-/// The line of a peering that has a story.
-fn push_told(text: &mut String, name: &str, at: &str, story: &Story) -> Result<(), NoMemory>
-    ensures { OnOk result (string_bytes text.new ≡ string_bytes text.old ++ (place_words name.now at.now ++ session_words story.now)) }
+/// The line of a peering that has a session.
+fn push_view(text: &mut String, name: &str, at: &str, view: &SessionView) -> Result<(), NoMemory>
+    ensures { (p : Peering) → IsCounted p view.now → OnOk result (string_bytes text.new ≡ string_bytes text.old ++ (place_words name.now at.now ++ session_words p view.now.story.lines)) }
 {
     push_place(text, name, at)?;
-    push_session(text, story)
+    push_session(text, view)
 }
 
-/// The line of a peering, where it has a story.
+/// The line of a peering, where it has a session.
 fn push_peering(
     text: &mut String,
     lab: &Lab,
     place: usize,
     peering: &PeeringInput,
 ) -> Result<(), NoMemory>
+    requires counted { AreCounted lab.now }
+    requires at { slice_get lab.now.input.peerings place ≡ Some peering.now }
     ensures { OnOk result (string_bytes text.new ≡ string_bytes text.old ++ peering_line lab.now (place, peering.now)) }
 {
-    match lab.stories.as_slice().get(place) {
-        Some(story) => push_told(text, peering.name.as_str(), place_name(lab, place), story),
+    match lab.sessions.as_slice().get(place) {
+        Some(view) => push_view(text, peering.name.as_str(), place_name(lab, place), view),
         None => Ok(()),
     }
 }
@@ -316,6 +250,7 @@ fn push_routers(text: &mut String, lab: &Lab) -> Result<(), NoMemory>
 
 /// The peerings, in the order of the input.
 fn push_peerings(text: &mut String, lab: &Lab) -> Result<(), NoMemory>
+    requires { AreCounted lab.now }
     ensures { OnOk result (string_bytes text.new ≡ string_bytes text.old ++ flat_map (peering_line lab.now) (enumerate_from 0 lab.now.input.peerings)) }
 {
     let peerings = lab.input.peerings.as_slice();
@@ -327,6 +262,7 @@ fn push_peerings(text: &mut String, lab: &Lab) -> Result<(), NoMemory>
 
 /// The report: how the run ended, each router's best routes, and each peering's place and tables.
 pub fn report(alloc: Global, lab: &Lab) -> Result<String, NoMemory>
+    requires { AreCounted lab.now }
     ensures { IfOk result (λ text. string_bytes text ≡ report_text lab.now) }
 {
     let mut text = String::new(alloc);

@@ -1,10 +1,26 @@
 use crate::lab::Lab;
 use crate::top::graft_main;
+use bgp_story::Line;
+use bgp_types::Message;
 use graft_edge::{FreeGate, Gate, MemSink, MemSource, NoMemory, StdSource, Words};
 use std::alloc::Global;
 use std::io::Cursor;
 use std::sync::atomic::{AtomicU64, Ordering};
 use std::test::Fail;
+
+/// One router and one peering, without steps.
+const NO_STEPS: &str = "home_as = 65000
+[[router]]
+name = \"a\"
+id = \"10.255.0.1\"
+sessions = 4
+[[peering]]
+name = \"c1\"
+at = \"a\"
+remote_as = 65001
+remote_address = \"192.0.2.1\"
+local_address = \"192.0.2.2\"
+";
 
 const ONE_PEERING: &str = "home_as = 65000
 [[router]]
@@ -81,6 +97,41 @@ fn are_open_and_keepalive(received: &[u8]) -> bool {
         && keepalive.ends_with(&[0, 0x13, 4])
 }
 
+/// Whether the line says that such a message was put: an OPEN, or a KEEPALIVE.
+fn is_put(line: &Line, is_open: bool) -> bool {
+    match line {
+        Line::Put(Message::OpenMsg(_)) => is_open,
+        Line::Put(Message::KeepaliveMsg) => !is_open,
+        _ => false,
+    }
+}
+
+/// Whether the line says that a frame of this length and type was got.
+fn is_got(line: &Line, len: usize, kind: u8) -> bool {
+    match line {
+        Line::Got(frame) => frame.len() == len && frame.as_slice().get(18) == Some(&kind),
+        _ => false,
+    }
+}
+
+/// Whether the story is: OPEN put, OPEN got, KEEPALIVE put, KEEPALIVE got, UPDATE got.
+fn is_up_to_the_update(story: &[Line]) -> bool {
+    story.len() == 5
+        && is_put(&story[0], true)
+        && is_got(&story[1], 29, 1)
+        && is_put(&story[2], false)
+        && is_got(&story[3], 19, 4)
+        && is_got(&story[4], 43, 2)
+}
+
+/// The story of the first peering.
+fn story_of(lab: &Lab) -> &[Line] {
+    match lab.sessions.as_slice().first() {
+        Some(view) => view.story.lines(),
+        None => &[],
+    }
+}
+
 /// What the remote of the first peering received.
 fn received_of(lab: &Lab) -> &[u8] {
     match lab.far.as_slice().first() {
@@ -104,6 +155,80 @@ fn runs_one_peering_and_reports_it(rt: HostRuntime) -> Result<(), Fail> {
     assert!(rt; all_passed(&gate));
     let lab = finish.lab.ok_or("no run")?;
     assert!(rt; are_open_and_keepalive(received_of(&lab)));
+    assert!(rt; is_up_to_the_update(story_of(&lab)));
+    Ok(())
+}
+
+/// Steps, and the lines between the router's name and the peering, and how many prefixes were heard.
+struct Script {
+    steps: &'static str,
+    best: &'static str,
+    heard: &'static str,
+}
+
+const SCRIPTS: [Script; 6] = [
+    Script {
+        steps: "",
+        best: "",
+        heard: "0",
+    },
+    Script {
+        steps: "[[step]]\ndo = \"withdraw\"\npeering = \"c1\"\nprefixes = [\"10.0.0.0/8\"]\n",
+        best: "",
+        heard: "0",
+    },
+    Script {
+        steps: "[[step]]\ndo = \"announce\"\npeering = \"c1\"\nprefixes = [\"172.16.0.0/12\", \"10.0.0.0/8\"]\npath = [65001, 64999]\norigin = \"egp\"\nmed = 20\nnext_hop = \"192.0.2.9\"\n",
+        best: "best 10.0.0.0/8 peering c1 pref 100 path 65001,64999\nbest 172.16.0.0/12 peering c1 pref 100 path 65001,64999\n",
+        heard: "2",
+    },
+    // A path with the home AS is heard, and isn't chosen.
+    Script {
+        steps: "[[step]]\ndo = \"announce\"\npeering = \"c1\"\nprefixes = [\"10.0.0.0/8\"]\npath = [65001, 65000]\n",
+        best: "",
+        heard: "1",
+    },
+    // The later announcement of a prefix counts, and a prefix that is withdrawn is gone.
+    Script {
+        steps: "[[step]]\ndo = \"announce\"\npeering = \"c1\"\nprefixes = [\"10.0.0.0/8\", \"172.16.0.0/12\"]\n[[step]]\ndo = \"announce\"\npeering = \"c1\"\nprefixes = [\"10.0.0.0/8\"]\npath = [65001, 7]\n[[step]]\ndo = \"withdraw\"\npeering = \"c1\"\nprefixes = [\"172.16.0.0/12\"]\n",
+        best: "best 10.0.0.0/8 peering c1 pref 100 path 65001,7\n",
+        heard: "1",
+    },
+    Script {
+        steps: "[[step]]\ndo = \"announce\"\npeering = \"c1\"\nprefixes = [\"10.0.0.0/8\"]\n[[step]]\ndo = \"withdraw\"\npeering = \"c1\"\nprefixes = [\"10.0.0.0/8\"]\n",
+        best: "",
+        heard: "0",
+    },
+];
+
+/// Texts behind one another.
+fn joined(alloc: Global, texts: &[&str]) -> Result<String, NoMemory> {
+    let mut whole = String::new(alloc);
+    for text in texts {
+        whole.push_str(text)?;
+    }
+    Ok(whole)
+}
+
+/// Whether the run of the steps is reported as is said.
+fn reports_so<R: AllocGlobal>(rt: &R, script: &Script) -> Result<bool, NoMemory> {
+    let alloc = rt.alloc();
+    let words = words_of(alloc, "run")?;
+    let input = joined(alloc, &[NO_STEPS, script.steps])?;
+    let mut source = MemSource::new(alloc, input.as_bytes(), 64, &[])?;
+    let mut sink = MemSink::new(alloc, 4096, 16, &[])?;
+    let finish = graft_main(rt, &words, &mut source, &mut sink, &FreeGate);
+    let (head, tail) = ("result settled\nrouter a\n", " told 0\n");
+    let at = "peering c1 at a state Established heard ";
+    let report = joined(alloc, &[head, script.best, at, script.heard, tail])?;
+    Ok(finish.status == 0 && sink.written() == report.as_bytes())
+}
+
+#[test]
+fn runs_steps_one_after_another(rt: HostRuntime) -> Result<(), Fail> {
+    for script in &SCRIPTS {
+        assert!(rt; reports_so(&rt, script)?, "{}", script.steps);
+    }
     Ok(())
 }
 

@@ -4,12 +4,13 @@ ghost use Rattle.std.specs.Prelude.{◌≡◌, ◌↔◌, ◌⊎◌, ◌≤◌, 
 ghost use Rattle.graft_edge.specs.Outside.{FaultRose, Appended, AppendedFront};
 ghost use Rattle.lab_top.specs.Ends.{IsRun, usage_text, not_built_text, TookInput, TookBadInput, IsStatus, Writes};
 ghost use Rattle.lab_top.specs.Report.{report_text};
+ghost use Rattle.lab_top.specs.Seen.{Headline};
 
 use crate::lab::Lab;
-use crate::pipe::run_lab;
 use crate::report::report;
+use crate::run::run_lab;
 use graft_edge::{Gate, NoMemory, Octets, ReadStop, Sink, Source, Words, read_all, write_all};
-use lab_input::{BadInput, LabInput, LabStop, MOST_BYTES, read_lab};
+use lab_input::{BadInput, LabInput, LabStop, MOST_BYTES, accepted_is_ready, read_lab};
 use std::alloc::Global;
 
 /// The statuses of the program.
@@ -94,6 +95,10 @@ where
     ensures ran { OnSome result.lab ((result.status ≡ 0) ⊎ (result.status ≡ 5)) }
     ensures input { IfSome result.lab (λ lab. TookInput (S.left source.old) (S.left source.new) lab.input) }
 
+    // Its journal is that of a run of the input's pipe, of which the lab is what is seen. Each world on the
+    // way is transparent, and the last one is at rest and solves the decision equations.
+    ensures headline { IfSome result.lab (λ lab. Headline lab) }
+
     // Its report is written whole, or a write failed and a front of it stands.
     ensures reported { IfSome result.lab (λ lab. Writes (report_text lab) 0 (K.faults sink.old) (K.faults sink.new) (K.written sink.old) (K.written sink.new) result.status) }
 {
@@ -131,7 +136,8 @@ where
             }
         },
     };
-    let Ok(Some(lab)) = run_lab(alloc, input, gate) else {
+    accepted_is_ready();
+    let Ok(lab) = run_lab(alloc, input, gate) else {
         return Finish {
             status: NO_MEMORY,
             lab: None,

@@ -1,5 +1,4 @@
-use Rattle.std.proofs.Common.{◌≡◌, ◌∙◌, sym, ap, length, arith}
-use Rattle.std.specs.Prelude.{Some}
+use Rattle.std.proofs.Common.{◌≡◌, ◌∙◌, ap, length, arith}
 use Rattle.toml.specs.Data.{item, no_items}
 use Rattle.toml.specs.View.{items_view}
 use Rattle.lab_input.proofs.Found.{one_item, array_items}

@@ -1,0 +1,80 @@
+-- Prefixes as texts write them, each once.
+use Rattle.std.proofs.Common.{◌≡◌, ℕ, ◌≤◌, List, [], ◌∷◌, ◌++◌, length, false, eqb, refl, sym, ap, ◌∙◌, subst, arith, append_assoc, decimal}
+use Rattle.std.specs.Prelude.{Option, Some, None, Result, Ok, Err}
+use Rattle.std.proofs.lemmas.Bool.{false≢true}
+use Rattle.std.proofs.lemmas.Fmt.{decimal_injective}
+use Rattle.toml.specs.Data.{Data, string, array, Members, get_member}
+use Rattle.toml.specs.declared.value.Value.{Value}
+use Rattle.toml.specs.View.{items_view}
+use Rattle.lab_input.specs.declared.input.LabStop.{LabStop}
+use Rattle.lab_input.specs.declared.input.LabStop.TheVariants.{Bad, NoMemory}
+use Rattle.lab_input.specs.Labs.{Answers}
+use Rattle.bgp_types.specs.Finds.{Finds}
+use Rattle.bgp_types.specs.Prefixes.{PrefixValue, prefix_of, put_once, once_after}
+use Rattle.bgp_types.specs.Texts.{IsPrefixText, address_text}
+use Rattle.bgp_types.proofs.TextLemmas.{IsAddressText_unique, NoSlash, NoSlash-address}
+use Rattle.lab_input.specs.Fields.{Each, GivesPrefix, PrefixesAt}
+use Rattle.lab_input.proofs.Every.{each_same, array_gives, array_of}
+
+-- ---- texts
+
+-- the parts before the first slash of equal texts are equal, and those after it
+front : (xs ys us vs : List ℕ) → NoSlash xs → NoSlash ys → xs ++ 47 ∷ us ≡ ys ++ 47 ∷ vs → xs ≡ ys
+front [] [] us vs free free' e = refl
+front [] (y ∷ ys) us vs free free' e = absurd (false≢true (sym (subst (λ c. eqb c 47 ≡ false) (sym (head_of e)) free'.0)))
+  where
+    head_of : 47 ∷ us ≡ (y ∷ ys) ++ 47 ∷ vs → 47 ≡ y
+    head_of e = cc
+front (x ∷ xs) [] us vs free free' e = absurd (false≢true (sym (subst (λ c. eqb c 47 ≡ false) (head_of e) free.0)))
+  where
+    head_of : (x ∷ xs) ++ 47 ∷ us ≡ 47 ∷ vs → x ≡ 47
+    head_of e = cc
+front (x ∷ xs) (y ∷ ys) us vs free free' e = let rest : xs ≡ ys = front xs ys us vs free.1 free'.1 cc in let same : x ≡ y = cc in cc
+
+back : (xs us vs : List ℕ) → xs ++ 47 ∷ us ≡ xs ++ 47 ∷ vs → us ≡ vs
+back [] us vs e = cc
+back (x ∷ xs) us vs e = back xs us vs cc
+
+-- a text writes one prefix at most
+IsPrefixText_unique : (text : List ℕ) (p q : PrefixValue) → IsPrefixText text p → IsPrefixText text q → p ≡ q
+IsPrefixText_unique text p q one other =
+    let joined : address_text one.address ++ 47 ∷ decimal p.len ≡ address_text other.address ++ 47 ∷ decimal q.len =
+    sym (append_assoc (address_text one.address) (47 ∷ []) (decimal p.len)) ∙ sym one.text ∙ other.text ∙ append_assoc (address_text other.address) (47 ∷ []) (decimal q.len) in
+    let texts : address_text one.address ≡ address_text other.address = front _ _ _ _ (NoSlash-address one.address) (NoSlash-address other.address) joined in
+    let address : one.address ≡ other.address = IsAddressText_unique (address_text one.address) one.address other.address (record { fits = one.fits; text = refl }) (record { fits = other.fits; text = texts }) in
+    let decimals : decimal p.len ≡ decimal q.len = back (address_text one.address) _ _ (joined ∙ ap (λ t. t ++ 47 ∷ decimal q.len) (sym texts)) in
+    let len : p.len ≡ q.len = decimal_injective p.len q.len (omega (arith, one.short)) (omega (arith, other.short)) decimals in
+    one.prefix ∙ ap (λ l. prefix_of l one.address) len ∙ ap (λ a. prefix_of q.len a) address ∙ sym other.prefix
+
+pub GivesPrefix_unique : (d : Data) (p q : PrefixValue) → GivesPrefix d p → GivesPrefix d q → p ≡ q
+GivesPrefix_unique d p q one other =
+    let same : other.text ≡ one.text = cc in
+    IsPrefixText_unique one.text p q one.prefix_text (subst (λ text. IsPrefixText text q) same other.prefix_text)
+
+-- what a text is read as, the value gives that is the text
+pub text_gives : (d : Data) (text : List ℕ) → d ≡ string text → (o : Option PrefixValue) → Finds (IsPrefixText text) o → Finds (GivesPrefix d) o
+text_gives d text is None none = λ p gives.
+    let same : gives.text ≡ text = cc in
+    none p (subst (λ w. IsPrefixText w p) same gives.prefix_text)
+text_gives d text is (Some p) found = record { text = text; at = is; prefix_text = found }
+
+-- ---- each once
+
+pub prefixes_same : (t : Members) (key : List ℕ) (ps qs : List PrefixValue) → PrefixesAt t key ps → PrefixesAt t key qs → ps ≡ qs
+prefixes_same t key ps qs one other =
+    let items : other.at.items ≡ one.at.items = cc (one.at.at, other.at.at) in
+    let written : one.written ≡ other.written = each_same GivesPrefix GivesPrefix_unique one.at.items one.written other.written one.at.gives (subst (λ i. Each GivesPrefix i other.written) items other.at.gives) in
+    one.once ∙ ap (once_after []) written ∙ sym other.once
+
+-- what the values of the array answer, its prefixes answer
+pub prefixes_answers : (t : Members) (key : List ℕ) (vs : List Value)
+    → get_member key t ≡ Some (array (items_view vs)) → 1 ≤ length vs → length vs ≤ 200 → (r : Result (List PrefixValue) LabStop)
+    → Answers (λ ps. (written : List PrefixValue) × Each GivesPrefix (items_view vs) written × (ps ≡ once_after [] written)) r → Answers (PrefixesAt t key) r
+prefixes_answers t key vs at enough few (Ok ps) (written, all, is) = record { written = written; at = array_gives t key 1 200 GivesPrefix vs at enough few written all; once = is }
+prefixes_answers t key vs at enough few (Err (Bad bad)) none = λ ps is. none ps (is.written, array_of t key 1 200 GivesPrefix vs at is.written is.at, is.once)
+prefixes_answers t key vs at enough few (Err NoMemory) none = tt
+
+-- one further prefix at the end
+pub once_after-push : (seen ps : List PrefixValue) (p : PrefixValue) → once_after seen (ps ++ p ∷ []) ≡ put_once (once_after seen ps) p
+once_after-push seen [] p = refl
+once_after-push seen (q ∷ ps) p = once_after-push (put_once seen q) ps p

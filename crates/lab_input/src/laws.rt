@@ -1,0 +1,12 @@
+//! What holds of every input.
+
+ghost use Rattle.std.specs.Prelude.{ℕ, List};
+ghost use Rattle.lab_input.specs.declared.input.LabInput.{LabInput};
+ghost use Rattle.lab_input.specs.Labs.{InputOf};
+ghost use Rattle.lab_input.specs.Said.{IsReady};
+
+/// Whatever bytes are an input: it has one router and one peering, numbers and addresses that an OPEN can
+/// have, and steps whose UPDATEs can be written.
+pub fn accepted_is_ready()
+    ensures { (bytes : List ℕ) (input : LabInput) → InputOf bytes input → IsReady input }
+{}
