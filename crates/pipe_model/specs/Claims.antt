@@ -32,8 +32,9 @@ pub record IsFront (front bytes : List ℕ) : Type 0 where
   pub rest : List ℕ
   pub is : bytes ≡ front ++ rest
 
--- The session has one holder and a legal story. What the remote received is a front of what was put, what
--- was got is a front of what the remote said, and the tables are those that the story tells.
+-- The session has one holder and a legal story (RFC 4271, sections 6 and 8.2.2). What the remote received is a
+-- front of what was put, what was got is a front of what the remote said, and the tables are those that the
+-- story tells (section 3.1).
 pub record Transparent (pipe : Pipe) (w : World) : Type 0 where
   pub session : Session
   pub one : sessions_in w ≡ session ∷ []
@@ -61,7 +62,8 @@ pub record Quiet (pipe : Pipe) (w : World) : Type 0 where
   pub told : w.due ≡ map.empty
   pub at_rest : (session : Session) → w.held ≡ Some session → AtRest pipe w session
 
--- where the session of the peering is to be: there are no grafts, so where it starts
+-- Where the session of the peering is to be: there are no grafts, so where it starts. No standard knows
+-- routers that share a session, so holders, placement and runs are the laboratory's own words.
 abbrev pub placement : Pipe → ℕ
 placement pipe = pipe.start.0
 

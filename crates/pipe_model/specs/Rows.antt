@@ -35,7 +35,7 @@ pub data Event : Type 0 where
 -- ---- the router
 
 -- Of the prefixes that are due and not dirty there are some, and each is told as it is to be: they are
--- due no more.
+-- due no more (RFC 4271, section 9.1.3).
 pub record PassesRow (pipe : Pipe) (w v : World) : Type 0 where
   pub session : Session
   pub live : w.held ≡ Some session
@@ -57,8 +57,8 @@ due_then OpenConfirm Established best due = fold (λ prefixes p. map.insert pref
 due_then state Closed best due = map.empty
 due_then state next best due = due
 
--- The message at the front of what is unread, or its faulty header, is got and answered. An UPDATE
--- changes the routes that were heard; a session that is closed has none.
+-- The message at the front of what is unread, or its faulty header, is got and answered (RFC 4271, sections
+-- 6 and 8.2.2). An UPDATE changes the routes that were heard (section 3.1); a session that is closed has none.
 pub record GetsRow (pipe : Pipe) (w v : World) : Type 0 where
   pub session : Session
   pub live : w.held ≡ Some session
@@ -88,7 +88,8 @@ abbrev pub due_on : Option Session → Prefixes → PrefixValue → Prefixes
 due_on None due prefix = due
 due_on (Some session) due prefix = due_in (state_of session.story) due prefix
 
--- A dirty prefix gets the chosen route. Where that is another one, it is due on the session.
+-- A dirty prefix gets the chosen route (RFC 4271, section 9.1.2). Where that is another one, it is due on
+-- the session (section 9.1.3).
 pub record DecidesRow (pipe : Pipe) (prefix : PrefixValue) (w v : World) : Type 0 where
   pub dirty : has w.dirty prefix ≡ true
   pub due : ((chosen pipe w.held prefix ≡ map.get w.best prefix) × (v.due ≡ w.due)) ⊎ ((chosen pipe w.held prefix ≢ map.get w.best prefix) × (v.due ≡ due_on w.held w.due prefix))

@@ -22,7 +22,8 @@ Prefixes = map.FinMap prefix_cmp (Unit {0})
 abbrev pub has : Prefixes → PrefixValue → Bool
 has prefixes prefix = is_some (map.get prefixes prefix)
 
--- a session: its story, the routes that it heard and told, and the remote's bytes that reached it
+-- a session: its story, the routes that it heard and told, its Adj-RIB-In and Adj-RIB-Out (RFC 4271, section 3.2),
+-- and the remote's bytes that reached it
 pub record Session : Type 0 where
   pub story : List Line
   pub heard : Routes
