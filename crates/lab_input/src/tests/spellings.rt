@@ -62,7 +62,7 @@ pub(super) const ACCEPTED: [(&str, &str); 29] = [
 ];
 
 /// An input with an empty array of steps.
-pub(super) const NO_STEPS: &str = "home_as = 65000
+const NO_STEPS: &str = "home_as = 65000
 step = []
 [[router]]
 name = \"a\"
