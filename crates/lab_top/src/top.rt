@@ -44,6 +44,13 @@ fn is_run(words: &Words) -> bool
     words.len() == 1 && words.get(0) == "run"
 }
 
+/// Ends with a status, without a run.
+fn without_run(status: u8) -> Finish
+    ensures { result ≡ record { status = status; lab = None } }
+{
+    Finish { status, lab: None }
+}
+
 /// Writes a text and ends with a status, or with that of a write that failed.
 fn end_with<K: Sink>(sink: &mut K, text: &[u8], status: u8, lab: Option<Lab>) -> Finish
     ensures steady { K.faults sink.old ≤ K.faults sink.new }
@@ -108,46 +115,21 @@ where
     }
     let bytes = match read_all(alloc, source, MOST_BYTES) {
         Ok(bytes) => bytes,
-        Err(stop) => match stop {
-            ReadStop::Failed => {
-                return Finish {
-                    status: READ_FAILED,
-                    lab: None,
-                };
-            }
-            ReadStop::TooLong => return end_with(sink, NOT_BUILT_TEXT.as_bytes(), BAD_INPUT, None),
-            ReadStop::NoMemory => {
-                return Finish {
-                    status: NO_MEMORY,
-                    lab: None,
-                };
-            }
-        },
+        Err(ReadStop::Failed) => return without_run(READ_FAILED),
+        Err(ReadStop::TooLong) => return end_with(sink, NOT_BUILT_TEXT.as_bytes(), BAD_INPUT, None),
+        Err(ReadStop::NoMemory) => return without_run(NO_MEMORY),
     };
     let input = match read_lab(alloc, bytes.as_slice()) {
         Ok(input) => input,
-        Err(stop) => match stop {
-            LabStop::Bad(_) => return end_with(sink, NOT_BUILT_TEXT.as_bytes(), BAD_INPUT, None),
-            LabStop::NoMemory => {
-                return Finish {
-                    status: NO_MEMORY,
-                    lab: None,
-                };
-            }
-        },
+        Err(LabStop::Bad(_)) => return end_with(sink, NOT_BUILT_TEXT.as_bytes(), BAD_INPUT, None),
+        Err(LabStop::NoMemory) => return without_run(NO_MEMORY),
     };
     accepted_is_ready();
     let Ok(lab) = run_lab(alloc, input, gate) else {
-        return Finish {
-            status: NO_MEMORY,
-            lab: None,
-        };
+        return without_run(NO_MEMORY);
     };
     match report(alloc, &lab) {
         Ok(text) => end_with(sink, text.as_bytes(), SETTLED, Some(lab)),
-        Err(_) => Finish {
-            status: NO_MEMORY,
-            lab: None,
-        },
+        Err(_) => without_run(NO_MEMORY),
     }
 }
