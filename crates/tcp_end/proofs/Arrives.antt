@@ -1,20 +1,20 @@
 -- What a state stands for after a segment arrived.
-use Rattle.std.proofs.Common.{◌≡◌, ℕ, zero, suc, ◌+◌, ◌-◌, ◌^◌, ◌%◌, ◌<◌, ◌≤◌, max, List, [], ◌∷◌, ◌++◌, length, take, drop, get_or, Bool, true, false, Option, None, Some, refl, sym, ap, subst, ◌∙◌, arith, ◌⊎◌, inl, inr, ◌↔◌, length-append}
+use Rattle.std.proofs.Common.{◌≡◌, ℕ, zero, suc, ◌+◌, ◌-◌, ◌^◌, ◌%◌, ◌<◌, ◌≤◌, max, List, [], ◌∷◌, ◌++◌, length, take, drop, get_or, Bool, true, false, Option, None, Some, refl, sym, ap, subst, ◌∙◌, arith, ◌⊎◌, inl, inr, length-append}
 use Rattle.std.specs.Prelude.{Contains, IsSome, nat_lt, nat_le, ◌||◌, if◌then◌else◌, Result, Ok, Err, IfOk, OnOk}
 use Rattle.std.specs.List.{slice_get}
 use Rattle.std.specs.Option.{option_or}
 use Rattle.std.proofs.lemmas.Bool.{cases_lt, lt-ltb, le-ltb}
 use Rattle.std.proofs.lemmas.List.{length-drop, length-take, drop-drop, ext_get_or}
-use Rattle.std.proofs.lemmas.Option.{slice_get_past, slice_get-get_or, slice_get_within, get_or_from_slice_get}
-use Rattle.tcp_seq.specs.Numbers.{plus, offset_from, number}
+use Rattle.std.proofs.lemmas.Option.{slice_get-get_or, slice_get_within, get_or_from_slice_get}
+use Rattle.tcp_seq.specs.Numbers.{offset_from, number}
 use Rattle.tcp_seq.specs.Rules.{Acceptable, AcceptablePlace, IsAck}
 use Rattle.tcp_seq.specs.declared.rules.AckKind.TheVariants.{New, Beyond}
-use Rattle.tcp_seq.specs.Endpoint.{Endpoint, PlacedSegment, received, Takes, Drops, TakesIn, Brings, Gathers, IsAcceptable, IsBeyond}
+use Rattle.tcp_seq.specs.Endpoint.{Endpoint, PlacedSegment, received, Takes, Brings, Gathers, IsAcceptable, IsBeyond}
 use Rattle.tcp_seq.specs.declared.segment.Segment.{Segment}
 use Rattle.tcp_seq.specs.declared.state.EndState.{EndState}
 use Rattle.tcp_reasm.specs.Runs.{byte_from, held}
-use Rattle.tcp_reasm.specs.Reassembly.{Reassembly, byte_ahead, brought}
-use Rattle.tcp_end.specs.State.{IsEndState, IsSending, expected, got, own_number, counted_from, LieFrom}
+use Rattle.tcp_reasm.specs.Reassembly.{byte_ahead, brought}
+use Rattle.tcp_end.specs.State.{IsEndState, IsSending, expected, got, own_number, counted_from}
 use Rattle.tcp_end.specs.Receiving.{byte_then, Receives}
 use Rattle.tcp_end.specs.Arriving.{ahead_of, TakesSegment, newly_acked, IsAcceptableTo, Says, BringsNewByte, IsArrival, Leaves}
 use Rattle.tcp_end.specs.Standing.{Stands, Numbered, IsSlice, Becomes, TakesBy}

@@ -1,13 +1,12 @@
 -- What joined endpoints keep.
-use Rattle.std.proofs.Common.{◌≡◌, ℕ, zero, suc, ◌+◌, ◌-◌, ◌^◌, ◌<◌, ◌≤◌, min, max, List, [], ◌∷◌, ◌++◌, length, take, drop, refl, sym, ap, subst, ◌∙◌, arith, ◌⊎◌, inl, inr, length-append}
+use Rattle.std.proofs.Common.{◌≡◌, ℕ, ◌+◌, ◌^◌, ◌<◌, ◌≤◌, max, List, [], ◌∷◌, ◌++◌, length, take, drop, refl, sym, ap, subst, ◌∙◌, arith, inl, inr, length-append}
 use Rattle.std.specs.Prelude.{Contains, Bool, true, false}
 use Rattle.std.specs.List.Sorted.{IsStrictlyIncreasing}
 use Rattle.std.proofs.lemmas.Bool.{cases_lt}
 use Rattle.std.proofs.lemmas.List.{length-drop, length-take}
 use Rattle.std.proofs.lemmas.List.Elements.{Contains-push_cases}
-use Rattle.tcp_seq.specs.Endpoint.{Endpoint, PlacedSegment, IsReceived, received_of, received, slice_at, next_length, again_length, Sends, EmitsNext, EmitsAgain, Answers, Reads, Takes, Drops, TakesIn, Gathers, Brings}
+use Rattle.tcp_seq.specs.Endpoint.{Endpoint, PlacedSegment, received_of, received, slice_at, next_length, again_length}
 use Rattle.tcp_seq.proofs.Received.{received_is}
-use Rattle.tcp_end.specs.Standing.{IsSlice}
 use Rattle.tcp_end.specs.Joined.{Side, Joined, nothing, start, SendsSome, EmitsOne, ReadsSome, TakesOne, Acts, Step, Run, IsCarried}
 use Rattle.tcp_end.proofs.Grown.{slice_grows}
 

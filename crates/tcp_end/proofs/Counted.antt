@@ -56,8 +56,8 @@ held-counted base (p ∷ ps) k runs =
     ∙ ap (option_or (byte_from p.place p.bytes (base + k))) (held-counted base ps k (runs_from base (p.place + length p.bytes) ps (omega (arith, runs.0)) runs.3))
 
 -- what is left of pieces where the first are taken out, and the others are counted from the place behind them
-pub runs_skipped : (ahead pieces vec front counted after : List Piece) (count by low : ℕ) → low ≤ 1 → AreRuns (by + 1) (drop count ahead)
-    → pieces ≡ ahead → vec ≡ pieces → front ≡ drop count vec → counted ≡ counted_from by front → after ≡ counted → AreRuns low after
-runs_skipped ahead pieces vec front counted after count by low le runs taken opened fronts counts is =
-    rw (is ∙ counts ∙ ap (counted_from by) (fronts ∙ ap (drop count) (opened ∙ taken)))
+pub runs_skipped : (ahead pieces rest counted after : List Piece) (count by low : ℕ) → low ≤ 1 → AreRuns (by + 1) (drop count ahead)
+    → pieces ≡ ahead → rest ≡ drop count pieces → counted ≡ counted_from by rest → after ≡ counted → AreRuns low after
+runs_skipped ahead pieces rest counted after count by low le runs taken rests counts is =
+    rw (is ∙ counts ∙ ap (counted_from by) (rests ∙ ap (drop count) taken))
     (runs_from low 1 (counted_from by (drop count ahead)) le (runs-counted by 1 (drop count ahead) runs))

@@ -1,6 +1,6 @@
 -- Places that have no byte.
-use Rattle.std.proofs.Common.{◌≡◌, ℕ, ◌+◌, ◌<◌, ◌≤◌, List, [], ◌∷◌, length, fold, max, Bool, true, false, None, refl, sym, ap, subst, ◌∙◌, arith, inl, inr, ◌⊎◌}
-use Rattle.std.specs.Prelude.{IsSome, nat_le, nat_lt, if◌then◌else◌}
+use Rattle.std.proofs.Common.{◌≡◌, ℕ, ◌+◌, ◌<◌, ◌≤◌, List, [], ◌∷◌, length, fold, max, Bool, None, refl, sym, ap, subst, ◌∙◌, arith, inl, inr}
+use Rattle.std.specs.Prelude.{IsSome, nat_lt, if◌then◌else◌}
 use Rattle.std.specs.Bool.{OnTrue, OnFalse}
 use Rattle.std.proofs.lemmas.Bool.{cases_lt, le-leb, lt-leb, lt-ltb, le-ltb}
 use Rattle.tcp_seq.specs.declared.state.Piece.{Piece}

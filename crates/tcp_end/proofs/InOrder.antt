@@ -1,5 +1,5 @@
 -- What becomes of bytes that arrive.
-use Rattle.std.proofs.Common.{◌≡◌, ℕ, zero, suc, ◌+◌, ◌-◌, ◌^◌, ◌%◌, ◌<◌, ◌≤◌, List, [], ◌∷◌, ◌++◌, length, take, drop, max, Option, None, Some, refl, sym, ap, subst, ◌∙◌, arith, ◌⊎◌, inl, inr, append-nil, length-append, get_or}
+use Rattle.std.proofs.Common.{◌≡◌, ℕ, ◌+◌, ◌-◌, ◌^◌, ◌<◌, ◌≤◌, List, [], ◌∷◌, ◌++◌, length, take, drop, max, None, Some, refl, sym, ap, subst, ◌∙◌, arith, inl, inr, append-nil, length-append, get_or}
 use Rattle.std.specs.Prelude.{IsSome}
 use Rattle.std.proofs.lemmas.Bool.{cases_lt}
 use Rattle.std.proofs.lemmas.List.{take-append-drop}
@@ -9,7 +9,7 @@ use Rattle.std.specs.Option.{option_or}
 use Rattle.tcp_seq.specs.Numbers.{plus}
 use Rattle.tcp_seq.specs.declared.state.Piece.{Piece}
 use Rattle.tcp_reasm.specs.Runs.{byte_from, held, AreRuns}
-use Rattle.tcp_reasm.specs.Reassembly.{Reassembly, Puts, byte_ahead, brought}
+use Rattle.tcp_reasm.specs.Reassembly.{Reassembly, Puts, brought}
 use Rattle.tcp_end.specs.Filling.{reached, filled}
 use Rattle.tcp_end.specs.Holes.{HasHole}
 use Rattle.tcp_end.proofs.Lookups.{or_none, or_first, or_second}

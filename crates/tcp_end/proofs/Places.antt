@@ -1,13 +1,13 @@
 -- What 32-bit numbers of a segment say of places, for streams of at most 1 MiB.
-use Rattle.std.proofs.Common.{◌≡◌, ℕ, zero, suc, ◌+◌, ◌-◌, ◌^◌, ◌%◌, ◌<◌, ◌≤◌, List, [], ◌∷◌, length, get_or, Bool, true, false, Option, None, Some, refl, sym, ap, subst, ◌∙◌, arith, ◌⊎◌, inl, inr}
+use Rattle.std.proofs.Common.{◌≡◌, ℕ, ◌+◌, ◌-◌, ◌^◌, ◌<◌, ◌≤◌, List, [], ◌∷◌, length, Bool, None, refl, sym, ap, subst, ◌∙◌, arith, inl, inr}
 use Rattle.std.specs.Prelude.{nat_lt, nat_le, max, if◌then◌else◌}
 use Rattle.std.specs.List.{slice_get}
 use Rattle.std.specs.Option.{option_or}
 use Rattle.std.proofs.lemmas.Bool.{cases_lt, lt-ltb, le-ltb, lt-leb, le-leb}
 use Rattle.std.proofs.lemmas.Option.{slice_get_past}
 use Rattle.tcp_seq.specs.Numbers.{plus, offset_from, number}
-use Rattle.tcp_seq.specs.Rules.{Acceptable, AcceptablePlace, IsAck, IsPlaceAck, IsInStream, IsInWindow, IsPlaceInWindow}
-use Rattle.tcp_seq.specs.declared.rules.AckKind.TheVariants.{New, Old, Beyond}
+use Rattle.tcp_seq.specs.Rules.{Acceptable, AcceptablePlace, IsAck, IsInWindow, IsPlaceInWindow}
+use Rattle.tcp_seq.specs.declared.rules.AckKind.TheVariants.{New, Beyond}
 use Rattle.tcp_seq.specs.declared.state.Piece.{Piece}
 use Rattle.tcp_reasm.specs.Runs.{byte_from, held}
 use Rattle.tcp_reasm.specs.Reassembly.{brought}

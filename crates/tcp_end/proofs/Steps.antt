@@ -1,14 +1,14 @@
 -- What stands for an endpoint after a call that sends, emits or reads.
-use Rattle.std.proofs.Common.{◌≡◌, ℕ, zero, suc, ◌+◌, ◌-◌, ◌^◌, ◌%◌, ◌<◌, ◌≤◌, min, List, [], ◌∷◌, ◌++◌, length, take, drop, Bool, true, false, refl, sym, ap, subst, ◌∙◌, arith, length-append, ◌⊎◌, ◌↔◌}
+use Rattle.std.proofs.Common.{◌≡◌, ℕ, ◌+◌, ◌-◌, ◌^◌, ◌<◌, ◌≤◌, List, ◌++◌, length, take, drop, Bool, true, false, refl, sym, ap, subst, ◌∙◌, arith, length-append, ◌⊎◌, ◌↔◌}
 use Rattle.std.specs.Prelude.{Contains, IsSome}
 use Rattle.tcp_reasm.specs.Runs.{held}
-use Rattle.std.proofs.lemmas.List.{drop-append-le, drop-drop, drop-take, length-drop, length-take}
+use Rattle.std.proofs.lemmas.List.{drop-append-le, drop-drop, drop-take, length-drop}
 use Rattle.tcp_seq.specs.Numbers.{plus, number}
-use Rattle.tcp_seq.specs.Endpoint.{Endpoint, PlacedSegment, Sends, EmitsNext, EmitsAgain, Answers, Reads, slice_at, received}
+use Rattle.tcp_seq.specs.Endpoint.{Endpoint, Sends, EmitsNext, EmitsAgain, Answers, Reads, slice_at}
 use Rattle.tcp_seq.specs.Endpoint.{next_length as next_length_of, again_length as again_length_of}
 use Rattle.tcp_seq.specs.declared.segment.Segment.{Segment}
 use Rattle.tcp_seq.specs.declared.state.EndState.{EndState}
-use Rattle.tcp_end.specs.State.{IsEndState, IsSending, stream_length, unsent, outstanding, got, segment_at, next_length, again_length, LieFrom}
+use Rattle.tcp_end.specs.State.{IsSending, stream_length, got, segment_at, next_length, again_length, LieFrom}
 use Rattle.tcp_end.specs.Standing.{Stands, Numbered, Becomes, Emits}
 
 -- the stream's length

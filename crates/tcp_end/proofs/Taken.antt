@@ -1,12 +1,12 @@
 -- What a segment changes that is taken in.
-use Rattle.std.proofs.Common.{◌≡◌, ℕ, zero, suc, ◌+◌, ◌-◌, ◌^◌, ◌%◌, ◌<◌, ◌≤◌, List, [], ◌∷◌, ◌++◌, length, drop, Bool, true, false, Option, None, Some, refl, sym, ap, subst, ◌∙◌, arith, ◌⊎◌, inl, inr, append-nil, length-append}
+use Rattle.std.proofs.Common.{◌≡◌, ℕ, zero, suc, ◌+◌, ◌-◌, ◌^◌, ◌<◌, ◌≤◌, List, [], length, drop, Bool, true, false, Option, None, Some, refl, sym, ap, subst, ◌∙◌, arith, inl, inr, append-nil, length-append}
 use Rattle.std.specs.Prelude.{IsSome, nat_lt, ◌||◌, if◌then◌else◌}
 use Rattle.std.specs.Option.{option_or}
 use Rattle.std.proofs.lemmas.Bool.{lt-ltb}
 use Rattle.tcp_seq.specs.Numbers.{plus}
 use Rattle.tcp_seq.specs.declared.segment.Segment.{Segment}
 use Rattle.tcp_seq.specs.declared.state.EndState.{EndState}
-use Rattle.tcp_reasm.specs.Runs.{held, AreRuns}
+use Rattle.tcp_reasm.specs.Runs.{AreRuns}
 use Rattle.tcp_reasm.specs.Reassembly.{Reassembly, byte_ahead, brought}
 use Rattle.std.proofs.lemmas.List.{length-drop}
 use Rattle.tcp_end.specs.State.{IsSending, IsEndState, expected, got}

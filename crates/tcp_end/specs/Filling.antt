@@ -1,5 +1,5 @@
 -- What bytes from the place expected next on make ready, together with the pieces that they reach.
-use Rattle.std.specs.Prelude.{ℕ, suc, ◌+◌, ◌-◌, nat_le, min, max, if◌then◌else◌, List, [], ◌∷◌, ◌++◌, length, take, drop}
+use Rattle.std.specs.Prelude.{ℕ, suc, ◌+◌, ◌-◌, nat_le, max, if◌then◌else◌, List, [], ◌∷◌, ◌++◌, length, take, drop}
 use Rattle.tcp_seq.specs.declared.state.Piece.{Piece}
 
 -- how far bytes go on from a place over pieces, without a gap

@@ -1,5 +1,5 @@
 -- Which endpoint over whole numbers a state of 32-bit numbers and buffers stands for.
-use Rattle.std.specs.Prelude.{ℕ, ◌≡◌, ◌⊎◌, ◌↔◌, ◌<◌, ◌≤◌, ◌+◌, ◌-◌, ◌^◌, List, length, take, drop, Contains, Option, Some, None, IsSome, slice_get}
+use Rattle.std.specs.Prelude.{ℕ, ◌≡◌, ◌⊎◌, ◌↔◌, ◌<◌, ◌≤◌, ◌+◌, ◌^◌, List, length, take, drop, Contains, Option, Some, None, IsSome, slice_get}
 use Rattle.std.specs.List.Sorted.{IsStrictlyIncreasing}
 use Rattle.tcp_seq.specs.Numbers.{number}
 use Rattle.tcp_seq.specs.Rules.{IsInStream}

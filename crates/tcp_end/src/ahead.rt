@@ -10,11 +10,12 @@ ghost use Rattle.tcp_end.specs.Filling.{end_from, reached, filled};
 ghost use Rattle.tcp_end.specs.Holes.{HasHole, IsCovered};
 ghost use Rattle.tcp_end.specs.Receiving.{Received, ReceivesRun};
 
-use crate::byte_queue::{ByteQueue, remove_front};
+use crate::byte_queue::ByteQueue;
 use graft_edge::{Items, NoMemory};
+use std::collections::VecDeque;
 use std::mem;
 use tcp_reasm::{Reasm, WINDOW};
-use tcp_seq::{Piece, Seq};
+use tcp_seq::{Piece, Pieces, Seq};
 
 /// The part of bytes from a sequence number on that stands in the window, with its place there.
 fn in_window(next: Seq, seq: Seq, bytes: &[u8]) -> (u32, &[u8])
@@ -128,6 +129,18 @@ pub(crate) fn raise(pieces: &mut Vec<Piece>, base: u32)
     }
 }
 
+/// The pieces after the first ones. It takes no memory.
+fn after_first(pieces: Pieces, count: usize) -> Vec<Piece>
+    requires { count ≤ length pieces }
+    ensures { result.items ≡ drop count pieces }
+{
+    let mut rest = VecDeque::from_vec(pieces.into_vec());
+    for _ in 0..count {
+        rest.pop_front();
+    }
+    rest.into_vec()
+}
+
 /// Takes the first pieces out, and expects a later place.
 fn skipped(ahead: Reasm, count: usize, by: u32) -> Reasm
     requires some { count ≤ length ahead.pieces }
@@ -137,8 +150,7 @@ fn skipped(ahead: Reasm, count: usize, by: u32) -> Reasm
     ensures runs { AreRuns 1 result.pieces }
 {
     let next = ahead.next().plus(by);
-    let mut pieces = ahead.into_pieces().into_vec();
-    remove_front(&mut pieces, count);
+    let mut pieces = after_first(ahead.into_pieces(), count);
     count_from(&mut pieces, by);
     Reasm::from_pieces(next, Items::from_vec(pieces))
 }

@@ -25,14 +25,14 @@ impl Model for ByteQueue {
     ghost invariant = { λ q. q.dropped ≤ length q.bytes.items };
 }
 
-/// Takes the first values out.
-pub(crate) fn remove_front<T: Drop>(values: &mut Vec<T>, count: usize)
-    requires { count ≤ length values.old.items }
-    ensures { values.new.items ≡ drop count values.old.items }
+/// Takes the first bytes out. It takes no memory.
+fn remove_front(bytes: &mut Vec<u8>, count: usize)
+    requires { count ≤ length bytes.old.items }
+    ensures { bytes.new.items ≡ drop count bytes.old.items }
 {
-    let left = values.len() - count;
-    values.as_mut_slice().rotate_left(count);
-    values.truncate(left);
+    let left = bytes.len() - count;
+    bytes.copy_within(count.., 0);
+    bytes.truncate(left);
 }
 
 impl ByteQueue {

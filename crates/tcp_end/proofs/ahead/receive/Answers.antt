@@ -1,5 +1,4 @@
-use Rattle.std.proofs.Common.{◌≡◌, ℕ, ◌<◌, ◌+◌, ◌^◌, ◌∙◌, length, ap, subst, sym, arith, refl}
-use Rattle.tcp_seq.specs.declared.state.Piece.{Piece}
+use Rattle.std.proofs.Common.{◌≡◌, ℕ, ◌+◌, ◌∙◌, length, ap, subst, sym, arith, refl}
 use Rattle.tcp_reasm.specs.Runs.{byte_from}
 use Rattle.tcp_reasm.specs.Reassembly.{brought}
 use Rattle.tcp_end.specs.Holes.{HasHole}

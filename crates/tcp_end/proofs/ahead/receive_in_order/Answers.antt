@@ -1,4 +1,4 @@
-use Rattle.std.proofs.Common.{◌≡◌, ℕ, ◌-◌, ◌+◌, ◌∙◌, ap, arith, length, drop, subst, sym}
+use Rattle.std.proofs.Common.{◌≡◌, ◌-◌, ◌+◌, ◌∙◌, ap, arith, length, drop, subst, sym}
 use Rattle.tcp_reasm.specs.Runs.{AreRuns}
 use Rattle.tcp_end.specs.Filling.{reached}
 use Rattle.tcp_reasm.specs.Reassembly.{Reassembly}

@@ -1,7 +1,5 @@
-use Rattle.std.proofs.Common.{◌≡◌, ◌∙◌, ap, sym, subst, arith}
-use Rattle.tcp_seq.specs.declared.state.EndState.{EndState}
+use Rattle.std.proofs.Common.{◌∙◌, ap, sym, subst, arith}
 use Rattle.tcp_end.specs.Inner.{state_of, Keeps}
-use Rattle.tcp_end.specs.declared.end.End.TheInside.{Inside}
 use Rattle.tcp_end.proofs.Handed.{imported_runs, imported_keeps, imported_is, fields_are}
 use Rattle.tcp_end.proofs.end.End.import.Goals as goal
 

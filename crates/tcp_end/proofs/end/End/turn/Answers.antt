@@ -1,5 +1,5 @@
 use Rattle.std.proofs.Common.{rules}
-use Rattle.tcp_end.proofs.Steps.{emits_again, turned}
+use Rattle.tcp_end.proofs.Steps.{turned}
 use Rattle.tcp_end.proofs.end.End.turn.Goals as goal
 
 pub returns-then-len-eq0-clause-step : goal.returns-then-len-eq0-clause-step
