@@ -64,7 +64,7 @@ impl Held {
         if self.start < left {
             return;
         }
-        self.bytes.rotate_left(self.start);
+        self.bytes.copy_within(self.start.., 0);
         self.bytes.truncate(left);
         self.start = 0;
     }
