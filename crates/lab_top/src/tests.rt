@@ -1,8 +1,8 @@
 use crate::lab::Lab;
-use crate::top::graft_main;
+use crate::top::{Finish, graft_main};
 use bgp_story::Line;
 use bgp_types::Message;
-use graft_edge::{FreeGate, Gate, MemSink, MemSource, NoMemory, StdSource, Words};
+use graft_edge::{FreeGate, Gate, MemSink, MemSource, NoMemory, Source, StdSource, Words};
 use std::alloc::Global;
 use std::io::Cursor;
 use std::sync::atomic::{AtomicU64, Ordering};
@@ -52,6 +52,17 @@ fn one_peering() -> &'static str {
 
 fn report_of_it() -> &'static str {
     REPORT
+}
+
+/// What comes of a command. The tests look at that alone, and not at what the contract says of it.
+fn finish_of<R: AllocGlobal, S: Source, G: Gate>(
+    rt: &R,
+    words: &Words,
+    source: &mut S,
+    sink: &mut MemSink,
+    gate: &G,
+) -> Finish {
+    graft_main(rt, words, source, sink, gate)
 }
 
 /// One word, as the words of a command.
@@ -149,7 +160,7 @@ fn runs_one_peering_and_reports_it(rt: HostRuntime) -> Result<(), Fail> {
     let gate = CountingGate {
         passes: [AtomicU64::new(0), AtomicU64::new(0), AtomicU64::new(0)],
     };
-    let finish = graft_main(&rt, &words, &mut source, &mut sink, &gate);
+    let finish = finish_of(&rt, &words, &mut source, &mut sink, &gate);
     assert_eq!(rt; sink.written(), report_of_it().as_bytes());
     assert_eq!(rt; finish.status, 0);
     assert!(rt; all_passed(&gate));
@@ -217,7 +228,7 @@ fn reports_so<R: AllocGlobal>(rt: &R, script: &Script) -> Result<bool, NoMemory>
     let input = joined(alloc, &[NO_STEPS, script.steps])?;
     let mut source = MemSource::new(alloc, input.as_bytes(), 64, &[])?;
     let mut sink = MemSink::new(alloc, 4096, 16, &[])?;
-    let finish = graft_main(rt, &words, &mut source, &mut sink, &FreeGate);
+    let finish = finish_of(rt, &words, &mut source, &mut sink, &FreeGate);
     let (head, tail) = ("result settled\nrouter a\n", " told 0\n");
     let at = "peering c1 at a state Established heard ";
     let report = joined(alloc, &[head, script.best, at, script.heard, tail])?;
@@ -315,7 +326,7 @@ fn ends_so<R: AllocGlobal>(rt: &R, case: &Case) -> Result<bool, NoMemory> {
     let words = words_of(alloc, case.word)?;
     let mut source = MemSource::new(alloc, case.input.as_bytes(), 64, &[case.read_fails])?;
     let mut sink = MemSink::new(alloc, 4096, 16, &[case.write_fails])?;
-    let finish = graft_main(rt, &words, &mut source, &mut sink, &FreeGate);
+    let finish = finish_of(rt, &words, &mut source, &mut sink, &FreeGate);
     Ok(finish.status == case.status && sink.written() == case.written.as_bytes())
 }
 
@@ -338,7 +349,7 @@ fn refuses_other_words_over_a_reader_of_std(rt: HostRuntime) -> Result<(), Fail>
     let words = words_of(alloc, "bogus")?;
     let mut source = StdSource::new(Cursor::new(one_peering().as_bytes()));
     let mut sink = MemSink::new(alloc, 64, 64, &[])?;
-    let finish = graft_main(&rt, &words, &mut source, &mut sink, &FreeGate);
+    let finish = finish_of(&rt, &words, &mut source, &mut sink, &FreeGate);
     assert_eq!(rt; finish.status, 1);
     assert_eq!(rt; sink.written(), b"usage: graftlab run\n".as_slice());
     Ok(())
