@@ -2,27 +2,16 @@
 use Rattle.std.proofs.Common.{◌≡◌, Bool, true, false, cond, List, [], ◌∷◌, Option, Some, None, refl, sym, ap, ◌∙◌, subst}
 use Rattle.std.specs.Prelude.{fold, is_some, Result, Ok, Err, OnOk}
 use Rattle.std.specs.Option.{IfSome}
-use Rattle.std.specs.declared.cmp.Ordering.{Ordering}
-use Rattle.std.specs.declared.cmp.Ordering.TheVariants.{Less, Equal, Greater}
-use Rattle.std.specs.Ordering.{eq_by_cmp, is_eq}
+use Rattle.std.specs.Ordering.{eq_by_cmp}
 use Rattle.std.specs.FinMap as map
 use Rattle.std.proofs.lemmas.Bool.{false≢true}
 use Rattle.bgp_types.specs.declared.attrs.Attrs.{Attrs}
 use Rattle.bgp_types.specs.Prefixes.{PrefixValue}
 use Rattle.bgp_types.specs.Tables.{prefix_cmp}
-use Rattle.bgp_types.proofs.TableLaws.{prefix_total, exact_prefixes}
+use Rattle.bgp_types.proofs.TableLaws.{prefix_total, tied}
 use Rattle.bgp_types.specs.declared.message.Update.{Update}
 use Rattle.bgp_story.specs.Readings.{Routes, announce, apply}
 use Rattle.adj_rib.specs.Changes.{Notes, noted, Tracks}
-
-equal : (o : Ordering) → is_eq o ≡ true → o ≡ Equal
-equal Less e = absurd (false≢true e)
-equal Equal e = refl
-equal Greater e = absurd (false≢true e)
-
--- prefixes that tie are one
-pub tied : (q p : PrefixValue) → eq_by_cmp prefix_cmp q p ≡ true → q ≡ p
-tied q p e = exact_prefixes q p (equal _ e)
 
 none_of : {A : Type 0} (o : Option A) → is_some o ≡ false → o ≡ None
 none_of None e = refl

@@ -1,139 +1,18 @@
--- A walk over the prefixes of notes in rising order.
-use Rattle.std.proofs.Common.{◌≡◌, ◌≢◌, ◌<◌, ◌≤◌, ◌⊎◌, Bool, true, false, cond, eqb, ◌&&◌, ◌||◌, List, [], ◌∷◌, ◌++◌, Option, Some, None, refl, sym, ap, ◌∙◌, subst, inl, inr, arith}
-use Rattle.std.specs.Prelude.{T, map, length, MatchBool}
-use Rattle.std.specs.declared.cmp.Ordering.{Ordering}
-use Rattle.std.specs.declared.cmp.Ordering.TheVariants.{Less, Equal, Greater}
-use Rattle.std.specs.Ordering.{eq_by_cmp, is_lt, ordering_reverse}
-use Rattle.std.specs.Cmp.{tied_itself}
+-- A walk over the prefixes of notes in rising order: the list of what changed.
+use Rattle.std.proofs.Common.{◌≡◌, ◌≢◌, Bool, true, false, eqb, ◌&&◌, ◌||◌, List, [], ◌∷◌, ◌++◌, Option, Some, None, refl, sym, ap, ◌∙◌, inl, inr}
+use Rattle.std.specs.Prelude.{MatchBool}
+use Rattle.std.specs.declared.cmp.Ordering.TheVariants.{Less}
 use Rattle.std.specs.FinMap as table
-use Rattle.std.specs.List.{AllByRecursion, All, list_any, filter}
+use Rattle.std.specs.List.{AllByRecursion, All, list_any}
 use Rattle.std.specs.List.Sorted.{IsStrictlySortedBy}
 use Rattle.std.proofs.lemmas.Bool.{false≢true, eq-eqb}
-use Rattle.std.proofs.lemmas.Option.{same_Some}
 use Rattle.std.proofs.lemmas.List.Elements.{All-nil, All-push}
 use Rattle.std.proofs.lemmas.List.Folds.{list_any-append}
 use Rattle.bgp_types.specs.Prefixes.{PrefixValue, same_prefix}
 use Rattle.bgp_types.specs.Tables.{prefix_cmp, is_above, first_above}
-use Rattle.bgp_types.proofs.TableLaws.{prefix_total, exact_prefixes, AllAbove, find_above, rising_parts}
+use Rattle.bgp_types.proofs.WalkLaws.{below, not_above, not_itself, one_or_below, next_passes, none_between, none_past}
 use Rattle.bgp_story.specs.Readings.{Routes}
 use Rattle.adj_rib.specs.Changes.{Changed, Notes, Tracks}
-use Rattle.adj_rib.proofs.Notes.{tied}
-
--- ---- the order
-
-less : (o : Ordering) → is_lt o ≡ true → o ≡ Less
-less Less e = refl
-less Equal e = absurd (false≢true e)
-less Greater e = absurd (false≢true e)
-
-reversed : (p q : PrefixValue) (o : Ordering) → prefix_cmp p q ≡ o → prefix_cmp q p ≡ ordering_reverse o
-reversed p q o e = prefix_total.antisymm q p ∙ ap ordering_reverse e
-
--- what is above a later prefix is above an earlier one
-above_too : (last : Option PrefixValue) (p q : PrefixValue) → is_above last p ≡ true → is_above (Some p) q ≡ true → is_above last q ≡ true
-above_too None p q a b = refl
-above_too (Some l) p q a b = ap is_lt (prefix_total.trans l p q (less _ a) (less _ b))
-
--- what isn't above the last one is below what is
-below : (last : Option PrefixValue) (p q : PrefixValue) → is_above last p ≡ true → is_above last q ≡ false → prefix_cmp q p ≡ Less
-below last p q a n = elim (prefix_cmp q p) as (λ o. prefix_cmp q p ≡ o → prefix_cmp q p ≡ Less) [
-  | Less ↦ λ e. e
-  | Equal ↦ λ e. absurd (false≢true (sym n ∙ (ap (is_above last) (exact_prefixes q p e) ∙ a)))
-  | Greater ↦ λ e. absurd (false≢true (sym n ∙ above_too last p q a (ap is_lt (reversed q p Greater e))))
-] refl
-
-not_above : (p q : PrefixValue) → prefix_cmp q p ≡ Less → is_above (Some p) q ≡ false
-not_above p q e = ap is_lt (reversed q p Less e)
-
-not_itself : (p : PrefixValue) → is_above (Some p) p ≡ false
-not_itself p = ap is_lt (tied_itself prefix_total p)
-
-one_or_below : (p q : PrefixValue) → is_above (Some p) q ≡ false → (q ≡ p) ⊎ (prefix_cmp q p ≡ Less)
-one_or_below p q n = elim (prefix_cmp p q) as (λ o. prefix_cmp p q ≡ o → (q ≡ p) ⊎ (prefix_cmp q p ≡ Less)) [
-  | Less ↦ λ e. absurd (false≢true (sym n ∙ ap is_lt e))
-  | Equal ↦ λ e. inl (sym (exact_prefixes p q e))
-  | Greater ↦ λ e. inr (reversed p q Greater e)
-] refl
-
--- ---- the next prefix
-
-pub next_passes : (last : Option PrefixValue) (p : PrefixValue) (ks : List PrefixValue) → first_above last ks ≡ Some p → is_above last p ≡ true
-next_passes last p [] e = absurd cc
-next_passes last p (k ∷ ks) e =
-    elim (is_above last k) as (λ b. is_above last k ≡ b → cond b (Some k) (first_above last ks) ≡ Some p → is_above last p ≡ true) [
-      | true ↦ λ a f. subst (λ (x : PrefixValue). is_above last x ≡ true) (same_Some k p f) a
-      | false ↦ λ a f. next_passes last p ks f
-    ] refl e
-
-module _ (k : PrefixValue) (xs ys : List PrefixValue) where
-  step_le : (a b : Bool) → (a ≡ true → b ≡ true) → length xs ≤ length ys → length (cond a (k ∷ xs) xs) ≤ length (cond b (k ∷ ys) ys)
-  step_le true true h l = omega arith
-  step_le true false h l = absurd (false≢true (h refl))
-  step_le false true h l = omega arith
-  step_le false false h l = l
-
-  step_lt : (a b : Bool) → (a ≡ true → b ≡ true) → length xs < length ys → length (cond a (k ∷ xs) xs) < length (cond b (k ∷ ys) ys)
-  step_lt true true h l = omega arith
-  step_lt true false h l = absurd (false≢true (h refl))
-  step_lt false true h l = omega arith
-  step_lt false false h l = l
-
-  first_lt : (a b : Bool) → a ≡ false → b ≡ true → length xs ≤ length ys → length (cond a (k ∷ xs) xs) < length (cond b (k ∷ ys) ys)
-  first_lt true b e f l = absurd (false≢true (sym e))
-  first_lt false true e f l = omega arith
-  first_lt false false e f l = absurd (false≢true f)
-
-fewer_or_same : (last : Option PrefixValue) (p : PrefixValue) → is_above last p ≡ true → (ks : List PrefixValue) → length (filter (is_above (Some p)) ks) ≤ length (filter (is_above last) ks)
-fewer_or_same last p a [] = omega arith
-fewer_or_same last p a (k ∷ ks) = step_le k (filter (is_above (Some p)) ks) (filter (is_above last) ks) (is_above (Some p) k) (is_above last k) (above_too last p k a) (fewer_or_same last p a ks)
-
--- there are fewer prefixes above the next one
-pub fewer : (last : Option PrefixValue) (p : PrefixValue) (ks : List PrefixValue) → first_above last ks ≡ Some p → length (filter (is_above (Some p)) ks) < length (filter (is_above last) ks)
-fewer last p [] e = absurd cc
-fewer last p (k ∷ ks) e =
-    let a = next_passes last p (k ∷ ks) e in
-    elim (is_above last k) as (λ b. is_above last k ≡ b → cond b (Some k) (first_above last ks) ≡ Some p → length (filter (is_above (Some p)) (k ∷ ks)) < length (filter (is_above last) (k ∷ ks))) [
-      | true ↦ λ f g. first_lt k (filter (is_above (Some p)) ks) (filter (is_above last) ks) (is_above (Some p) k) (is_above last k) (ap (is_above (Some p)) (same_Some k p g) ∙ not_itself p) f (fewer_or_same last p a ks)
-      | false ↦ λ f g. step_lt k (filter (is_above (Some p)) ks) (filter (is_above last) ks) (is_above (Some p) k) (is_above last k) (above_too last p k a) (fewer last p ks g)
-    ] refl e
-
-another : (last : Option PrefixValue) (q k : PrefixValue) → is_above last q ≡ true → is_above last k ≡ false → eq_by_cmp prefix_cmp q k ≡ true → ⊥
-another last q k a n e = false≢true (sym n ∙ (ap (is_above last) (sym (tied q k e)) ∙ a))
-
-miss : {A : Type 0} (b : Bool) (x : A) (o : Option A) → (b ≡ true → ⊥) → o ≡ None → cond b (Some x) o ≡ None
-miss true x o h e = absurd (h refl)
-miss false x o h e = e
-
-module _ {X : Type 0} where
-  above_all : (q p : PrefixValue) (es : List (PrefixValue × X)) → prefix_cmp q p ≡ Less → AllAbove prefix_cmp p es → AllAbove prefix_cmp q es
-  above_all q p [] e a = tt
-  above_all q p (x ∷ es) e a = (prefix_total.trans q p x.0 e a.0, above_all q p es e a.1)
-
-  -- between the last prefix and the next one there is none
-  pub none_between : (last : Option PrefixValue) (p q : PrefixValue) → is_above last q ≡ true → prefix_cmp q p ≡ Less → (es : List (PrefixValue × X)) → T (table.is_sorted prefix_cmp es) → first_above last (map (λ e. e.0) es) ≡ Some p → table.find prefix_cmp q es ≡ None
-  none_between last p q a l [] rise e = refl
-  none_between last p q a l (x ∷ es) rise e =
-      elim (is_above last x.0) as (λ b. is_above last x.0 ≡ b → cond b (Some x.0) (first_above last (map (λ e. e.0) es)) ≡ Some p → table.find prefix_cmp q (x ∷ es) ≡ None) [
-        | true ↦ λ f g.
-            let first : prefix_cmp q x.0 ≡ Less = ap (prefix_cmp q) (same_Some x.0 p g) ∙ l in
-            find_above prefix_cmp q (x ∷ es) (first, above_all q x.0 es first (rising_parts prefix_total [] x es rise).1)
-        | false ↦ λ f g. miss (eq_by_cmp prefix_cmp q x.0) x.1 (table.find prefix_cmp q es) (another last q x.0 a f) (none_between last p q a l es (rest _ _ rise) g)
-      ] refl e
-    where
-      rest : (b c : Bool) → T (b && c) → T c
-      rest true c h = h
-      rest false c h = absurd h
-
-  -- nor is there one above the last of all
-  pub none_past : (last : Option PrefixValue) (q : PrefixValue) → is_above last q ≡ true → (es : List (PrefixValue × X)) → first_above last (map (λ e. e.0) es) ≡ None → table.find prefix_cmp q es ≡ None
-  none_past last q a [] e = refl
-  none_past last q a (x ∷ es) e =
-      elim (is_above last x.0) as (λ b. is_above last x.0 ≡ b → cond b (Some x.0) (first_above last (map (λ e. e.0) es)) ≡ None → table.find prefix_cmp q (x ∷ es) ≡ None) [
-        | true ↦ λ f g. absurd cc
-        | false ↦ λ f g. miss (eq_by_cmp prefix_cmp q x.0) x.1 (table.find prefix_cmp q es) (another last q x.0 a f) (none_past last q a es g)
-      ] refl e
-
--- ---- the list of what changed
 
 pub when_true : (P Q : Type 0) (b : Bool) → b ≡ true → MatchBool b P Q → P
 when_true P Q true e h = h

@@ -1,5 +1,5 @@
 -- Which routes an UPDATE changed.
-use Rattle.std.specs.Prelude.{◌≡◌, ◌≢◌, List, Option, Some, None, false, All, is_some, if◌then◌else◌}
+use Rattle.std.specs.Prelude.{◌≡◌, ◌≢◌, List, Option, None, false, All, is_some, if◌then◌else◌}
 use Rattle.std.specs.Option.{IfSome}
 use Rattle.std.specs.FinMap as map
 use Rattle.std.specs.List.{list_any}

@@ -1,6 +1,5 @@
 -- How a legal story ends: nothing follows Closed, and a NOTIFICATION has a cause.
-use Rattle.std.proofs.Common.{◌≡◌, ◌≢◌, ℕ, ◌+◌, ◌/◌, ◌%◌, List, [], ◌∷◌, ◌++◌, Bool, true, false, cond, eqb, Option, Some, Result, Ok, Err, refl, sym, ap, ◌∙◌, ◌⊎◌, inl, inr, append_assoc, subst}
-use Rattle.std.specs.Prelude.{fold}
+use Rattle.std.proofs.Common.{◌≡◌, ◌≢◌, ℕ, ◌+◌, ◌/◌, ◌%◌, List, [], ◌∷◌, ◌++◌, Bool, true, false, cond, eqb, Some, Result, Ok, Err, refl, sym, ap, ◌∙◌, inl, inr, append_assoc, subst}
 use Rattle.std.proofs.lemmas.Bool.{eqb-true}
 use Rattle.std.proofs.lemmas.List.{append-nil}
 use Rattle.std.proofs.lemmas.List.Sums.{fold-append}
@@ -14,10 +13,10 @@ use Rattle.bgp_types.specs.Faults.{fault_in}
 use Rattle.bgp_types.specs.FirstFault.{message_of}
 use Rattle.bgp_story.specs.declared.line.Line.{Line}
 use Rattle.bgp_story.specs.declared.line.Line.TheVariants.{Put, Got, Tick}
-use Rattle.bgp_story.specs.Laws.{HasCause, EndsInFault, EndsInSilence}
+use Rattle.bgp_story.specs.Laws.{HasCause}
 use Rattle.bgp_story.specs.Legal.{Peering, Allowed, opened, got, told, passed, IsGot, reply_to, reply_at, hold_expired, is_up, expected, hold, silence}
 use Rattle.bgp_story.specs.States.{is_type, with_keepalive_got, after_got, after, state_of, Begins}
-use Rattle.bgp_story.proofs.HeaderKinds.{IsRead, read_of, read_type, notice_sound}
+use Rattle.bgp_story.proofs.HeaderKinds.{read_of, read_type, notice_sound}
 use Rattle.bgp_story.proofs.Splits.{Cut, behind, ahead, cut_of}
 use Rattle.bgp_story.proofs.StoryLaws.{after_is, state_is}
 

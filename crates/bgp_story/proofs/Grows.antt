@@ -1,5 +1,5 @@
 -- What was put, told and heard stays as the story goes on.
-use Rattle.std.proofs.Common.{◌≡◌, ◌≢◌, ℕ, ◌+◌, List, [], ◌∷◌, ◌++◌, Bool, true, false, Option, Some, None, Result, Ok, Err, refl, sym, ap, ◌∙◌, subst}
+use Rattle.std.proofs.Common.{◌≡◌, ◌≢◌, ℕ, List, [], ◌∷◌, ◌++◌, Bool, true, false, Option, Some, Result, Ok, Err, refl, sym, ap, ◌∙◌, subst}
 use Rattle.std.specs.Prelude.{fold}
 use Rattle.std.specs.FinMap as map
 use Rattle.std.specs.List.{AllByRecursion, flat_map}
@@ -16,11 +16,11 @@ use Rattle.bgp_types.specs.FirstFault.{message_of}
 use Rattle.bgp_types.specs.Spelling.{spell}
 use Rattle.bgp_story.specs.declared.line.Line.{Line}
 use Rattle.bgp_story.specs.declared.line.Line.TheVariants.{Put, Got, Tick}
-use Rattle.bgp_story.specs.Legal.{Peering, Allowed, opened, got, told as told_step, passed, got_open, open_in, both_offer, smaller_hold, is_wide, hold, silence, is_up, expected, reply_to}
+use Rattle.bgp_story.specs.Legal.{Peering, Allowed, opened, got, told as told_step, passed, got_open, open_in, both_offer, smaller_hold, is_wide, hold, is_up, expected, reply_to}
 use Rattle.bgp_story.specs.Opens.{offers}
 use Rattle.bgp_story.specs.Readings.{Routes, put_in, put_bytes, got_in, got_bytes, tell, hear, unless_closed, told, heard}
 use Rattle.bgp_story.specs.States.{state_of}
-use Rattle.bgp_story.proofs.HeaderKinds.{IsRead, read_of}
+use Rattle.bgp_story.proofs.HeaderKinds.{read_of}
 use Rattle.bgp_story.proofs.Shapes.{IsAnswer, all_weaken, got_answers}
 
 abbrev pub PutsNoUpdate : Line → Type 0

@@ -1,5 +1,5 @@
 -- What a message that is read tells of the header.
-use Rattle.std.proofs.Common.{◌≡◌, ◌≢◌, ℕ, ◌≤◌, List, [], ◌∷◌, length, drop, Bool, true, false, cond, eqb, leb, Option, Some, None, Result, Ok, Err, refl, sym, ap, ◌∙◌, ◌⊎◌, inl, inr, arith}
+use Rattle.std.proofs.Common.{◌≡◌, ℕ, ◌≤◌, List, [], length, drop, Bool, true, false, cond, eqb, leb, Option, Some, None, Result, Ok, Err, refl, sym, ap, ◌∙◌, inl, inr, arith}
 use Rattle.std.specs.Prelude.{◌&&◌, is_none}
 use Rattle.std.proofs.lemmas.Bool.{eqb-true}
 use Rattle.std.proofs.lemmas.Bool.Decides.{nat_tests}
@@ -13,7 +13,7 @@ use Rattle.bgp_types.specs.declared.message.SessionState.{SessionState}
 use Rattle.bgp_types.specs.declared.message.SessionState.TheVariants.{OpenSent, OpenConfirm, Established, Closed}
 use Rattle.bgp_types.specs.declared.message.Update.{Update}
 use Rattle.bgp_types.specs.FirstFault.{is_in_state, open_message, update_message, notice_of, body_of, state_fault, with_header, message_of}
-use Rattle.bgp_types.specs.Header.{header_fault, header_notice, kind_in}
+use Rattle.bgp_types.specs.Header.{header_fault, kind_in}
 use Rattle.bgp_types.specs.OpenBody.{open_of}
 use Rattle.bgp_types.specs.Spelling.{kind_of}
 use Rattle.bgp_types.specs.UpdateBody.{update_of}

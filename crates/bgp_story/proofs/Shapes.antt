@@ -1,5 +1,5 @@
 -- What stands in a legal story: one OPEN, and frames.
-use Rattle.std.proofs.Common.{◌≡◌, ℕ, ◌+◌, ◌/◌, ◌%◌, List, [], ◌∷◌, ◌++◌, Bool, true, false, cond, eqb, Result, Ok, Err, refl, ap, ◌∙◌, subst}
+use Rattle.std.proofs.Common.{◌≡◌, ℕ, ◌+◌, ◌/◌, ◌%◌, List, [], ◌∷◌, ◌++◌, Bool, true, false, cond, eqb, Result, Ok, Err, ap, ◌∙◌, subst}
 use Rattle.std.specs.List.{AllByRecursion}
 use Rattle.bgp_types.specs.declared.message.Message.{Message}
 use Rattle.bgp_types.specs.declared.message.Message.TheVariants.{OpenMsg, UpdateMsg, NoticeMsg, KeepaliveMsg}
@@ -10,7 +10,7 @@ use Rattle.bgp_types.specs.FirstFault.{message_of}
 use Rattle.bgp_story.specs.declared.line.Line.{Line}
 use Rattle.bgp_story.specs.declared.line.Line.TheVariants.{Put, Got, Tick}
 use Rattle.bgp_story.specs.Laws.{PutsNoOpen, OpensOnce, IsGotLine}
-use Rattle.bgp_story.specs.Legal.{Peering, Allowed, opened, got, told, passed, IsGot, reply_to, reply_at, hold_expired, expected, hold, silence}
+use Rattle.bgp_story.specs.Legal.{Peering, Allowed, opened, got, told, passed, reply_to, reply_at, hold_expired, expected, hold, silence}
 use Rattle.bgp_story.specs.Readings.{IsLegal}
 use Rattle.bgp_story.proofs.Splits.{all_append}
 

@@ -1,5 +1,5 @@
 -- Two ways to cut one list.
-use Rattle.std.proofs.Common.{◌≡◌, List, [], ◌∷◌, ◌++◌, refl, sym, ap, ◌∙◌, ◌⊎◌, inl, inr}
+use Rattle.std.proofs.Common.{◌≡◌, List, [], ◌∷◌, ◌++◌, refl, sym}
 use Rattle.std.specs.List.{AllByRecursion}
 
 -- the first cut is not before the second, or it is not behind it

@@ -1,7 +1,6 @@
 -- The laws of legal stories, by the cases of a legal story.
-use Rattle.std.proofs.Common.{◌≡◌, ◌≢◌, ℕ, ◌+◌, ◌/◌, ◌%◌, List, [], ◌∷◌, ◌++◌, Bool, true, false, cond, eqb, Option, Some, None, Result, Ok, Err, refl, sym, ap, ◌∙◌, ◌⊎◌, inl, inr, append_assoc, subst}
+use Rattle.std.proofs.Common.{◌≡◌, ℕ, ◌+◌, ◌/◌, ◌%◌, List, [], ◌∷◌, ◌++◌, Bool, true, false, cond, eqb, Result, Ok, Err, refl, sym, ap, ◌∙◌}
 use Rattle.std.specs.Prelude.{fold}
-use Rattle.std.specs.List.{AllByRecursion}
 use Rattle.std.proofs.lemmas.List.Sums.{fold-append}
 use Rattle.bgp_types.specs.declared.fault.Expected.{Expected}
 use Rattle.bgp_types.specs.declared.message.Message.{Message}
@@ -9,13 +8,12 @@ use Rattle.bgp_types.specs.declared.message.Message.TheVariants.{OpenMsg, Update
 use Rattle.bgp_types.specs.declared.message.Notice.{Notice}
 use Rattle.bgp_types.specs.declared.message.SessionState.{SessionState}
 use Rattle.bgp_types.specs.declared.message.SessionState.TheVariants.{OpenSent, OpenConfirm, Established, Closed}
-use Rattle.bgp_types.specs.declared.message.Update.{Update}
 use Rattle.bgp_types.specs.FirstFault.{is_in_state, message_of}
 use Rattle.bgp_story.specs.declared.line.Line.{Line}
 use Rattle.bgp_story.specs.declared.line.Line.TheVariants.{Put, Got, Tick}
-use Rattle.bgp_story.specs.Legal.{Peering, Allowed, opened, got, told, passed, IsGot, reply_to, reply_at, hold_expired, is_up, expected, hold, silence}
+use Rattle.bgp_story.specs.Legal.{Peering, Allowed, opened, got, told, passed, IsGot, reply_to, hold_expired, is_up, expected, hold, silence}
 use Rattle.bgp_story.specs.States.{is_type, with_keepalive_put, with_keepalive_got, after_got, after, state_of}
-use Rattle.bgp_story.proofs.HeaderKinds.{IsRead, read_of, read_type, notice_sound}
+use Rattle.bgp_story.proofs.HeaderKinds.{read_of, read_type}
 
 -- ---- the state
 

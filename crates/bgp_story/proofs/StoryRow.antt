@@ -1,9 +1,9 @@
 -- The worked story is legal, computed.
-use Rattle.std.proofs.Common.{◌≡◌, ◌≢◌, ℕ, ◌<◌, ◌^◌, List, [], ◌∷◌, ◌++◌, Some, None, true, false, refl, inl, lit<}
+use Rattle.std.proofs.Common.{◌≡◌, ◌≢◌, ℕ, ◌<◌, ◌^◌, List, [], ◌∷◌, ◌++◌, None, false, refl, inl, lit<}
 use Rattle.std.specs.FinMap as map
 use Rattle.std.proofs.lemmas.List.Elements.{All-from_recursion}
 use Rattle.bgp_types.specs.declared.attrs.Origin.TheVariants as origins
-use Rattle.bgp_types.specs.declared.message.Message.TheVariants.{OpenMsg, UpdateMsg, NoticeMsg, KeepaliveMsg}
+use Rattle.bgp_types.specs.declared.message.Message.TheVariants.{KeepaliveMsg}
 use Rattle.bgp_types.specs.declared.message.SessionState.{SessionState}
 use Rattle.bgp_types.specs.declared.message.SessionState.TheVariants.{OpenSent, OpenConfirm, Established, Closed}
 use Rattle.bgp_types.specs.declared.path.PathPart.TheVariants as parts
@@ -21,7 +21,7 @@ use Rattle.bgp_types.specs.Values.{is_short_hold}
 use Rattle.bgp_types.specs.WireAttrs.{attr_at}
 use Rattle.bgp_story.specs.declared.line.Line.{Line}
 use Rattle.bgp_story.specs.declared.line.Line.TheVariants.{Put, Got, Tick}
-use Rattle.bgp_story.specs.Legal.{Peering, Legal, opened, got, passed, IsEarlier, Allowed}
+use Rattle.bgp_story.specs.Legal.{opened, got, passed, IsEarlier}
 use Rattle.bgp_story.specs.Opens.{IsHomeOpen}
 use Rattle.bgp_story.specs.Readings.{IsLegal, heard}
 use Rattle.bgp_story.specs.Row.{home, row_peering, open_bytes, keepalive_bytes, update_bytes, cease_bytes, sent_lines, confirmed_lines, joined_lines, heard_lines}

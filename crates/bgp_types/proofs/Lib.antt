@@ -21,3 +21,5 @@ pub mod WrittenLaws
 pub mod FaultRows
 pub mod ReadRows
 pub mod TableLaws
+pub mod WalkLaws
+pub mod NoticeLaws

@@ -1,12 +1,12 @@
 -- The order of prefixes, and what a table answers after a change.
-use Rattle.std.proofs.Common.{◌≡◌, ℕ, Bool, true, false, cond, not, ◌&&◌, List, [], ◌∷◌, ◌++◌, map, length, Option, Some, None, refl, sym, ap, ◌∙◌}
+use Rattle.std.proofs.Common.{◌≡◌, ℕ, Bool, true, false, cond, not, ◌&&◌, List, [], ◌∷◌, ◌++◌, map, length, Some, None, refl, sym, ap, ◌∙◌}
 use Rattle.std.specs.Prelude.{T}
 use Rattle.std.specs.declared.cmp.Ordering.{Ordering}
 use Rattle.std.specs.declared.cmp.Ordering.TheVariants.{Less, Equal, Greater}
 use Rattle.std.specs.Ordering.{nat_cmp, eq_by_cmp, is_eq, is_lt, ordering_reverse}
 use Rattle.std.specs.List.{AllByRecursion}
 use Rattle.std.specs.Cmp.{IsTotalOrder, nat_cmp_total, eq_by_cmp_equiv, alike_right}
-use Rattle.std.specs.FinMap.{FinMap, IsAntisymmetric, entries, get, insert, remove, keys, len, from_sorted, is_sorted, find, put, same_map, same_entries_map, entries-from_sorted, entries-insert, get-from_sorted, len-entries, get-empty, get-insert, get-remove, len-empty, len-insert, len-remove}
+use Rattle.std.specs.FinMap.{IsAntisymmetric, get, insert, remove, keys, len, from_sorted, is_sorted, find, put, same_map, same_entries_map, entries-from_sorted, entries-insert, get-from_sorted, len-entries, get-empty, get-insert, get-remove, len-empty, len-insert, len-remove}
 use Rattle.std.specs.FinMap.Entries.{by_order, below_all, where_key, find-where_key, is_sorted-put, is_sorted-where_key}
 use Rattle.std.proofs.lemmas.Cmp.{on_total, then_total}
 use Rattle.std.proofs.lemmas.Map.Lookups.{exact_pairs, exact_unsigned}
@@ -19,6 +19,15 @@ prefix_total = then_total (on_total (λ p. p.address) nat_cmp_total) (on_total (
 -- prefixes that compare alike are one
 pub exact_prefixes : IsAntisymmetric prefix_cmp
 exact_prefixes p q e = ap (λ (x : ℕ × ℕ). record { address = x.0; len = x.1 }) (exact_pairs nat_cmp nat_cmp exact_unsigned exact_unsigned (p.address, p.len) (q.address, q.len) e)
+
+equal : (o : Ordering) → is_eq o ≡ true → o ≡ Equal
+equal Less e = absurd cc
+equal Equal e = refl
+equal Greater e = absurd cc
+
+-- prefixes that tie are one
+pub tied : (p q : PrefixValue) → eq_by_cmp prefix_cmp p q ≡ true → p ≡ q
+tied p q e = exact_prefixes p q (equal _ e)
 
 -- what `get` and `len` answer after a change of a table, with the order of prefixes
 pub ruleset table_gets = (get-empty, get-insert, get-remove, len-empty, len-insert, len-remove, prefix_total)

@@ -3,6 +3,8 @@
 ghost use Rattle.std.specs.Prelude.{◌≡◌, ◌↔◌, ◌<◌, ◌^◌, ℕ, List, [], Bool, Some, None};
 ghost use Rattle.bgp_types.specs.declared.fault.Expected.{Expected};
 ghost use Rattle.bgp_types.specs.declared.message.Message.{Message};
+ghost use Rattle.bgp_types.specs.declared.message.Message.TheVariants.{NoticeMsg};
+ghost use Rattle.bgp_types.specs.declared.message.Notice.{Notice};
 ghost use Rattle.bgp_types.specs.Expect.{ReadsExpected};
 ghost use Rattle.bgp_types.specs.FirstFault.{first_fault};
 ghost use Rattle.bgp_types.specs.Header.{frame_at};
@@ -37,4 +39,9 @@ pub fn reads_without_fault()
 /// A message that is writable in a width has a written form that reads as itself.
 pub fn written_reads()
     ensures { (message : Message) (wide : Bool) → IsWritable message wide → Reads (spell message wide) message wide }
+{}
+
+/// The NOTIFICATION that answers a fault is writable in both widths: its data has room.
+pub fn fault_is_writable()
+    ensures { (frame : List ℕ) (expected : Expected) (notice : Notice) (wide : Bool) → first_fault frame expected ≡ Some notice → IsWritable (NoticeMsg notice) wide }
 {}

@@ -56,7 +56,10 @@ pub trait SpareTable<V>: Table<V> {
     fn reserve(&mut self, more: usize) -> Result<(), NoMemory>
         ensures contents { Self.contents self.new ≡ Self.contents self.old }
         ensures ok { OnOk result (more ≤ Self.room self.new) }
-        ensures err { OnErr result (Self.room self.new ≡ Self.room self.old) };
+        ensures kept { OnOk result (Self.room self.old ≤ Self.room self.new) }
+        ensures err { OnErr result (Self.room self.new ≡ Self.room self.old) }
+        // Where it has the memory already, it takes none.
+        ensures spared { more ≤ Self.room self.old → IsOk result };
 
     /// For how many further prefixes it has memory.
     fn spare(&self) -> usize

@@ -2,13 +2,11 @@
 use Rattle.std.proofs.Common.{◌≡◌, Bool, true, false, cond, List, [], ◌∷◌, Option, Some, None, refl, sym, ap, ◌∙◌}
 use Rattle.std.specs.Prelude.{◌||◌, is_some, fold}
 use Rattle.std.specs.List.{list_any}
-use Rattle.std.specs.Ordering.{eq_by_cmp, is_eq}
-use Rattle.std.specs.declared.cmp.Ordering.{Ordering}
-use Rattle.std.specs.declared.cmp.Ordering.TheVariants.{Less, Equal, Greater}
+use Rattle.std.specs.Ordering.{eq_by_cmp}
 use Rattle.std.specs.FinMap as map
 use Rattle.bgp_types.specs.Prefixes.{PrefixValue}
 use Rattle.bgp_types.specs.Tables.{prefix_cmp}
-use Rattle.bgp_types.proofs.TableLaws.{prefix_total, exact_prefixes}
+use Rattle.bgp_types.proofs.TableLaws.{prefix_total, tied}
 use Rattle.route_policy.specs.declared.best.Best.{Best}
 use Rattle.pipe_model.specs.Worlds.{BestRoutes, Prefixes, has}
 use Rattle.loc_rib.specs.Values.{with_best}
@@ -16,13 +14,8 @@ use Rattle.loc_rib.specs.Values.{with_best}
 abbrev pub same : PrefixValue → PrefixValue → Bool
 same p q = eq_by_cmp prefix_cmp p q
 
-equal_of : (o : Ordering) → is_eq o ≡ true → o ≡ Equal
-equal_of Less e = absurd cc
-equal_of Equal e = refl
-equal_of Greater e = absurd cc
-
 pub same_is : (p q : PrefixValue) → same p q ≡ true → p ≡ q
-same_is p q e = exact_prefixes p q (equal_of (prefix_cmp p q) e)
+same_is p q e = tied p q e
 
 some_if : {A : Type 0} (t : Bool) (x : A) (o : Option A) → is_some (cond t (Some x) o) ≡ (t || is_some o)
 some_if true x o = refl

@@ -8,5 +8,4 @@ pub mod Beginnings
 pub mod Fronts
 pub mod Cases
 pub mod Marking
-pub mod NoticeLaws
 pub mod AtFronts

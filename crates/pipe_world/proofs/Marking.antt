@@ -16,7 +16,7 @@ use Rattle.bgp_types.proofs.TableLaws.{prefix_total}
 use Rattle.bgp_wire.proofs.SetLaws.{is_same}
 use Rattle.bgp_story.specs.Readings.{Routes}
 use Rattle.adj_rib.specs.Changes.{Changed}
-use Rattle.adj_rib.proofs.Walks.{none_between, none_past}
+use Rattle.bgp_types.proofs.WalkLaws.{none_between, none_past}
 use Rattle.pipe_model.specs.Worlds.{Prefixes, has}
 use Rattle.pipe_model.specs.Rows.{Marks}
 use Rattle.pipe_model.proofs.Tables.{same, same_is, has_put, has_all, none_of}

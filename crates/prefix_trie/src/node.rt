@@ -2,7 +2,7 @@
 //! branches: those whose next bit is 0, and those whose next bit is 1. A node without a value is there
 //! for its two branches alone.
 
-ghost use Rattle.std.specs.Prelude.{◌+◌, ◌-◌, ◌<◌, ◌≤◌, ◌≡◌, ℕ, nat_lt, option_copied, map, length, ◌++◌, if◌then◌else◌, IsSome, IfSome, IfNone, IsTrue, OnSome, OnOk, OnErr, ◌/◌, ◌^◌, ◌↔◌};
+ghost use Rattle.std.specs.Prelude.{◌+◌, ◌-◌, ◌<◌, ◌≤◌, ◌≡◌, ℕ, nat_lt, option_copied, map, length, ◌++◌, if◌then◌else◌, IsOk, IsSome, IfSome, IfNone, IsTrue, OnSome, OnOk, OnErr, ◌/◌, ◌^◌, ◌↔◌};
 ghost use Rattle.std.specs.FinMap as table;
 ghost use Rattle.bgp_types.specs.Tables.{prefix_cmp, first_above};
 ghost use Rattle.std.specs.List.{AllByRecursion};
@@ -438,9 +438,14 @@ fn keep<V: Drop>(tree: Tree<V>, spares: &mut Spares<V>)
 /// as they are.
 pub fn reserve<V: Drop>(alloc: Global, spares: &mut Spares<V>, more: usize) -> Result<(), NoMemory>
     ensures ok { OnOk result (more ≤ length spares.new.items / 2) }
+    ensures kept { OnOk result (length spares.old.items ≤ length spares.new.items) }
     ensures err { OnErr result (length spares.new.items ≡ length spares.old.items) }
+    ensures spared { more ≤ length spares.old.items / 2 → IsOk result }
 {
     let before = spares.as_slice().len();
+    if more <= before / 2 {
+        return Ok(());
+    }
     if more > usize::MAX / 2 {
         return Err(NoMemory);
     }

@@ -1,7 +1,8 @@
 use Rattle.std.proofs.Common.{◌≡◌, List, [], ◌∷◌, ◌++◌, Some, None, sym, ◌∙◌, subst}
 use Rattle.std.specs.FinMap as map
 use Rattle.bgp_types.specs.Prefixes.{PrefixValue}
-use Rattle.adj_rib.proofs.Walks.{Walked, walk_begins, walk_same, walk_changed, walk_ends, fewer, when_true, when_false}
+use Rattle.bgp_types.proofs.WalkLaws.{fewer}
+use Rattle.adj_rib.proofs.Walks.{Walked, walk_begins, walk_same, walk_changed, walk_ends, when_true, when_false}
 use Rattle.adj_rib.proofs.changes.list_changed.Goals as goal
 use Rattle.adj_rib.proofs.changes.list_changed.Goals.{then-is_changed+in_ok-push, else-is_changed}
 

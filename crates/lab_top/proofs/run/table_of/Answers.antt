@@ -1,10 +1,9 @@
 use Rattle.std.proofs.Common.{◌≡◌, Some, None, sym, ap, ◌∙◌, ◌++◌, List, [], ◌∷◌, map}
 use Rattle.std.specs.Option.{option_copied}
 use Rattle.std.specs.FinMap as table
-use Rattle.adj_rib.proofs.Walks.{fewer}
 use Rattle.lab_top.specs.declared.lab.BestEntry.{BestEntry}
 use Rattle.lab_top.specs.Seen.{best_entry}
-use Rattle.lab_top.proofs.Entries.{kept, walk_begins, walk_more, walk_finds, walk_ends}
+use Rattle.bgp_types.proofs.WalkLaws.{fewer, kept, walk_begins, walk_more, walk_finds, walk_ends}
 use Rattle.lab_top.proofs.run.table_of.Goals.{in-Some-get+in_ok-entry_of+in_ok-push, in_default-get}
 use Rattle.lab_top.proofs.run.table_of.Goals as goal
 

@@ -4,7 +4,7 @@ use Rattle.std.specs.FinMap as table
 use Rattle.std.specs.List.{filter}
 use Rattle.bgp_types.specs.Tables.{is_above}
 use Rattle.lab_top.specs.Seen.{best_entry}
-use Rattle.lab_top.proofs.Entries.{kept}
+use Rattle.bgp_types.proofs.WalkLaws.{kept}
 use Rattle.lab_top.proofs.run.table_of.Given as goal
 
 -- the entries so far, and those of the prefixes above, are all

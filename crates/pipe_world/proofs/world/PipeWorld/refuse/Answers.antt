@@ -4,7 +4,8 @@ use Rattle.pipe_world.specs.Views.{After}
 use Rattle.pipe_world.proofs.Gotten.{begins_got}
 use Rattle.bgp_types.specs.declared.message.Message.TheVariants.{NoticeMsg}
 use Rattle.bgp_story.specs.Legal.{reply_to}
-use Rattle.pipe_world.proofs.NoticeLaws.{answer_writable}
+use Rattle.bgp_types.specs.Faults.{fault_in}
+use Rattle.bgp_types.proofs.NoticeLaws.{fault_writable}
 use Rattle.pipe_world.proofs.Cases.{on_ok, begins_then, refuse_leaves}
 use Rattle.pipe_world.proofs.world.PipeWorld.refuse.Goals as goal
 
@@ -15,7 +16,7 @@ pub answer-requires-clause-begins : goal.answer-requires-clause-begins
 answer-requires-clause-begins c = begins_then c.args.self.now c.write_got.new.self c.args.bytes (NoticeMsg c.args.notice) _ c.requires.front (ap reply_to c.requires.fault) c.in_ok-write_got.ensures
 
 pub answer-requires-clause-writable : goal.answer-requires-clause-writable
-answer-requires-clause-writable c = answer_writable _ c.args.bytes c.args.notice _ c.requires.fault
+answer-requires-clause-writable c = fault_writable c.args.bytes _ c.args.notice _ (ap fault_in c.requires.fault)
 
 pub returns : goal.returns
 returns c = on_ok c.note.result (λ e. subst (λ (x : PipeWorld). After c.args.self.now x) (sym e)

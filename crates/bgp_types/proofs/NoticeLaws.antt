@@ -13,7 +13,7 @@ use Rattle.bgp_types.specs.declared.message.Message.TheVariants as messages
 use Rattle.bgp_types.specs.declared.message.Notice.{Notice}
 use Rattle.bgp_types.specs.declared.message.OpenMsg.{OpenMsg}
 use Rattle.bgp_types.specs.declared.message.Update.{Update}
-use Rattle.bgp_types.specs.FirstFault.{message_of, body_of, with_header, open_message, update_message, state_fault, notice_of}
+use Rattle.bgp_types.specs.FirstFault.{first_fault, message_of, body_of, with_header, open_message, update_message, state_fault, notice_of}
 use Rattle.bgp_types.specs.Faults.{fault_in, bare, about, or_fault, with_flags, with_size, origin_of, origin_in, path_in, host_in, next_hop_in, med_in, atomic_in, aggregator_in, aggregator_of, other_in, kept_raw, own_fault, fault_after, first_of, attrs_fault}
 use Rattle.bgp_types.specs.Found.{attrs_in, found_in, unless}
 use Rattle.bgp_types.specs.Header.{header_fault, header_notice, kind_in}
@@ -239,9 +239,9 @@ message_short expected frame = by_header (header_fault frame) where
   by_header (Some fault) = header_short fault
   by_header None = by_state _
 
-pub answer_writable : (expected : Expected) (frame : List ℕ) (n : Notice) (wide : Bool) → message_of expected frame ≡ Err n → IsWritable (messages.NoticeMsg n) wide
+pub fault_writable : (frame : List ℕ) (expected : Expected) (n : Notice) (wide : Bool) → first_fault frame expected ≡ Some n → IsWritable (messages.NoticeMsg n) wide
 unfolding spell
-answer_writable expected frame n wide e =
-    let s : IsShort n = subst Short e (message_short expected frame) in
+fault_writable frame expected n wide e =
+    let s : IsShort n = subst ShortFault e (fault_short (message_of expected frame) (message_short expected frame)) in
     let size = framed_size 3 (n.code ∷ n.subcode ∷ n.info) in
     record { body = tt; size = omega arith }
