@@ -1,4 +1,4 @@
-pub mod KeptLaws
+pub mod SortLaws
 pub mod PathLaws
 pub mod PieceLaws
 pub mod SaidLaws

@@ -1,8 +1,6 @@
 -- One further attribute, and what the attributes say.
 use Rattle.std.proofs.Common.{◌≡◌, ℕ, List, [], ◌∷◌, ◌++◌, Bool, true, false, cond, eqb, Option, Some, None, Result, Ok, Err, refl, sym, ap, ◌∙◌, arith, subst}
 use Rattle.std.specs.Prelude.{◌≢◌, is_some, bit_and}
-use Rattle.std.specs.List.{AllByRecursion}
-use Rattle.std.proofs.lemmas.Option.{same_Some}
 use Rattle.std.proofs.lemmas.List.{append-nil}
 use Rattle.std.proofs.lemmas.Bool.{eqb-true}
 use Rattle.std.proofs.lemmas.Bool.Decides.{nat_tests}
@@ -11,14 +9,12 @@ use Rattle.bgp_types.specs.declared.attrs.Origin.{Origin}
 use Rattle.bgp_types.specs.declared.attrs.RawAttr.{RawAttr}
 use Rattle.bgp_types.specs.declared.message.Notice.{Notice}
 use Rattle.bgp_types.specs.declared.path.PathPart.{PathPart}
-use Rattle.bgp_types.specs.Faults.{ok_in, origin_in, path_in, next_hop_in, med_in, aggregator_in, other_in, is_transitive, is_partial, kept_raw, attr_of}
+use Rattle.bgp_types.specs.Faults.{ok_in, origin_in, path_in, next_hop_in, med_in, aggregator_in, other_in, kept_raw, attr_of}
 use Rattle.bgp_types.specs.Found.{said, as4_path_in, as4_aggregator_in, unless_wide, join, kept}
-use Rattle.bgp_types.specs.Rising.{insert_by, in_rising}
-use Rattle.bgp_types.specs.Values.{is_other, other_kind}
-use Rattle.bgp_types.proofs.OrderLaws.{insert_swap, kept_kind}
+use Rattle.bgp_types.specs.Values.{is_other}
 use Rattle.bgp_types.specs.WireAttrs.{WireAttr}
 use Rattle.attr_codec.specs.declared.said.Said.{Said}
-use Rattle.attr_codec.specs.Saying.{unknown_in, said_in, put_kept, with_attr}
+use Rattle.attr_codec.specs.Saying.{said_in, with_kept, with_attr}
 
 pub not_eq : (m n : ℕ) → m ≢ n → eqb m n ≡ false
 not_eq m n h = grind (arith, nat_tests)
@@ -38,10 +34,6 @@ found_last {B} read k (b ∷ before) a h = by_test (eqb b.kind a.kind) refl h (e
 
 -- ---- the unknown ones
 
-in_rising_last : {A : Type 0} (key : A → ℕ) (xs : List A) (x : A) → AllByRecursion (λ y. key y ≢ key x) xs → in_rising key (xs ++ x ∷ []) ≡ insert_by key x (in_rising key xs)
-in_rising_last key [] x h = refl
-in_rising_last key (y ∷ ys) x h = ap (insert_by key y) (in_rising_last key ys x h.1) ∙ insert_swap key y x (in_rising key ys) h.0
-
 kept_append : (xs ys : List WireAttr) → kept (xs ++ ys) ≡ kept xs ++ kept ys
 kept_append [] ys = refl
 kept_append (x ∷ xs) ys = joined (is_other x.kind) (kept_raw x) (kept (xs ++ ys)) (kept xs) (kept ys) (kept_append xs ys) where
@@ -50,30 +42,12 @@ kept_append (x ∷ xs) ys = joined (is_other x.kind) (kept_raw x) (kept (xs ++ y
   joined true (Some r) zs xs ys e = ap (λ (ws : List RawAttr). r ∷ ws) e
   joined false o zs xs ys e = e
 
-none_else : {A : Type 0} (t : Bool) (x : A) (o : Option A) → cond t (Some x) o ≡ None → (t ≡ false) × (o ≡ None)
-none_else true x o e = absurd cc
-none_else false x o e = (refl, e)
-
-all_join : (P : RawAttr → Type 0) (t : Bool) (o : Option RawAttr) (xs : List RawAttr) → ((r : RawAttr) → o ≡ Some r → P r) → AllByRecursion P xs → AllByRecursion P (cond t (join o xs) xs)
-all_join P true None xs h all = all
-all_join P true (Some r) xs h all = (h r refl, all)
-all_join P false o xs h all = all
-
-other_kinds : (k : ℕ) (before : List WireAttr) → attr_of k before ≡ None → AllByRecursion (λ r. other_kind r ≢ k) (kept before)
-other_kinds k [] h = tt
-other_kinds k (b ∷ before) h =
-    let n = none_else (eqb b.kind k) b (attr_of k before) h in
-    all_join (λ r. other_kind r ≢ k) (is_other b.kind) (kept_raw b) (kept before) (λ r e. let same = kept_kind b r e in let no = n.0 in λ eq. absurd (grind (arith, nat_tests))) (other_kinds k before n.1)
-
-last_of : (t : Bool) (o : Option RawAttr) (xs : List RawAttr) → ((r : RawAttr) → o ≡ Some r → AllByRecursion (λ y. other_kind y ≢ other_kind r) xs) → in_rising other_kind (xs ++ cond t (join o []) []) ≡ cond t (put_kept o (in_rising other_kind xs)) (in_rising other_kind xs)
-last_of true None xs h = ap (in_rising other_kind) (append-nil xs)
-last_of true (Some r) xs h = in_rising_last other_kind xs r (h r refl)
-last_of false o xs h = ap (in_rising other_kind) (append-nil xs)
-
-unknown_last : (before : List WireAttr) (a : WireAttr) → attr_of a.kind before ≡ None → unknown_in (before ++ a ∷ []) ≡ cond (is_other a.kind) (put_kept (kept_raw a) (unknown_in before)) (unknown_in before)
-unknown_last before a h =
-    ap (in_rising other_kind) (kept_append before (a ∷ []))
-    ∙ last_of (is_other a.kind) (kept_raw a) (kept before) (λ r e. subst (λ (k : ℕ). AllByRecursion (λ y. other_kind y ≢ k) (kept before)) (sym (kept_kind a r e)) (other_kinds a.kind before h))
+unknown_last : (before : List WireAttr) (a : WireAttr) → kept (before ++ a ∷ []) ≡ cond (is_other a.kind) (with_kept (kept_raw a) (kept before)) (kept before)
+unknown_last before a = kept_append before (a ∷ []) ∙ last (is_other a.kind) (kept_raw a) (kept before) where
+  last : (t : Bool) (o : Option RawAttr) (xs : List RawAttr) → xs ++ cond t (join o []) [] ≡ cond t (with_kept o xs) xs
+  last true None xs = append-nil xs
+  last true (Some r) xs = refl
+  last false o xs = append-nil xs
 
 -- ---- by type
 
@@ -152,7 +126,7 @@ said_step wide before a h =
       aggregator = ok_in (aggregator_in wide a);
       as4_path = unless_wide wide (as4_path_in (Some a));
       as4_aggregator = unless_wide wide (as4_aggregator_in (Some a));
-      unknown = put_kept (kept_raw a) (unknown_in before);
+      unknown = with_kept (kept_raw a) (kept before);
     } in
     rw (
       found_last (said origin_in) 1 before a h,
@@ -163,7 +137,7 @@ said_step wide before a h =
       found_last (said (aggregator_in wide)) 7 before a h,
       found_last (λ o. unless_wide wide (as4_path_in o)) 17 before a h,
       found_last (λ o. unless_wide wide (as4_aggregator_in o)) 18 before a h,
-      unknown_last before a h,
+      unknown_last before a,
     ) (shape n (said_in wide before) a.kind)
 
 -- ---- an unknown one
@@ -176,7 +150,7 @@ pub other_ok : (a : WireAttr) (o : Option RawAttr) → other_in a ≡ Ok o → k
 unfolding other_in
 other_ok a o e = ok_else (eqb (bit_and a.flags 128) 0) _ (kept_raw a) o e
 
-pub with_other : (wide : Bool) (a : WireAttr) (s : Said) (u : List RawAttr) → a.kind ≢ 1 → a.kind ≢ 2 → a.kind ≢ 3 → a.kind ≢ 4 → a.kind ≢ 5 → a.kind ≢ 6 → a.kind ≢ 7 → a.kind ≢ 17 → a.kind ≢ 18 → u ≡ put_kept (kept_raw a) s.unknown
+pub with_other : (wide : Bool) (a : WireAttr) (s : Said) (u : List RawAttr) → a.kind ≢ 1 → a.kind ≢ 2 → a.kind ≢ 3 → a.kind ≢ 4 → a.kind ≢ 5 → a.kind ≢ 6 → a.kind ≢ 7 → a.kind ≢ 17 → a.kind ≢ 18 → u ≡ with_kept (kept_raw a) s.unknown
     → (let r : Said = record s { unknown = u } in r) ≡ with_attr wide a s
 unfolding with_attr
 with_other wide a s u n1 n2 n3 n4 n5 n6 n7 n17 n18 e = rw (not_eq a.kind 1 n1, not_eq a.kind 2 n2, not_eq a.kind 3 n3, not_eq a.kind 4 n4, not_eq a.kind 5 n5, not_eq a.kind 6 n6, not_eq a.kind 7 n7, not_eq a.kind 17 n17, not_eq a.kind 18 n18, e) refl

@@ -1,10 +1,8 @@
 -- The attributes that the tests write fit a field.
-use Rattle.std.proofs.Common.{◌≡◌, ℕ, ◌^◌, ◌<◌, List, [], ◌∷◌, length, Bool, true, false, None, refl, sym, subst, lit<, arith}
+use Rattle.std.proofs.Common.{◌≡◌, ◌^◌, ◌<◌, [], ◌∷◌, true, false, None, refl, sym, subst, lit<}
 use Rattle.std.proofs.lemmas.List.Elements.{All-from_recursion}
 use Rattle.bgp_types.specs.declared.attrs.Attrs.{Attrs}
-use Rattle.bgp_types.specs.declared.attrs.RawAttr.{RawAttr}
 use Rattle.bgp_types.specs.declared.attrs.Origin.TheVariants as origins
-use Rattle.bgp_types.specs.declared.path.PathPart.{PathPart}
 use Rattle.bgp_types.specs.declared.path.PathPart.TheVariants as parts
 use Rattle.bgp_types.specs.PathOctets.{path_octets}
 use Rattle.bgp_types.specs.Spelling.{attrs_written, spell_attrs}

@@ -1,5 +1,5 @@
 -- What the attributes of a field say, each by itself.
-use Rattle.std.specs.Prelude.{ℕ, ◌==◌, List, [], Option, Some, None, Result, Bool, true, is_some, if◌then◌else◌}
+use Rattle.std.specs.Prelude.{ℕ, ◌==◌, List, [], ◌∷◌, ◌++◌, Option, Some, None, Result, Bool, true, is_some, if◌then◌else◌}
 use Rattle.bgp_types.specs.declared.attrs.RawAttr.{RawAttr}
 use Rattle.bgp_types.specs.declared.fault.FoundAttrs.{FoundAttrs}
 use Rattle.bgp_types.specs.declared.message.Notice.{Notice}
@@ -7,13 +7,10 @@ use Rattle.bgp_types.specs.Faults.{ok_in, origin_in, path_in, next_hop_in, med_i
 use Rattle.bgp_types.specs.Found.{said, as4_path_in, as4_aggregator_in, unless_wide, kept, unless}
 use Rattle.bgp_types.specs.Many.{many}
 use Rattle.bgp_types.specs.Merge.{merged_aggregator, is_stale, path_with}
-use Rattle.bgp_types.specs.Rising.{insert_by, in_rising}
+use Rattle.bgp_types.specs.Rising.{in_rising}
 use Rattle.bgp_types.specs.Values.{other_kind}
 use Rattle.bgp_types.specs.WireAttrs.{WireAttr, attr_at}
 use Rattle.attr_codec.specs.declared.said.Said.{Said}
-
-abbrev pub unknown_in : List WireAttr → List RawAttr
-unknown_in attrs = in_rising other_kind (kept attrs)
 
 unfoldable pub said_in : Bool → List WireAttr → Said
 said_in wide attrs = record {
@@ -25,7 +22,7 @@ said_in wide attrs = record {
   aggregator = said (aggregator_in wide) (attr_of 7 attrs);
   as4_path = unless_wide wide (as4_path_in (attr_of 17 attrs));
   as4_aggregator = unless_wide wide (as4_aggregator_in (attr_of 18 attrs));
-  unknown = unknown_in attrs;
+  unknown = kept attrs;
 }
 
 -- the field is cut into attributes; the first fault, or what they say
@@ -41,14 +38,15 @@ found_of s = record {
   med = s.med;
   atomic = s.atomic;
   aggregator = merged_aggregator s.aggregator s.as4_aggregator;
-  unknown = s.unknown;
+  unknown = in_rising other_kind s.unknown;
 }
 
 -- ---- one further attribute, of a type that wasn't there
 
-abbrev pub put_kept : Option RawAttr → List RawAttr → List RawAttr
-put_kept None attrs = attrs
-put_kept (Some a) attrs = insert_by other_kind a attrs
+-- an unknown one goes to the end, where it is kept
+abbrev pub with_kept : Option RawAttr → List RawAttr → List RawAttr
+with_kept None attrs = attrs
+with_kept (Some a) attrs = attrs ++ a ∷ []
 
 unfoldable pub with_attr : Bool → WireAttr → Said → Said
 with_attr wide a s =
@@ -61,4 +59,4 @@ with_attr wide a s =
     else if a.kind == 7 then record s { aggregator = ok_in (aggregator_in wide a) }
     else if a.kind == 17 then record s { as4_path = unless_wide wide (as4_path_in (Some a)) }
     else if a.kind == 18 then record s { as4_aggregator = unless_wide wide (as4_aggregator_in (Some a)) }
-    else record s { unknown = put_kept (kept_raw a) s.unknown }
+    else record s { unknown = with_kept (kept_raw a) s.unknown }

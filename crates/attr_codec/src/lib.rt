@@ -3,7 +3,6 @@
 #![tactic(auto)]
 
 mod fault;
-mod kept;
 mod laws;
 mod merge;
 mod number;

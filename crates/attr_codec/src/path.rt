@@ -1,4 +1,4 @@
-//! The value of an AS_PATH or an AS4_PATH (RFC 4271, section 4.3).
+//! The value of an AS_PATH (RFC 4271, section 4.3) or an AS4_PATH (RFC 6793, section 3).
 
 ghost use Rattle.std.specs.Prelude.{◌≡◌, ◌*◌, ◌≤◌, ◌<◌, length, IfOk, IfSome};
 ghost use Rattle.std.specs.Option.{option_map};

@@ -3,15 +3,16 @@
 ghost use Rattle.std.specs.Prelude.{◌≡◌, [], Bool, IfOk, OnOk};
 ghost use Rattle.bgp_types.specs.Faults.{own_fault};
 ghost use Rattle.bgp_types.specs.Merge.{is_stale, merged_aggregator, path_with};
+ghost use Rattle.bgp_types.specs.Rising.{in_rising as rising};
+ghost use Rattle.bgp_types.specs.Values.{other_kind};
 ghost use Rattle.attr_codec.specs.Answers.{Passes};
 ghost use Rattle.attr_codec.specs.Pieces.{wire, IsPiece};
-ghost use Rattle.attr_codec.specs.Saying.{said_in, with_attr, found_of, put_kept};
+ghost use Rattle.attr_codec.specs.Saying.{said_in, with_attr, found_of, with_kept};
 
 use crate::fault::CodecFault;
-use crate::kept::Kept;
 use crate::merge::merged;
 use crate::piece::Piece;
-use bgp_types::{Aggregator, AsPath, FoundAttrs, NoMemory, Origin, RawAttr};
+use bgp_types::{Aggregator, AsPath, FoundAttrs, NoMemory, Origin, RawAttr, RawAttrs};
 use std::alloc::Global;
 
 /// AS_TRANS, which stands for an AS that two octets don't hold (RFC 6793, section 9).
@@ -37,7 +38,7 @@ pub const AS4_PATH: u8 = 17;
 pub const AS4_AGGREGATOR: u8 = 18;
 
 /// What the attributes of a field say, each by itself. In a wide UPDATE no AS4 attribute counts.
-/// The unknown ones that are kept stand in rising type.
+/// The unknown ones that are kept stand in their order.
 #[derive(Debug, Drop)]
 pub struct Said {
     pub origin: Option<Origin>,
@@ -48,17 +49,26 @@ pub struct Said {
     pub aggregator: Option<Aggregator>,
     pub as4_path: Option<AsPath>,
     pub as4_aggregator: Option<Aggregator>,
-    pub unknown: Kept,
+    pub unknown: RawAttrs,
 }
 
-/// Puts an attribute where its type has its place, where there is one.
-fn keep(unknown: &mut Kept, attr: Option<RawAttr>) -> Result<(), NoMemory>
-    ensures { OnOk result (unknown.new ≡ put_kept attr unknown.old) }
+/// Adds an attribute at the end, where there is one.
+fn keep(unknown: &mut RawAttrs, attr: Option<RawAttr>) -> Result<(), NoMemory>
+    ensures { OnOk result (unknown.new ≡ with_kept attr unknown.old) }
 {
     match attr {
-        Some(attr) => unknown.put(attr),
+        Some(attr) => unknown.push(attr),
         None => Ok(()),
     }
+}
+
+/// The attributes in rising type, and those of one type in their order.
+fn in_rising(attrs: RawAttrs) -> Result<RawAttrs, NoMemory>
+    ensures { IfOk result (λ sorted. sorted ≡ rising other_kind attrs) }
+{
+    let mut attrs = attrs.into_vec();
+    attrs.sort_by_key(|attr| attr.kind)?;
+    Ok(RawAttrs::from_vec(attrs))
 }
 
 /// Whether AGGREGATOR has another AS than AS_TRANS though AS4_AGGREGATOR is there.
@@ -119,7 +129,7 @@ impl Said {
             aggregator: None,
             as4_path: None,
             as4_aggregator: None,
-            unknown: Kept::new(alloc),
+            unknown: RawAttrs::new(alloc),
         }
     }
 
@@ -177,7 +187,7 @@ impl Said {
             med,
             atomic,
             aggregator: aggregator_of(aggregator, as4_aggregator),
-            unknown: unknown.into_attrs(),
+            unknown: in_rising(unknown)?,
         })
     }
 }

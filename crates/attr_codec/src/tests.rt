@@ -95,6 +95,31 @@ fn all_attributes(rt: HostRuntime) -> Result<(), Fail> {
     Ok(())
 }
 
+/// Unknown attributes of the types 139 to 100, more than are sorted without memory. Each has its type
+/// as its value.
+#[test]
+fn many_in_falling_type(rt: HostRuntime) -> Result<(), Fail> {
+    let alloc = rt.alloc();
+    let mut field = Vec::new(alloc);
+    for kind in (100u8..140).rev() {
+        field.extend_from_slice(&[0xC0, kind, 1, kind])?;
+    }
+    let found = read(alloc, field.as_slice(), false)?;
+    let mut kinds = Vec::new(alloc);
+    let mut values = Vec::new(alloc);
+    for attr in found.unknown.as_slice() {
+        kinds.push(attr.kind)?;
+        values.extend_from_slice(attr.bytes.as_slice())?;
+    }
+    let mut rising = Vec::new(alloc);
+    for kind in 100u8..140 {
+        rising.push(kind)?;
+    }
+    assert_eq!(rt; kinds.as_slice(), rising.as_slice());
+    assert_eq!(rt; values.as_slice(), rising.as_slice());
+    Ok(())
+}
+
 /// The data of a fault is the attribute, of which 4,075 octets have room.
 #[test]
 fn data_is_cut(rt: HostRuntime) -> Result<(), Fail> {
