@@ -5,8 +5,8 @@ ghost use Rattle.bgp_types.specs.Header.{frame_at};
 ghost use Rattle.bgp_frame.specs.Next.{Next, has_next, begins};
 
 use crate::header::{HEADER, fault_at, len_of};
-use crate::held::Held;
 use bgp_types::{HeaderFault, NoMemory, Octets};
+use byte_queue::ByteQueue;
 use std::alloc::Global;
 use std::marker::Model;
 use thiserror::Error;
@@ -42,7 +42,7 @@ impl std::convert::From<NoMemory> for FrameStop {
 /// The bytes of a stream of which no message was given yet.
 #[derive(Debug, Drop)]
 pub struct Framer {
-    held: Held,
+    held: ByteQueue,
 }
 
 impl Model for Framer {
@@ -77,7 +77,7 @@ impl Framer {
         ensures { result ≡ [] }
     {
         Framer {
-            held: Held::new(alloc),
+            held: ByteQueue::new(alloc),
         }
     }
 
@@ -86,7 +86,7 @@ impl Framer {
         ensures ok { OnOk result (self.new ≡ self.old ++ bytes.now) }
         ensures err { OnErr result (self.new ≡ self.old) }
     {
-        self.held.push(bytes)
+        self.held.extend(bytes)
     }
 
     /// Whether the bytes held begin with a whole message or with a faulty header, so that `next`
@@ -111,8 +111,8 @@ impl Framer {
         };
         let kind = octets[18];
         let (front, _) = octets.split_at(len);
-        let bytes = Octets::from_slice(self.held.alloc(), front)?;
-        self.held.skip(len);
+        let bytes = Octets::from_slice(self.held.allocator(), front)?;
+        self.held.drop_front(len);
         Ok(Some(Frame { kind, bytes }))
     }
 }

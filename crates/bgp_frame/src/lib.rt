@@ -3,7 +3,6 @@
 
 mod framer;
 mod header;
-mod held;
 mod laws;
 
 pub use bgp_types::HeaderFault;

@@ -10,7 +10,7 @@ ghost use Rattle.tcp_end.specs.Filling.{end_from, reached, filled};
 ghost use Rattle.tcp_end.specs.Holes.{HasHole, IsCovered};
 ghost use Rattle.tcp_end.specs.Receiving.{Received, ReceivesRun};
 
-use crate::byte_queue::ByteQueue;
+use byte_queue::ByteQueue;
 use graft_edge::{Items, NoMemory};
 use std::collections::VecDeque;
 use std::mem;

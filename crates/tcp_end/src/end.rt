@@ -9,7 +9,7 @@ ghost use Rattle.tcp_end.specs.State.{fresh, stream_length, unsent, outstanding,
 
 use crate::ahead::{count_from, raise, receive};
 use crate::arrival::{Arrival, SendStop};
-use crate::byte_queue::ByteQueue;
+use byte_queue::ByteQueue;
 use graft_edge::{Items, NoMemory, Octets, PeeringId};
 use std::alloc::Global;
 use std::marker::Model;
@@ -287,10 +287,10 @@ impl End {
         }
     }
 
-    /// A segment arrives. Its bytes that stand in the window of 16,384 places from the one expected
-    /// next on are kept, and its acknowledgement counts where it is new. An answer is owed where it has
-    /// bytes, isn't acceptable, or acknowledges what wasn't emitted. For want of memory nothing is
-    /// changed.
+    /// A segment arrives. One that isn't acceptable, or that acknowledges what wasn't emitted, is
+    /// dropped. Of any other the bytes that stand in the window of 16,384 places from the one expected
+    /// next on are kept, and its acknowledgement counts where it is new. An answer is owed where it is
+    /// dropped or has bytes (RFC 9293, section 3.10.7.4). For want of memory nothing is changed.
     pub fn arrive(&mut self, segment: &Segment) -> Result<Arrival, NoMemory>
         requires peering { segment.now.peering ≡ self.old.peering }
         requires way { segment.now.way ≢ self.old.way }

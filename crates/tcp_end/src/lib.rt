@@ -1,10 +1,10 @@
 //! The endpoint of a connection: the stream that it sends, what of it was emitted and acknowledged,
-//! what it received of the other stream, and how it is handed over (RFC 9293, section 3.4).
+//! what it received of the other stream (RFC 9293, sections 3.4, 3.8 and 3.10.7.4), and how it is
+//! handed over.
 #![tactic(auto)]
 
 mod ahead;
 mod arrival;
-mod byte_queue;
 mod end;
 mod laws;
 #[cfg(test)]

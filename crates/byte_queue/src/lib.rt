@@ -1,4 +1,5 @@
-//! Bytes that are added at the back and dropped at the front.
+//! A queue of bytes: they come at the back and go from the front.
+#![tactic(auto)]
 
 ghost use Rattle.std.specs.Prelude.{◌≡◌, ◌≤◌, ◌++◌, [], length, take, drop, OnOk, OnErr};
 
@@ -6,11 +7,16 @@ use graft_edge::{Items, NoMemory, Octets};
 use std::alloc::Global;
 use std::marker::Model;
 
-/// A queue of bytes, which contracts see as their list. The bytes stand in one slice behind a part that
-/// was dropped already. As soon as that part is as long as the rest, the rest moves to the front: each
-/// byte moves at most once for each one that is dropped, and the memory is that of the bytes there are.
+#[cfg(test)]
+mod tests;
+
+/// Bytes that are added at the back and dropped at the front, which contracts see as their list. They
+/// stand in one slice behind a part that was dropped already. As soon as that part is as long as the
+/// rest, the rest moves to the front: each byte moves at most once for each one that is dropped, and the
+/// memory is that of the bytes there are, and not of all that ever were. The slice is at most twice as
+/// long as the queue was at its longest, and its memory is kept until the queue goes.
 #[derive(Debug, Drop)]
-pub(crate) struct ByteQueue {
+pub struct ByteQueue {
     bytes: Vec<u8>,
     dropped: usize,
 }
@@ -20,9 +26,9 @@ impl Model for ByteQueue {
 
     ghost Value = { List ℕ };
 
-    ghost view = { λ q. drop q.dropped q.bytes.items };
+    ghost view = { λ queue. drop queue.dropped queue.bytes.items };
 
-    ghost invariant = { λ q. q.dropped ≤ length q.bytes.items };
+    ghost invariant = { λ queue. queue.dropped ≤ length queue.bytes.items };
 }
 
 /// Takes the first bytes out. It takes no memory.
@@ -36,6 +42,7 @@ fn remove_front(bytes: &mut Vec<u8>, count: usize)
 }
 
 impl ByteQueue {
+    /// No bytes. It takes no memory before there are some.
     pub fn new(alloc: Global) -> ByteQueue
         ensures { result ≡ [] }
     {
@@ -45,7 +52,7 @@ impl ByteQueue {
         }
     }
 
-    /// The queue of a list's bytes. It takes no memory.
+    /// The queue of a list's bytes, in that list's memory. It takes none and moves none of them.
     pub fn from_octets(octets: Octets) -> ByteQueue
         ensures { result ≡ octets }
     {
@@ -55,7 +62,8 @@ impl ByteQueue {
         }
     }
 
-    /// The list of the bytes. It takes no memory.
+    /// The list of the bytes, in the queue's memory. It takes none. The bytes move to the front where a
+    /// part that was dropped still stands before them.
     pub fn into_octets(self) -> Octets
         ensures { result ≡ self }
     {
@@ -64,23 +72,26 @@ impl ByteQueue {
         Items::from_vec(bytes)
     }
 
+    /// Where its memory comes from.
     pub fn allocator(&self) -> Global {
         *self.bytes.allocator()
     }
 
+    /// The bytes, from the front on.
     pub fn as_slice(&self) -> &[u8]
         ensures { result.now ≡ self.now }
     {
         &self.bytes[self.dropped..]
     }
 
+    /// How many bytes there are. Those that were dropped don't count.
     pub fn len(&self) -> usize
         ensures { result ≡ length self.now }
     {
         self.bytes.len() - self.dropped
     }
 
-    /// Adds bytes at the back.
+    /// Adds bytes at the back. It fails for want of memory alone, and then the queue is as before.
     pub fn extend(&mut self, bytes: &[u8]) -> Result<(), NoMemory>
         ensures ok { OnOk result (self.new ≡ self.old ++ bytes.now) }
         ensures err { OnErr result (self.new ≡ self.old) }
@@ -88,7 +99,8 @@ impl ByteQueue {
         Ok(self.bytes.extend_from_slice(bytes)?)
     }
 
-    /// Drops all but the first bytes.
+    /// Keeps so many of the first bytes, which have to be there, and drops the rest. It gives no memory
+    /// back.
     pub fn truncate(&mut self, len: usize)
         requires { len ≤ length self.old }
         ensures { self.new ≡ take len self.old }
@@ -96,7 +108,7 @@ impl ByteQueue {
         self.bytes.truncate(self.dropped + len);
     }
 
-    /// Drops the first bytes.
+    /// Drops so many of the first bytes, which have to be there. It gives no memory back.
     pub fn drop_front(&mut self, count: usize)
         requires { count ≤ length self.old }
         ensures { self.new ≡ drop count self.old }
