@@ -101,7 +101,8 @@ IsEarlier round (Tick earlier) = earlier < round
 abbrev pub hold_expired : Notice
 hold_expired = record { code = 4; subcode = 0; info = [] }
 
--- the answer to a round, and the state then: at the hold time the session ends, and at each third of it a KEEPALIVE is put
+-- the answer to a round, and the state then: at the hold time the session ends; in each round whose number is a multiple of its
+-- third, rounded down, a KEEPALIVE is put (RFC 4271, sections 4.4 and 10)
 abbrev pub reply_at : ℕ → ℕ → ℕ → SessionState → List Line × SessionState
 reply_at hold count round state =
     if count == hold then (Put (NoticeMsg hold_expired) ∷ [], Closed)

@@ -25,7 +25,7 @@ pub record IsPrefixText (written : List ℕ) (p : PrefixValue) : Type 0 where
   pub text : written ≡ address_text address ++ codes "/" ++ decimal p.len
   pub prefix : p ≡ prefix_of p.len address
 
--- An address that a host may have: not 0.0.0.0, and below 224.0.0.0 (RFC 5735, section 4).
+-- An address that a host may have: not 0.0.0.0, and below 224.0.0.0. Stricter rules (RFC 1122, section 3.2.1.3) aren't applied.
 abbrev pub IsHost : ℕ → Type 0
 IsHost address = (address ≢ 0) × (address < 224 * 2 ^ 24)
 

@@ -1,4 +1,4 @@
-//! What the decision process reads of a route (RFC 4271, section 9.1.2.2).
+//! What the decision process reads of a route (RFC 4271, sections 9.1.2 and 9.1.2.2).
 
 use graft_edge::{PeeringId, RouterId};
 

@@ -1,4 +1,5 @@
-//! The nine rules between the routes to one prefix (RFC 4271, section 9.1.2.2).
+//! The nine rules between the routes to one prefix: the home network's own routes, the degree of
+//! preference (RFC 4271, section 9.1.2), and the seven tie-breaks of section 9.1.2.2.
 
 ghost use Rattle.std.specs.Prelude.{◌≡◌, ◌↔◌, [], IsNone, IsPermutation, AllPairs, option_map, option_and_then, slice_get};
 ghost use Rattle.decision_core.specs.Choice.{choice as choice_of, numbered, ranks_left, first, AreEqual, has_lower_med as has_lower_med_lem};

@@ -86,7 +86,7 @@ pub record PrefixesAt (t : Members) (key : List ℕ) (prefixes : List PrefixValu
 abbrev pub OrElse : {A : Type 0} → Members → List ℕ → (A → Type 0) → A → A → Type 0
 OrElse t key At default value = ((get_member key t ≡ None) × (value ≡ default)) ⊎ At value
 
--- the origin by its name (RFC 4271, section 5.1.1)
+-- the origin by its name (RFC 4271, section 4.3)
 abbrev pub origin_text : Origin → List ℕ
 origin_text Igp = codes "igp"
 origin_text Egp = codes "egp"

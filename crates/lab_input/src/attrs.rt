@@ -38,7 +38,7 @@ fn path_of(alloc: Global, ases: AsList) -> Result<AsPath, NoMemory>
     Items::one(alloc, PathPart::Sequence(ases))
 }
 
-/// The origin of this name (RFC 4271, section 5.1.1).
+/// The origin of this name (RFC 4271, section 4.3).
 fn origin_of(text: &str) -> Option<Origin>
     ensures { Finds (λ origin. text.now ≡ origin_text origin) result }
 {

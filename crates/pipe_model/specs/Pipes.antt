@@ -18,7 +18,8 @@ pub record IsSound (pipe : Pipe) : Type 0 where
   pub few : length pipe.says < 2 ^ 32
   pub start : pipe.start.0 ≡ 0
 
--- Home puts an OPEN with hold time 0, by which no timer runs, and without capabilities (RFC 4271, section 4.2).
+-- Home puts an OPEN with hold time 0, so that no timer runs once the remote's was got, and without capabilities (RFC 4271,
+-- sections 4.2, 4.4 and 8.2.2).
 abbrev pub session_of : Pipe → Peering
 session_of pipe = record { first = home_open pipe.home_as 0 pipe.identifier false; remote_as = pipe.remote_as }
 
@@ -26,7 +27,7 @@ session_of pipe = record { first = home_open pipe.home_as 0 pipe.identifier fals
 abbrev pub remote_open : Pipe → Message
 remote_open pipe = OpenMsg (home_open pipe.remote_as 180 pipe.remote_address false)
 
--- It says that, and the KEEPALIVE that answers home's (RFC 4271, sections 4.4 and 8.2.2).
+-- It says that, and the KEEPALIVE that answers home's (RFC 4271, sections 4.2 and 8.2.2).
 abbrev pub opening : Pipe → List ℕ
 opening pipe = spell (remote_open pipe) false ++ spell KeepaliveMsg false
 

@@ -35,7 +35,7 @@ pub data Event : Type 0 where
 -- ---- the router
 
 -- Of the prefixes that are due and not dirty there are some, and each is told as it is to be: they are
--- due no more (RFC 4271, section 9.1.3).
+-- due no more (RFC 4271, section 9.2).
 pub record PassesRow (pipe : Pipe) (w v : World) : Type 0 where
   pub session : Session
   pub live : w.held ≡ Some session

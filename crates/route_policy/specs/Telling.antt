@@ -1,4 +1,4 @@
--- What a home router tells of its best route (RFC 4271, sections 5.1 and 9.1.3).
+-- What a home router tells of its best route (RFC 4271, sections 5.1, 9.1.3 and 9.2).
 use Rattle.std.specs.Prelude.{ℕ, ◌==◌, nat_lt, Bool, true, false, ◌||◌, List, [], ◌∷◌, length, map, Option, Some, None, unwrap_or, if◌then◌else◌}
 use Rattle.graft_edge.specs.declared.ids.PeeringId.{PeeringId}
 use Rattle.bgp_types.specs.Prefixes.{PrefixValue}
@@ -64,7 +64,7 @@ exported home_as out prefix route = policy (unwrap_or out.export_rules []) prefi
 abbrev pub announcement : PrefixValue → Attrs → Message
 announcement prefix attrs = UpdateMsg (record { withdrawn = []; attrs = Some attrs; nlri = prefix ∷ [] })
 
--- A message has at most 4,096 octets (section 4), whether it is spelled narrow or wide (RFC 6793).
+-- A message has at most 4,096 octets (sections 4 and 9.2), whether it is spelled narrow or wide (RFC 6793).
 abbrev pub is_too_long : PrefixValue → Attrs → Bool
 is_too_long prefix attrs =
     nat_lt 4096 (length (spell (announcement prefix attrs) false)) || nat_lt 4096 (length (spell (announcement prefix attrs) true))

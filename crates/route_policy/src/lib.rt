@@ -1,4 +1,4 @@
-//! Routing policies (RFC 4271, section 9.1.1), and what a router goes by when it decides and tells.
+//! Routing policies (RFC 4271, sections 9.1.1 and 9.1.3), and what a router goes by when it decides and tells.
 #![tactic(auto)]
 
 mod best;

@@ -35,7 +35,7 @@ pub record Numbered (seq_first ack_first : ℕ) (g : Segment) (p : PlacedSegment
   pub ack : g.ack.0 ≡ number ack_first p.ack
   pub bytes : g.bytes ≡ p.bytes
 
--- a segment is a slice of a stream, and acknowledges no more than the other stream can have
+-- a segment is a slice of a stream; what it acknowledges is a place of the other stream, or one in a window at its end
 pub record IsSlice (stream : List ℕ) (p : PlacedSegment) : Type 0 where
   pub within : p.place + length p.bytes ≤ length stream
   pub bytes : p.bytes ≡ take (length p.bytes) (drop p.place stream)

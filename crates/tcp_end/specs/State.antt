@@ -1,5 +1,5 @@
 -- The lengths and numbers that the state of an endpoint has, the segments that it emits, and what a state at rest has to meet
--- (RFC 9293, section 3.4, with this project's window, flight and payload).
+-- (RFC 9293, sections 3.3.1, 3.4 and 3.8, with this project's window, flight and payload).
 use Rattle.std.specs.Prelude.{ℕ, ◌<◌, ◌≤◌, ◌+◌, ◌-◌, ◌^◌, min, List, [], ◌∷◌, length, take, drop, map, false}
 use Rattle.graft_edge.specs.declared.ids.PeeringId.{PeeringId}
 use Rattle.tcp_seq.specs.Numbers.{plus, offset_from, number}

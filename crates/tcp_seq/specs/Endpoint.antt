@@ -1,5 +1,6 @@
 -- The endpoint of a connection over whole numbers: places of streams in place of numbers that go round, and which places
--- arrived in place of buffers (RFC 9293, sections 3.4, 3.8 and 3.10.7.4, with this project's window and flight).
+-- arrived in place of buffers (RFC 9293, sections 3.4, 3.8 and 3.10.7.4, with this project's window, flight,
+-- payload and turn that emits again).
 use Rattle.std.specs.Prelude.{ℕ, ◌≡◌, ◌⊎◌, ◌↔◌, ◌<◌, ◌≤◌, ◌+◌, ◌-◌, ◌^◌, ◌==◌, ◌||◌, nat_lt, min, max, if◌then◌else◌, Bool, true, false, List, [], ◌∷◌, ◌++◌, length, take, drop, Contains}
 use Rattle.std.specs.List.Sorted.{IsStrictlyIncreasing}
 use Rattle.tcp_seq.specs.declared.rules.AckKind.TheVariants.{Beyond}

@@ -1,4 +1,5 @@
--- Acceptable segments and acknowledgements, by numbers and by places of a stream (RFC 9293, section 3.4).
+-- Acceptable segments and acknowledgements, by numbers and by places of a stream (RFC 9293, sections 3.4
+-- and 3.10.7.4).
 use Rattle.std.specs.Prelude.{ℕ, ◌≡◌, ◌⊎◌, ◌<◌, ◌≤◌, ◌+◌, ◌-◌, ◌^◌}
 use Rattle.tcp_seq.specs.declared.rules.AckKind.{AckKind}
 use Rattle.tcp_seq.specs.declared.rules.AckKind.TheVariants.{New, Old, Beyond}
@@ -20,7 +21,7 @@ Acceptable next window seq len =
     ⊎ ((0 < len) × (0 < window) × (IsInWindow next window seq ⊎ IsInWindow next window (plus seq (len - 1))))
 
 -- An acknowledgement to a sender whose oldest unacknowledged number is `una` and that sends `nxt` next. Offsets from 2^31 on are
--- those of numbers behind.
+-- those of numbers behind, a bound that is this project's.
 abbrev pub IsAck : AckKind → ℕ → ℕ → ℕ → Type 0
 IsAck New una nxt ack = (0 < offset_from ack una) × (offset_from ack una ≤ offset_from nxt una)
 IsAck Old una nxt ack = (offset_from ack una ≡ 0) ⊎ (2 ^ 31 ≤ offset_from ack una)

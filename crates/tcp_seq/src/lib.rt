@@ -1,6 +1,6 @@
 //! TCP's sequence numbers and acceptance rules, the segment that links carry, the state of an
 //! endpoint that is handed over, and, for contracts, the endpoint over whole numbers that the 32-bit
-//! rules stand for (RFC 9293, section 3.4).
+//! rules stand for (RFC 9293, sections 3.4, 3.8 and 3.10.7.4).
 #![tactic(auto)]
 
 mod laws;

@@ -51,7 +51,7 @@ fn segments_are_acceptable_in_the_window(rt: HostRuntime) {
         (100, WINDOW, 16_483, 1_024, true),
         (100, WINDOW, 16_484, 1, false),
         (100, WINDOW, 16_484, 1_024, false),
-        // both ends stand outside
+        // the first byte stands before the window, the last one at its end or behind it
         (100, WINDOW, 99, 16_385, true),
         (100, WINDOW, 99, 16_386, false),
         // a closed window
