@@ -1,12 +1,12 @@
 //! What holds of the definitions of texts and of the wire format.
 
-ghost use Rattle.std.specs.Prelude.{◌≡◌, ◌↔◌, ◌<◌, ◌^◌, ℕ, List, [], Bool, Some, None};
+ghost use Rattle.std.specs.Prelude.{◌≡◌, ◌↔◌, ◌<◌, ◌^◌, ℕ, List, [], Bool, Some, Ok};
 ghost use Rattle.bgp_types.specs.declared.fault.Expected.{Expected};
 ghost use Rattle.bgp_types.specs.declared.message.Message.{Message};
 ghost use Rattle.bgp_types.specs.declared.message.Message.TheVariants.{NoticeMsg};
 ghost use Rattle.bgp_types.specs.declared.message.Notice.{Notice};
-ghost use Rattle.bgp_types.specs.Expect.{ReadsExpected};
-ghost use Rattle.bgp_types.specs.FirstFault.{first_fault};
+ghost use Rattle.bgp_types.specs.Expect.{IsExpected};
+ghost use Rattle.bgp_types.specs.FirstFault.{first_fault, message_of};
 ghost use Rattle.bgp_types.specs.Header.{frame_at};
 ghost use Rattle.bgp_types.specs.OctetLists.{AreOctets};
 ghost use Rattle.bgp_types.specs.Prefixes.{PrefixValue, IsPrefix};
@@ -30,10 +30,10 @@ pub fn reads_once()
     ensures { (frame : List ℕ) (one : Message) (other : Message) (wide : Bool) → Reads frame one wide → Reads frame other wide → one ≡ other }
 {}
 
-/// A whole frame with a sound header has no fault exactly where it reads as a message that the
-/// session takes.
-pub fn reads_without_fault()
-    ensures { (frame : List ℕ) (expected : Expected) → AreOctets frame → frame_at frame ≡ Some (frame, []) → (first_fault frame expected ≡ None) ↔ ReadsExpected frame expected }
+/// Octets are a whole frame with a sound header, from which a session takes a message, exactly where
+/// they read as that message in the session's width and the session expects it.
+pub fn reads_exactly()
+    ensures { (frame : List ℕ) (expected : Expected) (message : Message) → AreOctets frame → ((frame_at frame ≡ Some (frame, [])) × (message_of expected frame ≡ Ok message)) ↔ (Reads frame message expected.wide × IsExpected expected message) }
 {}
 
 /// A message that is writable in a width has a written form that reads as itself.
