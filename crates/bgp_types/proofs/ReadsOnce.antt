@@ -1,5 +1,5 @@
 -- A frame reads as one message.
-use Rattle.std.proofs.Common.{◌≡◌, ℕ, ◌^◌, ◌<◌, List, [], drop, Bool, true, false, cond, eqb, ltb, Some, Result, Ok, refl, sym, ap, ◌∙◌, arith, subst}
+use Rattle.std.proofs.Common.{◌≡◌, ℕ, ◌^◌, ◌<◌, List, [], drop, Bool, true, false, cond, eqb, ltb, Some, Result, Ok, refl, sym, ◌∙◌, arith, subst}
 use Rattle.std.specs.Prelude.{◌↔◌}
 use Rattle.std.proofs.lemmas.Bool.{le-ltb}
 use Rattle.std.proofs.lemmas.Bool.Decides.{nat_tests}
