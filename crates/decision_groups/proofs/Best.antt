@@ -1,6 +1,6 @@
 -- The best of the groups' champions is the choice.
 use Rattle.std.proofs.Common.{◌≡◌, ℕ, ◌==◌, List, [], ◌∷◌, ◌++◌, Option, Some, None, refl, sym, ap, ◌∙◌, subst}
-use Rattle.std.specs.Prelude.{Contains, IsNone}
+use Rattle.std.specs.Prelude.{Contains, IsNone, option_map}
 use Rattle.std.specs.List.{filter_map, cons_option}
 use Rattle.std.specs.BTreeMap.{BTreeMap, IsOrdered, get, values, keys}
 use Rattle.std.specs.Ordering.{nat_cmp}
@@ -110,6 +110,10 @@ empty-best (d ∷ ds) groups are h =
 
 pub best-none : (es : List RankedSource) (groups : BTreeMap ℕ (List RankedSource)) → AreGroupsOf es groups → best_by comes_first (filter_map champion_of (values groups)) ≡ None → choice es ≡ None
 best-none es groups are h = choice-of_none es (empty-best es groups are h)
+
+pub best-chosen : (es : List RankedSource) (groups : BTreeMap ℕ (List RankedSource)) (o : Option RankedSource) → AreGroupsOf es groups → IsOrdered nat_cmp groups → best_by comes_first (filter_map champion_of (values groups)) ≡ o → choice es ≡ option_map (λ c. c.0) o
+best-chosen es groups (Some w) are ordered h = best-some es groups w are ordered h
+best-chosen es groups None are ordered h = best-none es groups are h
 
 pub empty_exactly : (es : List RankedSource) (answer : Option From) → answer ≡ choice es → (IsNone answer → es ≡ []) × (es ≡ [] → IsNone answer)
 empty_exactly es None is = ((λ _. choice-none es (sym is)), (λ _. refl))

@@ -83,8 +83,8 @@ impl Ranks {
         self.map.get(&from)
     }
 
-    /// Puts a rank in its place, and answers the one that it replaces. Want of memory comes only where
-    /// there was none.
+    /// Puts a rank in its place, and answers the one that it replaces. Memory can run out only where there
+    /// was none, and then nothing changes.
     pub fn insert(&mut self, from: From, rank: Rank) -> Result<Option<Rank>, NoMemory>
         ensures replaced { IfOk result (λ old. old ≡ rank_at self.old from) }
         ensures ok { OnOk result (self.new ≡ with_rank self.old from rank) }
