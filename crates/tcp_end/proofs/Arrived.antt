@@ -14,7 +14,7 @@ use Rattle.tcp_seq.specs.declared.state.Piece.{Piece}
 use Rattle.tcp_seq.specs.declared.state.EndState.{EndState}
 use Rattle.tcp_reasm.specs.Runs.{held}
 use Rattle.tcp_end.specs.State.{got, LieFrom}
-use Rattle.tcp_end.proofs.Held.{byte_below, byte_past}
+use Rattle.tcp_seq.proofs.ByteFrom.{byte_below, byte_past}
 
 contains_cases : (x : ℕ) (xs : List ℕ) (k : ℕ) → Contains (x ∷ xs) k → (x ≡ k) ⊎ Contains xs k
 contains_cases x xs k (zero, below, is) = inl is

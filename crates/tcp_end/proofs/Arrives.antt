@@ -12,18 +12,19 @@ use Rattle.tcp_seq.specs.declared.rules.AckKind.TheVariants.{New, Beyond}
 use Rattle.tcp_seq.specs.Endpoint.{Endpoint, PlacedSegment, received, Takes, Brings, Gathers, IsAcceptable, IsBeyond}
 use Rattle.tcp_seq.specs.declared.segment.Segment.{Segment}
 use Rattle.tcp_seq.specs.declared.state.EndState.{EndState}
-use Rattle.tcp_reasm.specs.Runs.{byte_from, held}
+use Rattle.tcp_reasm.specs.Runs.{held}
+use Rattle.tcp_seq.specs.Endpoint.{byte_from}
 use Rattle.tcp_reasm.specs.Reassembly.{byte_ahead, brought}
 use Rattle.tcp_end.specs.State.{IsEndState, IsSending, expected, got, own_number, counted_from}
 use Rattle.tcp_end.specs.Receiving.{byte_then, Receives}
-use Rattle.tcp_end.specs.Arriving.{ahead_of, TakesSegment, newly_acked, IsAcceptableTo, Says, BringsNewByte, IsArrival, Leaves}
+use Rattle.tcp_end.specs.Arriving.{ahead_of, TakesByNumbers, newly_acked, IsAcceptableTo, Says, BringsNewByte, IsArrival, Leaves}
 use Rattle.tcp_end.specs.Standing.{Stands, Numbered, IsSlice, Becomes, TakesBy}
 use Rattle.tcp_end.specs.declared.arrival.Arrival.{Arrival}
 use Rattle.tcp_end.specs.declared.arrival.Arrival.TheVariants.{Outside, Ahead, Duplicate, Accepted}
 use Rattle.graft_edge.specs.declared.memory.NoMemory.{NoMemory}
 use Rattle.tcp_end.proofs.Steps.{owes, stream_is}
-use Rattle.tcp_end.proofs.Lookups.{get-drop, get-take}
-use Rattle.tcp_end.proofs.Held.{byte_there, byte_within, byte_below, byte_past}
+use Rattle.tcp_seq.proofs.Lookups.{get-drop, get-take}
+use Rattle.tcp_seq.proofs.ByteFrom.{byte_there, byte_within, byte_below, byte_past}
 use Rattle.tcp_end.proofs.Arrived.{Has, held_within, places_of, places_rising, places_has, has_places, places_received}
 use Rattle.tcp_end.proofs.Places.{brought_place, held_from, acceptable_place, place_acceptable, beyond_place, place_beyond, newly_place, new_place}
 
@@ -338,7 +339,7 @@ repeated s after g e theirs p stands numbered slice short is leaves =
 
 -- a segment that is taken in
 taken_in : (s after : EndState) (g : Segment) (e : Endpoint) (theirs : List ℕ) (p : PlacedSegment) → Stands s e theirs → Numbered s.receive_first.0 s.send_first.0 g p → IsSlice theirs p → length g.bytes < 2 ^ 16
-    → IsArrival Accepted s g → TakesSegment s g (newly_acked s g) after → (got after ≤ 2 ^ 20 → IsEndState after) → Becomes (λ e' e''. Takes e' p e'') e after theirs
+    → IsArrival Accepted s g → TakesByNumbers s g (newly_acked s g) after → (got after ≤ 2 ^ 20 → IsEndState after) → Becomes (λ e' e''. Takes e' p e'') e after theirs
 taken_in s after g e theirs p stands numbered slice short is takes at_rest =
     let n : length g.bytes ≡ length p.bytes = ap length numbered.bytes in
     let fits : p.place < 2 ^ 30 = omega (arith, slice.within, stands.theirs_within) in

@@ -8,7 +8,7 @@ use Rattle.tcp_seq.specs.Endpoint.{Endpoint, PlacedSegment}
 use Rattle.tcp_seq.specs.declared.state.EndState.{EndState}
 use Rattle.tcp_end.specs.State.{got}
 use Rattle.tcp_end.specs.Standing.{Stands, IsSlice}
-use Rattle.tcp_end.proofs.Lookups.{get-append_left}
+use Rattle.tcp_seq.proofs.Lookups.{get-append_left}
 
 -- a slice of a list
 pub slice_grows : (from len : ℕ) (xs more : List ℕ) → from + len ≤ length xs → take len (drop from (xs ++ more)) ≡ take len (drop from xs)

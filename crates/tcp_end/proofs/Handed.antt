@@ -9,7 +9,7 @@ use Rattle.tcp_end.specs.State.{IsEndState, expected, got, counted_from, raised,
 use Rattle.tcp_end.specs.Inner.{state_of, Keeps}
 use Rattle.tcp_end.specs.Arriving.{ahead_of}
 use Rattle.tcp_end.specs.declared.end.End.TheInside.{Inside}
-use Rattle.tcp_end.proofs.Held.{runs_from}
+use Rattle.tcp_reasm.proofs.Held.{runs_from}
 
 -- counted from a place and back
 pub counted-raised : (base low : ℕ) (ps : List Piece) → base < 2 ^ 32 → AreRuns low ps → counted_from base (raised base ps) ≡ ps

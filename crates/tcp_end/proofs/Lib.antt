@@ -1,5 +1,3 @@
-pub mod Lookups
-pub mod Held
 pub mod Counted
 pub mod Holes
 pub mod Filled

@@ -12,12 +12,12 @@ use Rattle.std.proofs.lemmas.List.{length-drop}
 use Rattle.tcp_end.specs.State.{IsSending, IsEndState, expected, got}
 use Rattle.tcp_end.specs.Inner.{state_of, Keeps}
 use Rattle.tcp_end.specs.Receiving.{BringsByte, byte_then, Receives, Received}
-use Rattle.tcp_end.specs.Arriving.{ahead_of, BringsNewByte, TakesSegment, TakenIn, IsArrival, IsAcceptableTo, Says}
+use Rattle.tcp_end.specs.Arriving.{ahead_of, BringsNewByte, TakesByNumbers, TakenIn, IsArrival, IsAcceptableTo, Says}
 use Rattle.tcp_end.specs.declared.arrival.Arrival.{Arrival}
 use Rattle.tcp_end.specs.declared.arrival.Arrival.TheVariants.{Outside, Ahead, Accepted, Duplicate}
 use Rattle.tcp_seq.specs.declared.rules.AckKind.TheVariants.{New, Old, Beyond}
 use Rattle.tcp_end.specs.declared.end.End.TheInside.{Inside}
-use Rattle.tcp_end.proofs.Held.{held_below}
+use Rattle.tcp_reasm.proofs.Held.{held_below}
 use Rattle.tcp_end.proofs.Handed.{ahead_is, lies}
 use Rattle.tcp_end.proofs.Places.{flight_offset}
 
@@ -53,7 +53,7 @@ next_after e ready r g acked keeps is =
     is.next ∙ ap (λ (m : ℕ). plus m (length is.given)) keeps.next ∙ omega (arith, n)
 
 takes_segment : (e : Inside) (ready : List ℕ) (r : Reassembly) (g : Segment) (acked : ℕ) → Keeps e → AreRuns 1 r.pieces → Receives e.ahead r e.ready ready g.seq.0 g.bytes
-    → TakesSegment (state_of e) g acked (state_of (taken e ready r g acked))
+    → TakesByNumbers (state_of e) g acked (state_of (taken e ready r g acked))
 takes_segment e ready r g acked keeps runs is =
     let old : ahead_of (state_of e) ≡ e.ahead = ahead_is e keeps.next keeps.runs in
     let new : ahead_of (state_of (taken e ready r g acked)) ≡ r = ahead_is (taken e ready r g acked) (next_after e ready r g acked keeps is) runs in

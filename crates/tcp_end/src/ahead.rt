@@ -3,7 +3,8 @@
 ghost use Rattle.std.specs.Prelude.{ℕ, ◌≡◌, ◌<◌, ◌≤◌, ◌+◌, ◌-◌, ◌^◌, ◌++◌, length, take, drop, IfOk, OnOk, OnErr, fold};
 ghost use Rattle.std.specs.Bool.{OnTrue, OnFalse};
 ghost use Rattle.tcp_seq.specs.Numbers.{plus};
-ghost use Rattle.tcp_reasm.specs.Runs.{AreRuns, byte_from, held};
+ghost use Rattle.tcp_reasm.specs.Runs.{AreRuns, held};
+ghost use Rattle.tcp_seq.specs.Endpoint.{byte_from};
 ghost use Rattle.tcp_reasm.specs.Reassembly.{brought};
 ghost use Rattle.tcp_end.specs.State.{counted_from, raised};
 ghost use Rattle.tcp_end.specs.Filling.{end_from, reached, filled};

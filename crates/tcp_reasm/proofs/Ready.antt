@@ -8,11 +8,13 @@ use Rattle.std.specs.List.{slice_get}
 use Rattle.std.specs.Option.{option_or}
 use Rattle.tcp_seq.specs.Numbers.{plus}
 use Rattle.tcp_seq.specs.declared.state.Piece.{Piece}
-use Rattle.tcp_reasm.specs.Runs.{byte_from, held, AreRuns}
+use Rattle.tcp_reasm.specs.Runs.{held, AreRuns}
+use Rattle.tcp_seq.specs.Endpoint.{byte_from}
 use Rattle.tcp_reasm.specs.Steps.{in_order, bytes_of, lowered}
 use Rattle.tcp_reasm.specs.Reassembly.{TakesReady}
-use Rattle.tcp_reasm.proofs.Held.{byte_there, byte_below, held_below, runs_from, held_here, held_later}
-use Rattle.tcp_reasm.proofs.Lookups.{get-append_left, get-append_right}
+use Rattle.tcp_reasm.proofs.Held.{held_below, runs_from, held_here, held_later}
+use Rattle.tcp_seq.proofs.ByteFrom.{byte_there, byte_below}
+use Rattle.tcp_seq.proofs.Lookups.{get-append_left, get-append_right}
 
 pub runs-lowered : (by low : ℕ) (ps : List Piece) → AreRuns (by + low) ps → AreRuns low (lowered by ps)
 runs-lowered by low [] runs = tt

@@ -4,8 +4,6 @@
 mod laws;
 mod piece;
 mod reasm;
-#[cfg(test)]
-mod tests;
 
 pub use laws::{bytes_stand_at_their_places, same_places_same_bytes};
 pub use piece::WINDOW;

@@ -2,7 +2,8 @@
 
 ghost use Rattle.std.specs.Prelude.{ℕ, ◌≡◌, ◌<◌, ◌≤◌, ◌+◌, ◌-◌, ◌^◌, ◌++◌, length, take, drop, None, true, is_some, vec_len, vec_capacity, IfOk, OnOk, OnErr};
 ghost use Rattle.std.specs.Option.{option_or};
-ghost use Rattle.tcp_reasm.specs.Runs.{AreRuns, byte_from, held};
+ghost use Rattle.tcp_reasm.specs.Runs.{AreRuns, held};
+ghost use Rattle.tcp_seq.specs.Endpoint.{byte_from};
 ghost use Rattle.tcp_reasm.specs.Steps.{passed, begun, run_between, runs_outside as runs_outside_lem, where_none, in_order, bytes_of, lowered};
 
 use graft_edge::{NoMemory, Octets};

@@ -1,7 +1,8 @@
 //! Reassembly.
 
 ghost use Rattle.std.specs.Prelude.{ℕ, ◌≡◌, ◌<◌, ◌≤◌, ◌+◌, ◌^◌, [], length, IfOk, OnOk, OnErr};
-ghost use Rattle.tcp_reasm.specs.Runs.{AreRuns, byte_from};
+ghost use Rattle.tcp_reasm.specs.Runs.{AreRuns};
+ghost use Rattle.tcp_seq.specs.Endpoint.{byte_from};
 ghost use Rattle.tcp_reasm.specs.Reassembly.{Puts, TakesReady, brought};
 
 use crate::piece::{WINDOW, append, insert, ready, remove_first};
