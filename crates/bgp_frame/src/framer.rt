@@ -6,7 +6,7 @@ ghost use Rattle.bgp_frame.specs.Next.{Next, has_next, begins};
 
 use crate::header::{HEADER, fault_at, len_of};
 use bgp_types::{HeaderFault, NoMemory, Octets};
-use byte_queue::ByteQueue;
+use graft_edge::ByteQueue;
 use std::alloc::Global;
 use std::marker::Model;
 use thiserror::Error;

@@ -17,8 +17,8 @@ pub use attrs::{Aggregator, Attrs, Origin, RawAttr, RawAttrs, Route};
 pub use fault::{Expected, FoundAttrs, HeaderFault};
 pub use graft_edge::{Items, Name, NoMemory, Octets, PeeringId, RouterId, TryCopy};
 pub use laws::{
-    fault_is_writable, printed_address_reads, printed_prefix_reads, reads_once,
-    reads_without_fault, written_reads,
+    each_prefix_once, equal_is_same, fault_is_writable, printed_address_reads,
+    printed_prefix_reads, reads_exactly, reads_once, written_reads,
 };
 pub use length::message_len;
 pub use message::{Cap, Caps, Message, Notice, OpenMsg, SessionState, Update};

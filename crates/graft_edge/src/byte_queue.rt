@@ -1,20 +1,18 @@
-//! A queue of bytes: they come at the back and go from the front.
-#![tactic(auto)]
-
+//! A queue of bytes: they are added at the back and dropped at the front.
 ghost use Rattle.std.specs.Prelude.{◌≡◌, ◌≤◌, ◌++◌, [], length, take, drop, OnOk, OnErr};
 
-use graft_edge::{Items, NoMemory, Octets};
+use crate::items::{Items, Octets};
+use crate::memory::NoMemory;
 use std::alloc::Global;
 use std::marker::Model;
 
-#[cfg(test)]
-mod tests;
-
-/// Bytes that are added at the back and dropped at the front, which contracts see as their list. They
-/// stand in one slice behind a part that was dropped already. As soon as that part is as long as the
-/// rest, the rest moves to the front: each byte moves at most once for each one that is dropped, and the
-/// memory is that of the bytes there are, and not of all that ever were. The slice is at most twice as
-/// long as the queue was at its longest, and its memory is kept until the queue goes.
+/// Bytes that are added at the back and dropped at the front. Contracts see the list of those that are
+/// there.
+///
+/// They stand in one slice, behind a part that was dropped already. As soon as that part is as long as
+/// the rest, the rest moves to the front. So over all calls at most one byte moves for each byte that is
+/// dropped, and the slice is at most twice as long as the queue was at its longest. Its memory is kept
+/// until the queue is dropped.
 #[derive(Debug, Drop)]
 pub struct ByteQueue {
     bytes: Vec<u8>,
@@ -31,7 +29,7 @@ impl Model for ByteQueue {
     ghost invariant = { λ queue. queue.dropped ≤ length queue.bytes.items };
 }
 
-/// Takes the first bytes out. It takes no memory.
+/// Removes the first `count` bytes, which have to be there. It allocates nothing.
 fn remove_front(bytes: &mut Vec<u8>, count: usize)
     requires { count ≤ length bytes.old.items }
     ensures { bytes.new.items ≡ drop count bytes.old.items }
@@ -42,7 +40,7 @@ fn remove_front(bytes: &mut Vec<u8>, count: usize)
 }
 
 impl ByteQueue {
-    /// No bytes. It takes no memory before there are some.
+    /// The empty queue. It allocates nothing before bytes are added.
     pub fn new(alloc: Global) -> ByteQueue
         ensures { result ≡ [] }
     {
@@ -52,7 +50,7 @@ impl ByteQueue {
         }
     }
 
-    /// The queue of a list's bytes, in that list's memory. It takes none and moves none of them.
+    /// The queue of a list's bytes, in that list's memory. It allocates nothing and moves no byte.
     pub fn from_octets(octets: Octets) -> ByteQueue
         ensures { result ≡ octets }
     {
@@ -62,8 +60,8 @@ impl ByteQueue {
         }
     }
 
-    /// The list of the bytes, in the queue's memory. It takes none. The bytes move to the front where a
-    /// part that was dropped still stands before them.
+    /// The list of the bytes, in the queue's memory. It allocates nothing. The bytes move to the front if
+    /// a part that was dropped still stands before them.
     pub fn into_octets(self) -> Octets
         ensures { result ≡ self }
     {
@@ -72,26 +70,26 @@ impl ByteQueue {
         Items::from_vec(bytes)
     }
 
-    /// Where its memory comes from.
+    /// The allocator that its memory comes from.
     pub fn allocator(&self) -> Global {
         *self.bytes.allocator()
     }
 
-    /// The bytes, from the front on.
+    /// The bytes, as a slice.
     pub fn as_slice(&self) -> &[u8]
         ensures { result.now ≡ self.now }
     {
         &self.bytes[self.dropped..]
     }
 
-    /// How many bytes there are. Those that were dropped don't count.
+    /// How many bytes there are, without those that were dropped.
     pub fn len(&self) -> usize
         ensures { result ≡ length self.now }
     {
         self.bytes.len() - self.dropped
     }
 
-    /// Adds bytes at the back. It fails for want of memory alone, and then the queue is as before.
+    /// Adds bytes at the back. If memory runs out, nothing changes.
     pub fn extend(&mut self, bytes: &[u8]) -> Result<(), NoMemory>
         ensures ok { OnOk result (self.new ≡ self.old ++ bytes.now) }
         ensures err { OnErr result (self.new ≡ self.old) }
@@ -99,8 +97,7 @@ impl ByteQueue {
         Ok(self.bytes.extend_from_slice(bytes)?)
     }
 
-    /// Keeps so many of the first bytes, which have to be there, and drops the rest. It gives no memory
-    /// back.
+    /// Keeps the first `len` bytes, which have to be there, and drops the rest. It gives no memory back.
     pub fn truncate(&mut self, len: usize)
         requires { len ≤ length self.old }
         ensures { self.new ≡ take len self.old }
@@ -108,7 +105,7 @@ impl ByteQueue {
         self.bytes.truncate(self.dropped + len);
     }
 
-    /// Drops so many of the first bytes, which have to be there. It gives no memory back.
+    /// Drops the first `count` bytes, which have to be there. It gives no memory back.
     pub fn drop_front(&mut self, count: usize)
         requires { count ≤ length self.old }
         ensures { self.new ≡ drop count self.old }
