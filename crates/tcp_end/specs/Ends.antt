@@ -5,7 +5,7 @@ use Rattle.tcp_seq.specs.declared.seq.Seq.{Seq}
 use Rattle.tcp_seq.specs.declared.segment.Way.{Way}
 use Rattle.tcp_seq.specs.declared.segment.Segment.{Segment}
 use Rattle.tcp_seq.specs.declared.state.EndState.{EndState}
-use Rattle.tcp_seq.specs.Endpoint.{Endpoint, PlacedSegment, SendsBytes, EmitsNext, EmitsAgain, EmitsAnswer, ReadsBytes}
+use Rattle.tcp_seq.specs.Endpoint.{PlacedSegment, SendsBytes, EmitsNext, EmitsAgain, EmitsAnswer, ReadsBytes}
 use Rattle.tcp_seq.specs.Connection.{Connection, fresh_connection, ConnectionStep, ConnectionRun}
 use Rattle.tcp_end.specs.State.{fresh}
 use Rattle.tcp_end.specs.Standing.{EndStands, Numbered, StepsBy, EmitsBy, TakesBy}
@@ -75,8 +75,8 @@ pub record PairStands (pair : EndPair) (c : Connection) : Type 0 where
   pub far : EndStands pair.far.state c.far.end
   pub there : pair.far.state.receive_first ≡ pair.near.state.send_first
   pub back : pair.near.state.receive_first ≡ pair.far.state.send_first
-  pub near_emitted : (g : Segment) → Contains pair.near.emitted g → IsNumberedAmong pair.near.state.send_first.0 pair.far.state.send_first.0 g c.near.emitted
-  pub far_emitted : (g : Segment) → Contains pair.far.emitted g → IsNumberedAmong pair.far.state.send_first.0 pair.near.state.send_first.0 g c.far.emitted
+  pub near_emitted : (g : Segment) → Contains pair.near.emitted g → IsNumberedAmong pair.near.state.send_first.0 pair.near.state.receive_first.0 g c.near.emitted
+  pub far_emitted : (g : Segment) → Contains pair.far.emitted g → IsNumberedAmong pair.far.state.send_first.0 pair.far.state.receive_first.0 g c.far.emitted
 
 -- a pair stands for a connection that another becomes by a step, or for that one itself
 pub record PairBecomes (c : Connection) (after : EndPair) : Type 0 where

@@ -1,5 +1,5 @@
 -- Which endpoint over whole numbers a state of 32-bit numbers and buffers stands for, and what it means that a call is a step of it.
-use Rattle.std.specs.Prelude.{ℕ, ◌≡◌, ◌≤◌, ◌+◌, List, length, drop, Option, Some, None, IsSome}
+use Rattle.std.specs.Prelude.{ℕ, ◌≡◌, ◌≤◌, ◌+◌, length, drop, Option, Some, None, IsSome}
 use Rattle.std.specs.FinMap as map
 use Rattle.tcp_seq.specs.Numbers.{number}
 use Rattle.tcp_seq.specs.Rules.{IsInStream}

@@ -1,15 +1,11 @@
 -- What lists of pieces hold.
 use Rattle.std.proofs.Common.{◌≡◌, ℕ, zero, suc, ◌+◌, ◌-◌, ◌<◌, ◌≤◌, List, [], ◌∷◌, ◌++◌, length, take, drop, Some, None, refl, sym, ap, ◌∙◌, arith, get_or}
-use Rattle.std.specs.Prelude.{if◌then◌else◌}
-use Rattle.std.proofs.lemmas.Bool.{lt-ltb, le-ltb}
-use Rattle.std.proofs.lemmas.Option.{slice_get_past, slice_get-get_or}
-use Rattle.std.specs.List.{slice_get}
 use Rattle.std.specs.Option.{option_or}
 use Rattle.tcp_seq.specs.declared.state.Piece.{Piece}
 use Rattle.tcp_reasm.specs.Runs.{held, AreRuns}
 use Rattle.tcp_seq.specs.Endpoint.{byte_from}
 use Rattle.tcp_seq.proofs.Lookups.{or_assoc}
-use Rattle.tcp_seq.proofs.ByteFrom.{byte_below, byte_there, byte_past, byte_within}
+use Rattle.tcp_seq.proofs.ByteFrom.{byte_below, byte_past, byte_within}
 
 pub held-append : (ps qs : List Piece) (k : ℕ) → held (ps ++ qs) k ≡ option_or (held ps k) (held qs k)
 held-append [] qs k = refl

@@ -1,13 +1,12 @@
 -- What a segment that arrives changes.
-use Rattle.std.proofs.Common.{◌≡◌, ◌≢◌, ℕ, zero, suc, ◌+◌, ◌<◌, ◌≤◌, max, List, length, take, Option, None, Some, cond, Bool, true, false, refl, sym, ap, subst, ◌∙◌, arith, inl, inr}
+use Rattle.std.proofs.Common.{◌≡◌, ◌≢◌, ℕ, zero, suc, ◌+◌, max, length, take, Option, None, Some, cond, Bool, true, false, refl, sym, ap, subst, ◌∙◌, arith, inl, inr}
 use Rattle.std.specs.Prelude.{nat_lt, nat_le, is_some, ◌==◌, ◌||◌, ◌&&◌, if◌then◌else◌}
 use Rattle.std.specs.Option.{option_or}
 use Rattle.std.specs.Cmp.{nat_cmp_total, unsigned_tied}
 use Rattle.std.specs.FinMap as map
 use Rattle.std.proofs.lemmas.Bool.Decides.{nat_tests}
 use Rattle.std.proofs.lemmas.Bool.{cases_lt, cases_eq, lt-ltb, le-ltb}
-use Rattle.std.proofs.lemmas.List.{take_all}
-use Rattle.tcp_seq.specs.Endpoint.{Bytes, Endpoint, PlacedSegment, received, received_bytes, byte_from, byte_brought, DropsSegment, AcceptsSegment, TakesSegment}
+use Rattle.tcp_seq.specs.Endpoint.{Bytes, Endpoint, PlacedSegment, received, received_bytes, byte_from, byte_brought, TakesSegment}
 use Rattle.tcp_seq.proofs.Lookups.{or_none}
 use Rattle.tcp_seq.proofs.ByteFrom.{byte_past}
 use Rattle.tcp_seq.proofs.Received.{in_order_grows}

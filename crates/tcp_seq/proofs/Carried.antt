@@ -1,5 +1,5 @@
 -- What a connection keeps.
-use Rattle.std.proofs.Common.{◌≡◌, ℕ, zero, ◌+◌, ◌-◌, ◌^◌, ◌<◌, ◌≤◌, max, List, [], ◌∷◌, ◌++◌, length, take, drop, get_or, refl, sym, ap, subst, ◌∙◌, arith, ◌⊎◌, inl, inr, length-append, Option, None, Some}
+use Rattle.std.proofs.Common.{◌≡◌, ℕ, ◌+◌, ◌-◌, ◌^◌, ◌<◌, ◌≤◌, max, List, [], ◌∷◌, ◌++◌, length, take, drop, get_or, refl, sym, ap, subst, ◌∙◌, arith, ◌⊎◌, inl, inr, length-append, Option, None, Some}
 use Rattle.std.specs.Prelude.{Contains, Bool, true, false, nat_lt, nat_le, ◌&&◌, ◌||◌, if◌then◌else◌}
 use Rattle.std.specs.Option.{option_or}
 use Rattle.std.specs.List.{slice_get}
@@ -9,11 +9,11 @@ use Rattle.std.proofs.lemmas.Bool.{cases_lt}
 use Rattle.std.proofs.lemmas.List.{length-drop, length-take, drop-append-le, take-append-le}
 use Rattle.std.proofs.lemmas.List.Elements.{Contains-append_left, Contains-push, Contains-push_cases}
 use Rattle.std.proofs.lemmas.Option.{slice_get-get_or, slice_get_within}
-use Rattle.tcp_seq.specs.Endpoint.{Bytes, Endpoint, PlacedSegment, fresh_endpoint, bytes_in_order, received, received_bytes, byte_from, byte_brought, slice_at, EmitsSlice, EmitsEmpty, AcceptsSegment}
+use Rattle.tcp_seq.specs.Endpoint.{Bytes, Endpoint, PlacedSegment, fresh_endpoint, bytes_in_order, received, received_bytes, byte_from, byte_brought, EmitsSlice}
 use Rattle.tcp_seq.specs.Connection.{Side, Connection, fresh_side, fresh_connection, SideSends, SideEmits, SideReads, SideTakes, SideSteps, ConnectionStep, ConnectionRun, IsEmittedBy, IsAmong, IsCarried, IsConnection}
 use Rattle.tcp_seq.proofs.Lookups.{get-append_left, get-drop, get-take}
 use Rattle.tcp_seq.proofs.ByteFrom.{byte_below, byte_there}
-use Rattle.tcp_seq.proofs.Received.{byte_in_order, received_is, first_bytes}
+use Rattle.tcp_seq.proofs.Received.{byte_in_order, first_bytes}
 use Rattle.tcp_seq.proofs.Arriving.{received_stays}
 
 -- a byte stands where the stream has it, below what was emitted
@@ -208,7 +208,7 @@ slice_stands from p k byte is there = elim (cases_lt k p.place) [
       let inside : k - p.place < length p.bytes = slice_get_within p.bytes (k - p.place) byte here in (
         omega (arith, inside, above, is.within),
         sym (get-drop p.place from.stream (k - p.place) k (omega (arith, above))) ∙ sym (get-take (length p.bytes) (drop p.place from.stream) (k - p.place) inside)
-        ∙ ap (λ (xs : List ℕ). slice_get xs (k - p.place)) (sym is.bytes) ∙ here,
+            ∙ ap (λ (xs : List ℕ). slice_get xs (k - p.place)) (sym is.bytes) ∙ here,
       )
 ]
 

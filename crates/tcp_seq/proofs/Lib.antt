@@ -3,3 +3,4 @@ pub mod ByteFrom
 pub mod Received
 pub mod Arriving
 pub mod Carried
+pub mod Emitting
