@@ -38,3 +38,11 @@ pub or_swap : {X : Type 0} (a b c : Option X) → (b ≡ None) ⊎ (c ≡ None) 
 or_swap (Some x) b c apart = refl
 or_swap None b c (inl e) = ap (λ o. option_or o c) e ∙ sym (ap (option_or c) e ∙ or_none c)
 or_swap None b c (inr e) = (ap (option_or b) e ∙ or_none b) ∙ sym (ap (λ o. option_or o b) e)
+
+pub or_first : {X : Type 0} (a b : Option X) → option_or a b ≡ None → a ≡ None
+or_first None b e = refl
+or_first (Some x) b e = e
+
+pub or_second : {X : Type 0} (a b : Option X) → option_or a b ≡ None → b ≡ None
+or_second None b e = e
+or_second (Some x) b e = cc
