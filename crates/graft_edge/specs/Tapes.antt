@@ -14,7 +14,7 @@ pub record SinkTape : Type 0 where
   pub room : ℕ
   pub calls : Calls
 
--- a count of 64 bits stands still at its end
+-- one more in a count of 64 bits, which stops at the last number
 abbrev pub next_count : ℕ → ℕ
 next_count n = if nat_lt n (2 ^ 64 - 1) then n + 1 else n
 

@@ -1,32 +1,28 @@
 //! The calls of a source or a sink in memory.
 
-ghost use Rattle.std.specs.Prelude.{◌≡◌, IfOk, not, if◌then◌else◌};
-ghost use Rattle.graft_edge.specs.Tapes.{fails_next as fails_next_lem, faulted, called, next_count as next_count_lem};
+ghost use Rattle.std.specs.Prelude.{◌≡◌, IfOk, is_err, if◌then◌else◌};
+ghost use Rattle.graft_edge.specs.Tapes.{fails_next, faulted, called};
 
 use crate::items::Items;
 use crate::memory::NoMemory;
+use crate::source::Failed;
 use std::alloc::Global;
 
-/// The calls of a source or a sink in memory: the number of the next one, from 1, those that are to
-/// fail, how many faults there were, and how many bytes one call moves at most. Both counts stand
-/// still at 2^64 - 1.
+/// The calls of a source or a sink in memory. Both counts stop at 2^64 - 1.
 #[derive(Debug, Drop)]
 pub struct Calls {
+    /// The number of the next call, from 1.
     pub next: u64,
+    /// The numbers of the calls that are to fail.
     pub fails: Items<u32>,
+    /// How many calls failed.
     pub faults: u64,
+    /// How many bytes one call moves at most.
     pub step: usize,
 }
 
-/// One more, at most 2^64 - 1.
-pub(crate) fn next_count(count: u64) -> u64
-    ensures { result ≡ next_count_lem count }
-{
-    if count < u64::MAX { count + 1 } else { count }
-}
-
 impl Calls {
-    /// No calls so far.
+    /// No calls yet.
     pub(crate) fn new(alloc: Global, step: usize, fails: &[u32]) -> Result<Calls, NoMemory>
         ensures { IfOk result (λ calls. calls ≡ record { next = 1; fails = fails.now; faults = 0; step = step }) }
     {
@@ -38,33 +34,31 @@ impl Calls {
         })
     }
 
-    /// Whether the next call is to fail.
-    fn fails_next(&self) -> bool
-        ensures { result ≡ fails_next_lem self.now }
+    /// Whether the next call is one of those that are to fail.
+    fn is_next_failing(&self) -> bool
+        ensures { result ≡ fails_next self.now }
     {
-        self.fails
-            .as_slice()
-            .iter()
-            .any(|call| u64::from(*call) == self.next)
+        self.fails.iter().any(|call| u64::from(*call) == self.next)
     }
 
     /// Counts a fault.
     pub(crate) fn fault(&mut self)
         ensures { self.new ≡ faulted self.old }
     {
-        self.faults = next_count(self.faults);
+        self.faults = self.faults.saturating_add(1);
     }
 
-    /// Counts a call, and its fault where it is one that is to fail. Answers whether it isn't.
-    pub(crate) fn begin(&mut self) -> bool
-        ensures passes { result ≡ not (fails_next_lem self.old) }
-        ensures counted { self.new ≡ (if fails_next_lem self.old then faulted (called self.old) else called self.old) }
+    /// Counts a call. If it is one of those that are to fail, it counts a fault too and fails.
+    pub(crate) fn begin(&mut self) -> Result<(), Failed>
+        ensures fails { is_err result ≡ fails_next self.old }
+        ensures counted { self.new ≡ (if fails_next self.old then faulted (called self.old) else called self.old) }
     {
-        let fails = self.fails_next();
-        self.next = next_count(self.next);
+        let fails = self.is_next_failing();
+        self.next = self.next.saturating_add(1);
         if fails {
             self.fault();
+            return Err(Failed);
         }
-        !fails
+        Ok(())
     }
 }

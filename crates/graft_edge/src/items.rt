@@ -1,12 +1,18 @@
-//! Lists over a `Vec`, which contracts see as lists.
+//! A list over a `Vec`, which contracts see as a list.
 
 ghost use Rattle.std.specs.Prelude.{◌≡◌, ◌≤◌, ◌↔◌, [], ◌∷◌, ◌++◌, length, IsTrue, OnOk, OnErr, IfOk};
 
 use crate::memory::{NoMemory, TryCopy};
 use std::alloc::Global;
 use std::marker::Model;
+use std::ops::DerefSlice;
+use std::slice;
 
-/// A list of values.
+/// A list of values, which is read as a slice: `items[k]`, `items.get(k)`, `items.iter()`, `&items[a..b]`,
+/// `for item in &items`.
+///
+/// An invariant of a loop `for x in items.iter()` speaks of the values so far as over a slice, by
+/// `take l.x-index l.items`. One of `for x in &items` has them as `map (λ x. x.now) l.yielded`.
 #[derive(Debug, Drop)]
 pub struct Items<T> {
     vec: Vec<T>,
@@ -48,23 +54,72 @@ impl<T> Items<T> {
         vec
     }
 
+    /// Its values as a slice.
     pub fn as_slice(&self) -> &[T]
         ensures { result.now ≡ self.now }
     {
         self.vec.as_slice()
     }
 
+    /// How many values there are.
     pub fn len(&self) -> usize
         ensures { result ≡ length self.now }
     {
         self.vec.len()
     }
 
+    /// Whether there are no values.
     pub fn is_empty(&self) -> bool
         ensures { IsTrue result ↔ (self.now ≡ []) }
     {
         self.vec.is_empty()
     }
+}
+
+impl<T> DerefSlice for Items<T> {
+    type Elem = T;
+
+    ghost deref_gives = { λ list values. values ≡ list };
+
+    fn deref(&self) -> &[T] {
+        self.as_slice()
+    }
+}
+
+impl<'a, T> IntoIterator for &'a Items<T> {
+    ghost use Rattle.std.specs.Prelude.{◌<◌, ◌^◌};
+    ghost use Rattle.std.specs.Iterator.Runs.{EveryRun, ItemsMapTo};
+    ghost use Rattle.std.specs.Slice.Iter.{iter_rest, iter_steps};
+
+    type Item = &'a T;
+
+    type IntoIter = slice::Iter<'a, T>;
+
+    ghost into_iter_gives = { λ list it. (iter_rest it ≡ list.now) × (length (iter_rest it) < 2 ^ 64)
+        × EveryRun (iter_steps {A = T}) (λ p. ItemsMapTo p (λ x. x.now) (iter_rest p.from)) };
+
+    fn into_iter(self) -> slice::Iter<'a, T> {
+        self.as_slice().iter()
+    }
+}
+
+impl<T: PartialEq> PartialEq for Items<T> {
+    ghost use Rattle.std.specs.Cmp.{on_per};
+    ghost use Rattle.std.specs.Cmp.Lexicographic.{pointwise, lists_per};
+
+    ghost eq = { pointwise T.eq };
+
+    ghost laws = { lists_per T.laws };
+
+    fn eq(&self, other: &Items<T>) -> bool {
+        self.vec == other.vec
+    }
+}
+
+impl<T: Eq> Eq for Items<T> {
+    ghost use Rattle.std.specs.Cmp.Lexicographic.{lists_equiv};
+
+    ghost laws = { lists_equiv T.Eq.laws };
 }
 
 impl<T: Drop> Items<T> {
@@ -107,9 +162,8 @@ impl<T: Copy> Items<T> {
 
 impl<T: TryCopy> TryCopy for Items<T> {
     fn copy(&self) -> Result<Items<T>, NoMemory> {
-        let values = self.as_slice();
-        let mut copy = Items::from_vec(Vec::with_capacity(*self.vec.allocator(), values.len())?);
-        for value in values {
+        let mut copy = Items::from_vec(Vec::with_capacity(*self.vec.allocator(), self.len())?);
+        for value in self.iter() {
             copy.push(value.copy()?)?;
         }
         Ok(copy)

@@ -1,11 +1,11 @@
-//! Want of memory.
+//! Running out of memory.
 
 ghost use Rattle.std.specs.Prelude.{◌≡◌, IfOk};
 
 use std::alloc::{AllocError, AllocFailed};
 use thiserror::Error;
 
-/// No memory was found. A call that answers this has changed nothing, unless it says otherwise.
+/// Memory ran out. A call that returns this has changed nothing, unless it says otherwise.
 #[derive(Clone, Copy, Debug, PartialEq, Eq, Hash, Error)]
 #[error("no memory")]
 pub struct NoMemory;
@@ -22,9 +22,9 @@ impl<T: Drop> From<AllocFailed<T>> for NoMemory {
     }
 }
 
-/// What can be copied, where memory is found.
+/// What can be copied, unless memory runs out.
 pub trait TryCopy: Drop + Sized {
-    /// A value equal to its source, in memory of its own.
+    /// An equal value, in memory of its own.
     fn copy(&self) -> Result<Self, NoMemory>
         ensures { IfOk result (λ copy. copy ≡ self.now) };
 }

@@ -7,7 +7,8 @@ use std::alloc::Global;
 use std::fmt;
 use std::marker::Model;
 
-/// A text, as the name of a router or the place of a key in an input. Contracts see its bytes.
+/// A short text, such as the name of a router or the place of a key in an input. Contracts see its
+/// bytes.
 #[derive(Debug, Drop)]
 pub struct Name {
     text: String,
@@ -47,6 +48,7 @@ impl Name {
         Name { text }
     }
 
+    /// Its text.
     pub fn as_str(&self) -> &str
         ensures { result.now ≡ self.now }
     {

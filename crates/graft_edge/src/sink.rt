@@ -3,7 +3,7 @@
 ghost use Rattle.std.specs.Prelude.{◌≡◌, ◌↔◌, ◌⊎◌, ◌<◌, ◌≤◌, ℕ, ◌+◌, ◌-◌, List, Option, Some, None, [], length, take, drop, min, IsTrue, IsErr, IfOk, OnOk, OnErr, ◌++◌, Ok, Err, is_err, if◌then◌else◌};
 ghost use Rattle.graft_edge.specs.Outside.{FaultRose, Appended, AppendedFront};
 
-use crate::calls::{Calls, next_count};
+use crate::calls::Calls;
 use crate::memory::NoMemory;
 use crate::source::Failed;
 use std::alloc::Global;
@@ -12,13 +12,15 @@ use std::marker::Model;
 
 /// Where bytes go to.
 pub trait Sink {
-    /// The bytes that were written, where the sink tells them.
+    /// The bytes that were written, if the sink tells them.
     ghost written: { Self → Option (List ℕ) };
 
-    /// How often it failed. It never falls.
+    /// How often it failed. It never decreases.
     ghost faults: { Self → ℕ };
 
-    /// Appends a front of the bytes, and answers its length, which is 0 for no bytes alone.
+    /// Appends the first of the bytes, at least one unless there are none, and returns how many. If it
+    /// fails, it has appended nothing, and its count of faults rises, unless that count has reached
+    /// 2^64 - 1.
     fn write(&mut self, bytes: &[u8]) -> Result<usize, Failed>
         ensures steady { faults self.old ≤ faults self.new }
         ensures within { IfOk result (λ n. n ≤ length bytes.now) }
@@ -30,7 +32,7 @@ pub trait Sink {
         ensures unwritten { OnErr result (written self.new ≡ written self.old) };
 }
 
-/// Room in memory, which takes at most `step` bytes at a time.
+/// Room in memory, as a sink that takes at most `step` bytes in one call.
 #[derive(Debug, Drop)]
 pub struct MemSink {
     bytes: Vec<u8>,
@@ -50,8 +52,8 @@ impl Model for MemSink {
 }
 
 impl MemSink {
-    /// A sink with this much room, all of it taken here, that takes at most `step` bytes in one call,
-    /// and fails at the calls of these numbers, counted from 1.
+    /// A sink with room for so many bytes, all of it allocated here, that takes at most `step` of them
+    /// in one call, which has to be above 0, and fails at the calls of these numbers, counted from 1.
     pub fn new(alloc: Global, room: usize, step: usize, fails: &[u32]) -> Result<MemSink, NoMemory>
         requires { 0 < step }
         ensures { IfOk result (λ sink. sink
@@ -68,12 +70,12 @@ impl MemSink {
     pub fn written(&self) -> &[u8]
         ensures { result.now ≡ self.now.written }
     {
-        &self.bytes.as_slice()[..self.taken]
+        &self.bytes[..self.taken]
     }
 }
 
-/// Copies a front of the bytes into the buffer from a place on, as many as fit, at most `step`, and
-/// answers how many.
+/// Copies the first bytes into the buffer from place `at` on, as many as fit and at most `step`, and
+/// returns how many.
 fn copy_into(bytes: &[u8], step: usize, buf: &mut [u8], at: usize) -> usize
     requires { at ≤ length buf.old }
     ensures count { result ≡ min step (min (length buf.new - at) (length bytes.now)) }
@@ -99,7 +101,8 @@ impl Sink for MemSink {
         ensures failed { OnErr result (FaultRose self.old.calls.faults self.new.calls.faults) }
         ensures unwritten { OnErr result (◌≡◌ {A = Option (List ℕ)} (Some self.new.written) (Some self.old.written)) }
 
-        // It fails exactly at the calls that are to fail, and at bytes for which there is no room, and else takes all that it may.
+        // It fails exactly at the calls that are to fail and if there is no room for any of the bytes, and otherwise takes as
+        // many as it can.
         ensures fails { IsErr result ↔ (IsTrue (fails_next self.old.calls)
             ⊎ ((self.old.room ≡ length self.old.written) × (0 < length bytes.now))) }
         ensures takes { IfOk result (λ n. n
@@ -107,9 +110,7 @@ impl Sink for MemSink {
         ensures room { self.new.room ≡ self.old.room }
         ensures counted { self.new.calls ≡ (if is_err result then faulted (called self.old.calls) else called self.old.calls) }
     {
-        if !self.calls.begin() {
-            return Err(Failed);
-        }
+        self.calls.begin()?;
         if self.taken == self.bytes.len() && !bytes.is_empty() {
             self.calls.fault();
             return Err(Failed);
@@ -125,7 +126,7 @@ impl Sink for MemSink {
     }
 }
 
-/// A writer of std's as a sink. It tells nothing of what was written.
+/// A writer of std's as a sink. It doesn't tell what was written.
 #[derive(Debug, Drop)]
 pub struct StdSink<W> {
     writer: W,
@@ -133,6 +134,7 @@ pub struct StdSink<W> {
 }
 
 impl<W: Write> StdSink<W> {
+    /// The sink of this writer, with no faults yet.
     pub fn new(writer: W) -> StdSink<W> {
         StdSink { writer, faults: 0 }
     }
@@ -143,24 +145,25 @@ impl<W: Write> Sink for StdSink<W> {
 
     ghost faults = { λ s. s.faults };
 
-    /// A writer that takes nothing of some bytes has failed.
+    /// A writer that takes none of some bytes has failed.
     fn write(&mut self, bytes: &[u8]) -> Result<usize, Failed> {
         match self.writer.write(bytes) {
             Ok(n) if n > 0 || bytes.is_empty() => Ok(n),
             _ => {
-                self.faults = next_count(self.faults);
+                self.faults = self.faults.saturating_add(1);
                 Err(Failed)
             }
         }
     }
 }
 
-/// Writes all of the bytes, in as many calls as it takes.
+/// Writes all of the bytes, in as many calls as it takes. It stops at the first call that fails, and
+/// then only the first of the bytes are written.
 pub fn write_all<K: Sink>(sink: &mut K, bytes: &[u8]) -> Result<(), Failed>
     ensures steady { K.faults sink.old ≤ K.faults sink.new }
     ensures ok { OnOk result (Appended (K.written sink.old) (K.written sink.new) bytes.now) }
 
-    // It fails only where a write did, and then a front of the bytes was appended.
+    // It fails only where a write did, and then not all of the bytes were appended.
     ensures failed { OnErr result (FaultRose (K.faults sink.old) (K.faults sink.new)) }
     ensures front { OnErr result (AppendedFront (K.written sink.old) (K.written sink.new) bytes.now) }
 {

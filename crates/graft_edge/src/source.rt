@@ -3,7 +3,7 @@
 ghost use Rattle.std.specs.Prelude.{◌≡◌, ◌↔◌, ◌<◌, ◌≤◌, ℕ, ◌+◌, List, Option, Some, None, [], length, take, drop, min, IsTrue, IsErr, IfOk, IfErr, OnErr, ◌≢◌, Ok, Err, if◌then◌else◌};
 ghost use Rattle.graft_edge.specs.Outside.{FaultRose, Took, IsAtEnd, TookSome};
 
-use crate::calls::{Calls, next_count};
+use crate::calls::Calls;
 use crate::items::{Items, Octets};
 use crate::memory::NoMemory;
 use std::alloc::Global;
@@ -18,14 +18,15 @@ pub struct Failed;
 
 /// Where bytes come from.
 pub trait Source {
-    /// The bytes that weren't read yet, where the source tells them.
+    /// The bytes that weren't read yet, if the source tells them.
     ghost left: { Self → Option (List ℕ) };
 
-    /// How often it failed. It never falls.
+    /// How often it failed. It never decreases.
     ghost faults: { Self → ℕ };
 
-    /// Fills the front of the buffer, and answers how many bytes it gave. 0 is the end of input,
-    /// where the buffer isn't empty.
+    /// Reads the next bytes into the first places of the buffer, and returns how many there are. Into
+    /// a buffer that isn't empty it reads none only at the end of input. If it fails, it has read
+    /// nothing, and its count of faults rises, unless that count has reached 2^64 - 1.
     fn read(&mut self, buf: &mut [u8]) -> Result<usize, Failed>
         ensures steady { faults self.old ≤ faults self.new }
 
@@ -39,7 +40,7 @@ pub trait Source {
         ensures unread { OnErr result (left self.new ≡ left self.old) };
 }
 
-/// Bytes in memory, which are given at most `step` at a time.
+/// Bytes in memory, as a source that gives at most `step` of them in one call.
 #[derive(Debug, Drop)]
 pub struct MemSource {
     bytes: Octets,
@@ -61,8 +62,8 @@ impl Model for MemSource {
 impl MemSource {
     ghost use Rattle.std.specs.Prelude.{◌≡◌, ◌<◌, IfOk};
 
-    /// A source of these bytes that gives at most `step` of them in one call, and fails at the calls
-    /// of these numbers, counted from 1.
+    /// A source of these bytes that gives at most `step` of them in one call, which has to be above 0,
+    /// and fails at the calls of these numbers, counted from 1.
     pub fn new(
         alloc: Global,
         bytes: &[u8],
@@ -81,7 +82,8 @@ impl MemSource {
     }
 }
 
-/// Copies bytes to the front of a buffer, as many as fit, at most `step`, and answers how many.
+/// Copies the first bytes into the first places of a buffer, as many as fit and at most `step`, and
+/// returns how many.
 fn copy_front(bytes: &[u8], step: usize, buf: &mut [u8]) -> usize
     ensures count { result ≡ min step (min (length buf.new) (length bytes.now)) }
     ensures front { take result buf.new ≡ take result bytes.now }
@@ -106,22 +108,20 @@ impl Source for MemSource {
         ensures failed { OnErr result (FaultRose self.old.calls.faults self.new.calls.faults) }
         ensures unread { OnErr result (◌≡◌ {A = Option (List ℕ)} (Some self.new.left) (Some self.old.left)) }
 
-        // It fails exactly at the calls that are to fail, and else gives all that it may.
+        // It fails exactly at the calls that are to fail, and otherwise gives as many bytes as it can.
         ensures fails { IsErr result ↔ IsTrue (fails_next self.old.calls) }
         ensures gives { IfOk result (λ n. n ≡ min self.old.calls.step (min (length buf.new) (length self.old.left))) }
         ensures counted { self.new.calls
             ≡ (if fails_next self.old.calls then faulted (called self.old.calls) else called self.old.calls) }
     {
-        if !self.calls.begin() {
-            return Err(Failed);
-        }
-        let n = copy_front(&self.bytes.as_slice()[self.at..], self.calls.step, buf);
+        self.calls.begin()?;
+        let n = copy_front(&self.bytes[self.at..], self.calls.step, buf);
         self.at += n;
         Ok(n)
     }
 }
 
-/// A reader of std's as a source. It tells nothing of what it gives.
+/// A reader of std's as a source. It doesn't tell what is left.
 #[derive(Debug, Drop)]
 pub struct StdSource<R> {
     reader: R,
@@ -129,6 +129,7 @@ pub struct StdSource<R> {
 }
 
 impl<R: Read> StdSource<R> {
+    /// The source of this reader's bytes, with no faults yet.
     pub fn new(reader: R) -> StdSource<R> {
         StdSource { reader, faults: 0 }
     }
@@ -143,14 +144,14 @@ impl<R: Read> Source for StdSource<R> {
         match self.reader.read(buf) {
             Ok(n) => Ok(n),
             Err(_) => {
-                self.faults = next_count(self.faults);
+                self.faults = self.faults.saturating_add(1);
                 Err(Failed)
             }
         }
     }
 }
 
-/// Why not all of a source was read.
+/// Why a source wasn't read to its end.
 #[derive(Clone, Copy, Debug, PartialEq, Eq, Hash, Error)]
 pub enum ReadStop {
     #[error("a read failed")]
@@ -161,34 +162,51 @@ pub enum ReadStop {
     NoMemory,
 }
 
-/// Reads a source to its end, at most so many bytes of it. It reads at most `most + 2` times.
+impl From<Failed> for ReadStop {
+    ghost use Rattle.graft_edge.specs.declared.source.ReadStop.TheVariants.{Failed};
+
+    ghost from_gives = { λ _ stop. stop ≡ Failed };
+
+    fn from(_error: Failed) -> ReadStop {
+        ReadStop::Failed
+    }
+}
+
+impl From<NoMemory> for ReadStop {
+    ghost use Rattle.graft_edge.specs.declared.source.ReadStop.TheVariants.{NoMemory};
+
+    ghost from_gives = { λ _ stop. stop ≡ NoMemory };
+
+    fn from(_error: NoMemory) -> ReadStop {
+        ReadStop::NoMemory
+    }
+}
+
+/// Reads a source to its end, if that is at most `most` bytes away, and returns its bytes. It stops at
+/// the first read that fails, as soon as it has taken more than `most` bytes, and if memory runs out. It
+/// reads at most `most + 2` times.
 pub fn read_all<S: Source>(alloc: Global, source: &mut S, most: usize) -> Result<Octets, ReadStop>
     ensures steady { S.faults source.old ≤ S.faults source.new }
 
-    // All bytes that were taken are given, and none is left.
+    // All bytes that were taken are returned, and none is left.
     ensures whole { IfOk result (λ bytes. Took (S.left source.old) (S.left source.new) bytes) }
     ensures end { IfOk result (λ bytes. (length bytes ≤ most) × IsAtEnd (S.left source.new)) }
     ensures failed { result ≡ Err ReadStop.Failed → FaultRose (S.faults source.old) (S.faults source.new) }
 
-    // More bytes than that were taken exactly where it is so answered.
+    // More than `most` bytes were taken if it stops as too long, and otherwise not.
     ensures too_long { result ≡ Err ReadStop.TooLong → TookSome (S.left source.old) (S.left source.new) (λ n. most < n) }
     ensures stopped { IfErr result (λ stop. stop ≢ ReadStop.TooLong → TookSome (S.left source.old) (S.left source.new) (λ n. n ≤ most)) }
 {
     let mut bytes = Octets::new(alloc);
     let mut buf = [0u8; 4096];
     loop {
-        let n = match source.read(&mut buf) {
-            Ok(n) => n,
-            Err(_) => return Err(ReadStop::Failed),
-        };
+        let n = source.read(&mut buf)?;
         if n == 0 {
             return Ok(bytes);
         }
         if n > most - bytes.len() {
             return Err(ReadStop::TooLong);
         }
-        if bytes.extend(&buf[..n]).is_err() {
-            return Err(ReadStop::NoMemory);
-        }
+        bytes.extend(&buf[..n])?;
     }
 }

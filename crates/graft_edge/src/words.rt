@@ -50,17 +50,18 @@ impl Words {
         self.words.len()
     }
 
+    /// Whether there are no words.
     pub fn is_empty(&self) -> bool
         ensures { IsTrue result ↔ (self.now ≡ []) }
     {
         self.words.is_empty()
     }
 
-    /// The word at a place, counted from 0.
+    /// The word at place `k`, counted from 0, which has to be below `len()`.
     pub fn get(&self, k: usize) -> &str
         requires { k < length self.now }
         ensures { slice_get self.now k ≡ Some result.now }
     {
-        self.words.as_slice()[k].as_str()
+        self.words[k].as_str()
     }
 }

@@ -10,8 +10,7 @@ ghost use Rattle.tcp_end.specs.Filling.{end_from, reached, filled};
 ghost use Rattle.tcp_end.specs.Holes.{HasHole, IsCovered};
 ghost use Rattle.tcp_end.specs.Receiving.{Received, ReceivesRun};
 
-use byte_queue::ByteQueue;
-use graft_edge::{Items, NoMemory};
+use graft_edge::{ByteQueue, Items, NoMemory};
 use std::collections::VecDeque;
 use std::mem;
 use tcp_reasm::{Reasm, WINDOW};

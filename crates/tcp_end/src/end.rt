@@ -9,8 +9,7 @@ ghost use Rattle.tcp_end.specs.State.{fresh, stream_length, unsent, outstanding,
 
 use crate::ahead::{count_from, raise, receive};
 use crate::arrival::{Arrival, SendStop};
-use byte_queue::ByteQueue;
-use graft_edge::{Items, NoMemory, Octets, PeeringId};
+use graft_edge::{ByteQueue, Items, NoMemory, Octets, PeeringId};
 use std::alloc::Global;
 use std::marker::Model;
 use tcp_reasm::{Reasm, WINDOW};
