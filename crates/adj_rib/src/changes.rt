@@ -7,7 +7,6 @@ ghost use Rattle.adj_rib.specs.Changes.{Changed, Tracks, noted};
 
 use bgp_types::{Attrs, Items, NoMemory, Prefix, PrefixList, Table, TryCopy};
 use prefix_trie::TrieTable;
-use same_routes::is_same_attrs;
 use std::alloc::Global;
 
 /// For prefixes the route that each had, or that it had none.
@@ -75,12 +74,13 @@ pub fn announce(
 }
 
 /// Whether the routes are the same, or neither is there.
+#[tactic(auto, using(bgp_types::proofs::Equality::attrs_equal))]
 fn is_same(route: Option<&Attrs>, had: &Option<Attrs>) -> bool
     ensures { MatchBool result (option_copied route.entry ≡ had.now) (option_copied route.entry ≢ had.now) }
 {
     match (route, had) {
         (None, None) => true,
-        (Some(route), Some(had)) => is_same_attrs(route, had),
+        (Some(route), Some(had)) => route == had,
         _ => false,
     }
 }

@@ -8,7 +8,6 @@ ghost use Rattle.loc_rib.specs.Values.{with_best, AreApart};
 use bgp_types::{NoMemory, Prefix, Table};
 use prefix_trie::TrieTable;
 use route_policy::Best;
-use same_routes::is_same_route;
 use std::alloc::Global;
 use std::marker::Model;
 
@@ -31,12 +30,13 @@ impl Model for LocRib {
 }
 
 /// Whether the two aren't the same.
+#[tactic(auto, using(bgp_types::proofs::Equality::route_equal))]
 fn are_apart(a: Option<&Best>, b: Option<&Best>) -> bool
     ensures { AreApart (option_copied a.entry) (option_copied b.entry) result }
 {
     match (a, b) {
         (None, None) => false,
-        (Some(a), Some(b)) => a.from != b.from || !is_same_route(&a.route, &b.route),
+        (Some(a), Some(b)) => a.from != b.from || a.route != b.route,
         _ => true,
     }
 }
