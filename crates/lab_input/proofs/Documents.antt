@@ -10,7 +10,7 @@ use Rattle.lab_input.specs.declared.input.LabInput.{LabInput}
 use Rattle.lab_input.specs.declared.input.LabStop.{LabStop}
 use Rattle.lab_input.specs.declared.input.LabStop.TheVariants.{Bad, NoMemory}
 use Rattle.lab_input.specs.Documents.{document_of}
-use Rattle.lab_input.specs.Labs.{InputOf, Answers}
+use Rattle.lab_input.specs.Labs.{InputOf, FindsOrStops}
 use Rattle.lab_input.specs.Tables.{GivesLab}
 
 pub document_of-text : (bytes : List ℕ) → IsUtf8 bytes → document_of bytes ≡ parse_document bytes
@@ -24,7 +24,7 @@ pub no_document : (bytes : List ℕ) → document_of bytes ≡ None → (input :
 no_document bytes none input is = let same : Some is.document ≡ None = sym is.is ∙ none in cc
 
 -- what a document answers, its bytes answer
-pub input_answers : (bytes : List ℕ) (document : Members) → length bytes ≤ 4194304 → document_of bytes ≡ Some document → (r : Result LabInput LabStop) → Answers (GivesLab document) r → Answers (InputOf bytes) r
+pub input_answers : (bytes : List ℕ) (document : Members) → length bytes ≤ 4194304 → document_of bytes ≡ Some document → (r : Result LabInput LabStop) → FindsOrStops (GivesLab document) r → FindsOrStops (InputOf bytes) r
 input_answers bytes document short is (Ok input) gives = record { short = short; document = document; is = is; gives = gives }
 input_answers bytes document short is (Err (Bad bad)) none = λ input found.
     let same : found.document ≡ document = cc in

@@ -10,7 +10,7 @@ use Rattle.toml.specs.View.{view, items_view}
 use Rattle.lab_input.specs.declared.input.LabStop.{LabStop}
 use Rattle.lab_input.specs.declared.input.LabStop.TheVariants.{Bad, NoMemory}
 use Rattle.lab_input.specs.Fields.{Each, ArrayAt, OrElse}
-use Rattle.lab_input.specs.Labs.{Answers}
+use Rattle.lab_input.specs.Labs.{FindsOrStops}
 
 each_push : {A : Type 0} (Gives : Data → A → Type 0) (vs : List Value) (v : Value) (xs : List A) (x : A)
     → Each Gives (items_view vs) xs → Gives (view v) x → Each Gives (items_view (vs ++ v ∷ [])) (xs ++ x ∷ [])
@@ -86,7 +86,7 @@ array_beyond t key low high Gives vs at beyond xs is =
 -- what the values of the array answer, the array answers
 pub array_answers : {A : Type 0} (t : Members) (key : List ℕ) (low high : ℕ) (Gives : Data → A → Type 0) (vs : List Value)
     → get_member key t ≡ Some (array (items_view vs)) → low ≤ length vs → length vs ≤ high
-    → (r : Result (List A) LabStop) → Answers (Each Gives (items_view vs)) r → Answers (ArrayAt t key low high Gives) r
+    → (r : Result (List A) LabStop) → FindsOrStops (Each Gives (items_view vs)) r → FindsOrStops (ArrayAt t key low high Gives) r
 array_answers t key low high Gives vs at enough few (Ok xs) all = array_gives t key low high Gives vs at enough few xs all
 array_answers t key low high Gives vs at enough few (Err (Bad bad)) none = λ xs is. none xs (array_of t key low high Gives vs at xs is)
 array_answers t key low high Gives vs at enough few (Err NoMemory) none = tt
@@ -106,7 +106,7 @@ or_else_none t key At default there none x (inl (out, is)) = there out
 or_else_none t key At default there none x (inr at) = none x at
 
 pub or_else_answers : {A : Type 0} (t : Members) (key : List ℕ) (At : A → Type 0) (default : A)
-    → (get_member key t ≡ None → ⊥) → (r : Result A LabStop) → Answers At r → Answers (OrElse t key At default) r
+    → (get_member key t ≡ None → ⊥) → (r : Result A LabStop) → FindsOrStops At r → FindsOrStops (OrElse t key At default) r
 or_else_answers t key At default there (Ok x) at = inr at
 or_else_answers t key At default there (Err (Bad bad)) none = or_else_none t key At default there none
 or_else_answers t key At default there (Err NoMemory) none = tt
@@ -120,9 +120,9 @@ or_else_finds t key At default there None none = or_else_none t key At default t
 
 -- where a part has no value, the whole has none
 pub part_refused : {A B : Type 0} (Part : A → Type 0) (Whole : B → Type 0) → ((b : B) → Whole b → (a : A) × Part a)
-    → (stop : LabStop) → Answers Part (Err stop) → (r : Result B LabStop) → r ≡ Err stop → Answers Whole r
-part_refused {B = B} Part Whole part stop none r same = subst (λ (x : Result B LabStop). Answers Whole x) (sym same) (by_stop stop none)
+    → (stop : LabStop) → FindsOrStops Part (Err stop) → (r : Result B LabStop) → r ≡ Err stop → FindsOrStops Whole r
+part_refused {B = B} Part Whole part stop none r same = subst (λ (x : Result B LabStop). FindsOrStops Whole x) (sym same) (by_stop stop none)
   where
-    by_stop : (s : LabStop) → Answers Part (Err s) → Answers Whole (Err s)
+    by_stop : (s : LabStop) → FindsOrStops Part (Err s) → FindsOrStops Whole (Err s)
     by_stop (Bad bad) refuted = λ b whole. let has = part b whole in refuted has.0 has.1
     by_stop NoMemory refuted = tt

@@ -8,9 +8,10 @@ use Rattle.toml.specs.declared.value.Value.{Value}
 use Rattle.toml.specs.View.{items_view}
 use Rattle.lab_input.specs.declared.input.LabStop.{LabStop}
 use Rattle.lab_input.specs.declared.input.LabStop.TheVariants.{Bad, NoMemory}
-use Rattle.lab_input.specs.Labs.{Answers}
+use Rattle.lab_input.specs.Labs.{FindsOrStops}
 use Rattle.bgp_types.specs.Finds.{Finds}
-use Rattle.bgp_types.specs.Prefixes.{PrefixValue, prefix_of, put_once, once_after}
+use Rattle.bgp_types.specs.Prefixes.{PrefixValue, prefix_of, put_once, once_after, EachOnce}
+use Rattle.bgp_types.proofs.OnceLaws.{each_once}
 use Rattle.bgp_types.specs.Texts.{IsPrefixText, address_text}
 use Rattle.bgp_types.proofs.TextLemmas.{IsAddressText_unique, NoSlash, NoSlash-address}
 use Rattle.lab_input.specs.Fields.{Each, GivesPrefix, PrefixesAt}
@@ -64,17 +65,24 @@ pub prefixes_same : (t : Members) (key : List ℕ) (ps qs : List PrefixValue) �
 prefixes_same t key ps qs one other =
     let items : other.at.items ≡ one.at.items = cc (one.at.at, other.at.at) in
     let written : one.written ≡ other.written = each_same GivesPrefix GivesPrefix_unique one.at.items one.written other.written one.at.gives (subst (λ i. Each GivesPrefix i other.written) items other.at.gives) in
-    one.once ∙ ap (once_after []) written ∙ sym other.once
+    (each_once one.written ps).1 one.once ∙ ap (once_after []) written ∙ sym ((each_once other.written qs).1 other.once)
 
 -- what the values of the array answer, its prefixes answer
 pub prefixes_answers : (t : Members) (key : List ℕ) (vs : List Value)
     → get_member key t ≡ Some (array (items_view vs)) → 1 ≤ length vs → length vs ≤ 200 → (r : Result (List PrefixValue) LabStop)
-    → Answers (λ ps. (written : List PrefixValue) × Each GivesPrefix (items_view vs) written × (ps ≡ once_after [] written)) r → Answers (PrefixesAt t key) r
+    → FindsOrStops (λ ps. (written : List PrefixValue) × Each GivesPrefix (items_view vs) written × EachOnce written ps) r → FindsOrStops (PrefixesAt t key) r
 prefixes_answers t key vs at enough few (Ok ps) (written, all, is) = record { written = written; at = array_gives t key 1 200 GivesPrefix vs at enough few written all; once = is }
 prefixes_answers t key vs at enough few (Err (Bad bad)) none = λ ps is. none ps (is.written, array_of t key 1 200 GivesPrefix vs at is.written is.at, is.once)
 prefixes_answers t key vs at enough few (Err NoMemory) none = tt
 
--- one further prefix at the end
-pub once_after-push : (seen ps : List PrefixValue) (p : PrefixValue) → once_after seen (ps ++ p ∷ []) ≡ put_once (once_after seen ps) p
+once_after-push : (seen ps : List PrefixValue) (p : PrefixValue) → once_after seen (ps ++ p ∷ []) ≡ put_once (once_after seen ps) p
 once_after-push seen [] p = refl
 once_after-push seen (q ∷ ps) p = once_after-push (put_once seen q) ps p
+
+-- one further prefix at the end
+pub EachOnce-push : (written prefixes : List PrefixValue) (p : PrefixValue) → EachOnce written prefixes → EachOnce (written ++ p ∷ []) (put_once prefixes p)
+EachOnce-push written prefixes p so_far =
+    (each_once (written ++ p ∷ []) (put_once prefixes p)).0 (ap (λ ps. put_once ps p) ((each_once written prefixes).1 so_far) ∙ sym (once_after-push [] written p))
+
+pub EachOnce-none : EachOnce [] []
+EachOnce-none = (each_once [] []).0 refl

@@ -12,6 +12,7 @@ use Rattle.bgp_types.specs.Lengths.{prefix_size}
 use Rattle.bgp_types.specs.Prefixes.{PrefixValue, IsPrefix, cleared, octets_for, same_prefix, put_once, once_after}
 use Rattle.bgp_types.specs.Texts.{IsPrefixText}
 use Rattle.bgp_types.proofs.ManyLaws.{either_false}
+use Rattle.bgp_types.proofs.OnceLaws.{each_once}
 use Rattle.lab_input.specs.Fields.{Each, GivesPrefix, PrefixesAt}
 
 -- P holds of each value of an array, where it holds of whatever an item gives
@@ -144,4 +145,4 @@ prefixes_written written all enough few = record {
 pub prefixes_said : (t : Members) (key : List ℕ) (ps : List PrefixValue) → PrefixesAt t key ps → AreSaid ps
 prefixes_said t key ps is =
     let all : AllByRecursion IsPrefix is.written = each_all GivesPrefix IsPrefix is.at.items is.written (λ (d : Data) (p : PrefixValue) (gives : GivesPrefix d p). IsPrefix-text gives.text p gives.prefix_text) is.at.gives in
-    subst AreSaid (sym is.once) (prefixes_written is.written all is.at.enough is.at.few)
+    subst AreSaid (sym ((each_once is.written ps).1 is.once)) (prefixes_written is.written all is.at.enough is.at.few)

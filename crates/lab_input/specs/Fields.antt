@@ -7,7 +7,7 @@ use Rattle.bgp_types.specs.declared.attrs.Origin.{Origin}
 use Rattle.bgp_types.specs.declared.attrs.Origin.TheVariants.{Igp, Egp, Incomplete}
 use Rattle.bgp_types.specs.declared.path.PathPart.{PathPart}
 use Rattle.bgp_types.specs.declared.path.PathPart.TheVariants.{Sequence}
-use Rattle.bgp_types.specs.Prefixes.{PrefixValue, once_after}
+use Rattle.bgp_types.specs.Prefixes.{PrefixValue, EachOnce}
 use Rattle.bgp_types.specs.Texts.{IsAddressText, IsPrefixText, IsHost}
 
 abbrev pub is_small_letter : ℕ → Bool
@@ -76,11 +76,11 @@ pub record GivesAs (d : Data) (as_number : ℕ) : Type 0 where
   pub some : 1 ≤ as_number
   pub fits : as_number ≤ 65535
 
--- 1 to 200 prefixes, of which each counts once, at its first place
+-- what 1 to 200 prefixes give: each of them once, in the order of their first places
 pub record PrefixesAt (t : Members) (key : List ℕ) (prefixes : List PrefixValue) : Type 0 where
   pub written : List PrefixValue
   pub at : ArrayAt t key 1 200 GivesPrefix written
-  pub once : prefixes ≡ once_after [] written
+  pub once : EachOnce written prefixes
 
 -- what stands at a key that may be left out, or what counts where it is
 abbrev pub OrElse : {A : Type 0} → Members → List ℕ → (A → Type 0) → A → A → Type 0

@@ -14,8 +14,8 @@ pub record InputOf (bytes : List ℕ) (input : LabInput) : Type 0 where
   pub is : document_of bytes ≡ Some document
   pub gives : GivesLab document input
 
--- A value of the kind is answered, or there is none, or no memory was found.
-abbrev pub Answers : {A : Type 0} → (A → Type 0) → Result A LabStop → Type 0
-Answers Is (Ok x) = Is x
-Answers {A} Is (Err (Bad _)) = (x : A) → ¬ (Is x)
-Answers Is (Err NoMemory) = Unit {0}
+-- A value is given that is so; or no value is so, and then the input is bad; or memory ran out.
+abbrev pub FindsOrStops : {A : Type 0} → (A → Type 0) → Result A LabStop → Type 0
+FindsOrStops Is (Ok x) = Is x
+FindsOrStops {A} Is (Err (Bad _)) = (x : A) → ¬ (Is x)
+FindsOrStops Is (Err NoMemory) = Unit {0}

@@ -4,8 +4,8 @@ ghost use Rattle.std.specs.Prelude.{◌≡◌, List, [], Some, option_map, OnOk}
 ghost use Rattle.toml.specs.Data.{get_member, array};
 ghost use Rattle.toml.specs.View.{view, items_view, table_view};
 ghost use Rattle.bgp_types.specs.Finds.{Finds};
-ghost use Rattle.bgp_types.specs.Prefixes.{PrefixValue, put_once, once_after};
-ghost use Rattle.lab_input.specs.Labs.{Answers};
+ghost use Rattle.bgp_types.specs.Prefixes.{PrefixValue, EachOnce, put_once};
+ghost use Rattle.lab_input.specs.Labs.{FindsOrStops};
 ghost use Rattle.lab_input.specs.Fields.{Each, GivesPrefix, GivesAs, PrefixesAt, ArrayAt};
 
 use crate::fields::{NOT_BUILT, value_at};
@@ -22,12 +22,7 @@ pub(crate) fn array_at<'a>(table: &'a Table, key: &str) -> Option<&'a [Value]>
     ensures { Finds (λ items. get_member key.now (table_view table.now) ≡ Some (array items))
         (option_map (λ values. items_view values.now) result) }
 {
-    let Some(value) = value_at(table, key) else {
-        return None;
-    };
-    let Some(array) = value.as_array() else {
-        return None;
-    };
+    let array = value_at(table, key)?.as_array()?;
     Some(array.as_slice())
 }
 
@@ -35,17 +30,14 @@ pub(crate) fn array_at<'a>(table: &'a Table, key: &str) -> Option<&'a [Value]>
 fn prefix_of(value: &Value) -> Option<Prefix>
     ensures { Finds (GivesPrefix (view value.now)) result }
 {
-    let Some(text) = value.as_str() else {
-        return None;
-    };
-    read_prefix(text)
+    read_prefix(value.as_str()?)
 }
 
 /// Puts a prefix at the end of a list, unless it is there.
 fn put_once(list: &mut PrefixList, prefix: Prefix) -> Result<(), NoMemory>
     ensures { OnOk result (list.new ≡ put_once list.old prefix) }
 {
-    if !list.as_slice().contains(&prefix) {
+    if !list.contains(&prefix) {
         list.push(prefix)?;
     }
     Ok(())
@@ -53,7 +45,7 @@ fn put_once(list: &mut PrefixList, prefix: Prefix) -> Result<(), NoMemory>
 
 /// The prefixes that texts write, each once, at its first place.
 fn prefixes_of(alloc: Global, values: &[Value]) -> Result<PrefixList, LabStop>
-    ensures { Answers (λ prefixes. (written : List PrefixValue) × Each GivesPrefix (items_view values.now) written × (prefixes ≡ once_after [] written)) result }
+    ensures { FindsOrStops (λ prefixes. (written : List PrefixValue) × Each GivesPrefix (items_view values.now) written × EachOnce written prefixes) result }
 {
     let mut prefixes = PrefixList::new(alloc);
     for value in values {
@@ -67,7 +59,7 @@ fn prefixes_of(alloc: Global, values: &[Value]) -> Result<PrefixList, LabStop>
 
 /// The 1 to 200 prefixes of the array at a key, each once.
 pub(crate) fn prefixes_at(alloc: Global, table: &Table, key: &str) -> Result<PrefixList, LabStop>
-    ensures { Answers (PrefixesAt (table_view table.now) key.now) result }
+    ensures { FindsOrStops (PrefixesAt (table_view table.now) key.now) result }
 {
     let Some(values) = array_at(table, key) else {
         return Err(NOT_BUILT);
@@ -90,7 +82,7 @@ fn as_of(value: &Value) -> Option<u32>
 
 /// The AS numbers that values are.
 fn ases_of(alloc: Global, values: &[Value]) -> Result<AsList, LabStop>
-    ensures { Answers (Each GivesAs (items_view values.now)) result }
+    ensures { FindsOrStops (Each GivesAs (items_view values.now)) result }
 {
     let mut ases = AsList::new(alloc);
     for value in values {
@@ -109,7 +101,7 @@ pub(crate) fn ases_at(
     key: &str,
     most: usize,
 ) -> Result<AsList, LabStop>
-    ensures { Answers (ArrayAt (table_view table.now) key.now 0 most GivesAs) result }
+    ensures { FindsOrStops (ArrayAt (table_view table.now) key.now 0 most GivesAs) result }
 {
     let Some(values) = array_at(table, key) else {
         return Err(NOT_BUILT);

@@ -4,7 +4,7 @@ ghost use Rattle.std.specs.Prelude.{◌≡◌, ◌∷◌, [], ℕ, Some, None, I
 ghost use Rattle.toml.specs.View.{table_view};
 ghost use Rattle.bgp_types.specs.Finds.{Finds};
 ghost use Rattle.bgp_types.specs.declared.attrs.Origin.TheVariants as origins;
-ghost use Rattle.lab_input.specs.Labs.{Answers};
+ghost use Rattle.lab_input.specs.Labs.{FindsOrStops};
 ghost use Rattle.lab_input.specs.Fields.{OrElse, OriginAt, origin_text, ArrayAt, GivesAs, NumberAt, HostAt, path_of};
 ghost use Rattle.lab_input.specs.Tables.{GivesAttrs};
 
@@ -20,7 +20,7 @@ const MOST_ASES: usize = 64;
 
 /// The AS numbers of the path, or the remote's alone where none are given.
 fn path_ases(alloc: Global, table: &Table, remote_as: u32) -> Result<AsList, LabStop>
-    ensures { Answers (OrElse (table_view table.now) (codes "path") (ArrayAt (table_view table.now) (codes "path") 0 64 GivesAs) (remote_as ∷ [])) result }
+    ensures { FindsOrStops (OrElse (table_view table.now) (codes "path") (ArrayAt (table_view table.now) (codes "path") 0 64 GivesAs) (remote_as ∷ [])) result }
 {
     if value_at(table, "path").is_none() {
         return Ok(AsList::one(alloc, remote_as)?);
@@ -87,7 +87,7 @@ pub(crate) fn attrs_at(
     table: &Table,
     remote: &PeeringInput,
 ) -> Result<Attrs, LabStop>
-    ensures { Answers (GivesAttrs remote.now (table_view table.now)) result }
+    ensures { FindsOrStops (GivesAttrs remote.now (table_view table.now)) result }
 {
     let ases = path_ases(alloc, table, remote.remote_as)?;
     let Some(origin) = origin_at(table) else {

@@ -7,7 +7,7 @@ ghost use Rattle.std.specs.BTreeMap.{keys};
 ghost use Rattle.toml.specs.Data.{get_member, array, item, no_items, table as data_table};
 ghost use Rattle.toml.specs.View.{view, table_view};
 ghost use Rattle.bgp_types.specs.Finds.{Finds};
-ghost use Rattle.lab_input.specs.Fields.{TextAt, NumberAt, NameAt, HostAt, NamedAt, IsName, is_name_char as is_name_char_lem, is_one_of as is_one_of_lem, stray_in};
+ghost use Rattle.lab_input.specs.Fields.{TextAt, NumberAt, NameAt, HostAt, NamedAt, IsName, is_name_char, is_one_of, stray_in};
 
 use crate::input::{BadInput, LabStop};
 use bgp_types::{is_host, read_address};
@@ -17,13 +17,13 @@ use toml::{Table, Value};
 pub(crate) const NOT_BUILT: LabStop = LabStop::Bad(BadInput::NotBuilt);
 
 fn is_name_char(c: u8) -> bool
-    ensures { result ≡ is_name_char_lem c }
+    ensures { result ≡ is_name_char c }
 {
     c.is_ascii_lowercase() || c.is_ascii_digit() || c == b'-'
 }
 
 fn are_name_chars(bytes: &[u8]) -> bool
-    ensures { result ≡ list_all is_name_char_lem bytes.now }
+    ensures { result ≡ list_all is_name_char bytes.now }
 {
     bytes.iter().all(|c| is_name_char(*c))
 }
@@ -98,13 +98,7 @@ fn item_at<'a>(table: &'a Table, key: &str) -> Option<&'a Value>
     ensures { Finds (λ d. get_member key.now (table_view table.now) ≡ Some (array (item d no_items)))
         (option_map (λ v. view v.now) result) }
 {
-    let Some(value) = value_at(table, key) else {
-        return None;
-    };
-    let Some(array) = value.as_array() else {
-        return None;
-    };
-    let values = array.as_slice();
+    let values = value_at(table, key)?.as_array()?.as_slice();
     if values.len() == 1 {
         Some(&values[0])
     } else {
@@ -117,10 +111,7 @@ pub(crate) fn table_at<'a>(table: &'a Table, key: &str) -> Option<&'a Table>
     ensures { Finds (λ t. get_member key.now (table_view table.now) ≡ Some (array (item (data_table t) no_items)))
         (option_map (λ t. table_view t.now) result) }
 {
-    let Some(value) = item_at(table, key) else {
-        return None;
-    };
-    value.as_table()
+    item_at(table, key)?.as_table()
 }
 
 /// Whether a text is one of these keys.
@@ -138,7 +129,7 @@ fn any_stray(table: &Table, known: &[&str]) -> bool
 
 /// Whether a table has a key beside these.
 pub(crate) fn has_stray(table: &Table, known: &[&str]) -> bool
-    ensures { result ≡ is_some (stray_in (is_one_of_lem (map (λ k. k.now) known.now)) (table_view table.now)) }
+    ensures { result ≡ is_some (stray_in (is_one_of (map (λ k. k.now) known.now)) (table_view table.now)) }
 {
     any_stray(table, known)
 }

@@ -15,6 +15,3 @@ pub use input::{
 };
 pub use laws::accepted_is_ready;
 pub use read::{MOST_BYTES, read_lab};
-
-#[cfg(test)]
-mod tests;

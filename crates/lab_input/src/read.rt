@@ -2,7 +2,7 @@
 
 ghost use Rattle.std.specs.Prelude.{◌≡◌, ◌∷◌, [], IfOk, is_some};
 ghost use Rattle.toml.specs.View.{table_view};
-ghost use Rattle.lab_input.specs.Labs.{InputOf, Answers};
+ghost use Rattle.lab_input.specs.Labs.{InputOf, FindsOrStops};
 ghost use Rattle.lab_input.specs.Fields.{is_one_of, stray_in};
 ghost use Rattle.lab_input.specs.Tables.{GivesRouter, GivesPeering, GivesLab, peering_keys};
 
@@ -17,7 +17,7 @@ use toml::Table;
 pub const MOST_BYTES: usize = 4_194_304;
 
 fn read_router(alloc: Global, table: &Table) -> Result<RouterInput, LabStop>
-    ensures { Answers (GivesRouter (table_view table.now)) result }
+    ensures { FindsOrStops (GivesRouter (table_view table.now)) result }
 {
     let Some(name) = name_at(table, "name") else {
         return Err(NOT_BUILT);
@@ -52,7 +52,7 @@ fn read_peering(
     home_as: u32,
     router: &RouterInput,
 ) -> Result<PeeringInput, LabStop>
-    ensures { Answers (GivesPeering home_as (router.now ∷ []) (table_view table.now)) result }
+    ensures { FindsOrStops (GivesPeering home_as (router.now ∷ []) (table_view table.now)) result }
 {
     let Some(name) = name_at(table, "name") else {
         return Err(NOT_BUILT);
@@ -107,7 +107,7 @@ fn input_of_one(
 
 /// The input of a document of one router, one peering and steps.
 fn read_document(alloc: Global, doc: &Table) -> Result<LabInput, LabStop>
-    ensures { Answers (GivesLab (table_view doc.now)) result }
+    ensures { FindsOrStops (GivesLab (table_view doc.now)) result }
 {
     let Some(home_as) = number_at(doc, "home_as", 1, 65535) else {
         return Err(NOT_BUILT);
@@ -121,7 +121,7 @@ fn read_document(alloc: Global, doc: &Table) -> Result<LabInput, LabStop>
     };
     let peering = read_peering(alloc, peering, home_as, &router)?;
     let steps = steps_at(alloc, doc, &peering)?;
-    if !name_few(steps.as_slice()) {
+    if !name_few(&steps) {
         return Err(NOT_BUILT);
     }
     if has_stray(doc, &["home_as", "router", "peering", "step"]) {
@@ -133,7 +133,7 @@ fn read_document(alloc: Global, doc: &Table) -> Result<LabInput, LabStop>
 /// Reads the input that the bytes are, at most 4 MiB of TOML: one router, one peering, and 0 to 4,096
 /// steps that name at most 4,096 prefixes together. `Bad` says that they are no input.
 pub fn read_lab(alloc: Global, bytes: &[u8]) -> Result<LabInput, LabStop>
-    ensures { Answers (InputOf bytes.now) result }
+    ensures { FindsOrStops (InputOf bytes.now) result }
 {
     if bytes.len() > MOST_BYTES {
         return Err(NOT_BUILT);

@@ -2,7 +2,7 @@
 
 ghost use Rattle.std.specs.Prelude.{◌≡◌, ◌≤◌, ◌↔◌, ◌∷◌, [], codes, sum_by, IsTrue, is_some};
 ghost use Rattle.toml.specs.View.{view, items_view, table_view};
-ghost use Rattle.lab_input.specs.Labs.{Answers};
+ghost use Rattle.lab_input.specs.Labs.{FindsOrStops};
 ghost use Rattle.lab_input.specs.Fields.{TextAt, Each, ArrayAt, GivesTable, OrElse, is_one_of, stray_in};
 ghost use Rattle.lab_input.specs.Tables.{GivesStep, announce_keys, prefixes_in};
 
@@ -33,7 +33,7 @@ fn has_stray_of_announce(table: &Table) -> bool
 /// A step of the one peering that announces.
 fn read_announce(alloc: Global, table: &Table, peering: &PeeringInput) -> Result<Step, LabStop>
     requires { TextAt (table_view table.now) (codes "do") (codes "announce") }
-    ensures { Answers (GivesStep (peering.now ∷ []) (table_view table.now)) result }
+    ensures { FindsOrStops (GivesStep (peering.now ∷ []) (table_view table.now)) result }
 {
     if !is_named_at(table, "peering", peering.name.as_str()) {
         return Err(NOT_BUILT);
@@ -53,7 +53,7 @@ fn read_announce(alloc: Global, table: &Table, peering: &PeeringInput) -> Result
 /// A step of the one peering that withdraws.
 fn read_withdraw(alloc: Global, table: &Table, peering: &PeeringInput) -> Result<Step, LabStop>
     requires { TextAt (table_view table.now) (codes "do") (codes "withdraw") }
-    ensures { Answers (GivesStep (peering.now ∷ []) (table_view table.now)) result }
+    ensures { FindsOrStops (GivesStep (peering.now ∷ []) (table_view table.now)) result }
 {
     if !is_named_at(table, "peering", peering.name.as_str()) {
         return Err(NOT_BUILT);
@@ -70,7 +70,7 @@ fn read_withdraw(alloc: Global, table: &Table, peering: &PeeringInput) -> Result
 
 /// A step of the one peering.
 fn read_step(alloc: Global, table: &Table, peering: &PeeringInput) -> Result<Step, LabStop>
-    ensures { Answers (GivesStep (peering.now ∷ []) (table_view table.now)) result }
+    ensures { FindsOrStops (GivesStep (peering.now ∷ []) (table_view table.now)) result }
 {
     match text_at(table, "do") {
         Some("announce") => read_announce(alloc, table, peering),
@@ -81,7 +81,7 @@ fn read_step(alloc: Global, table: &Table, peering: &PeeringInput) -> Result<Ste
 
 /// The step that a value is.
 fn step_of(alloc: Global, value: &Value, peering: &PeeringInput) -> Result<Step, LabStop>
-    ensures { Answers (GivesTable (GivesStep (peering.now ∷ [])) (view value.now)) result }
+    ensures { FindsOrStops (GivesTable (GivesStep (peering.now ∷ [])) (view value.now)) result }
 {
     let Some(table) = value.as_table() else {
         return Err(NOT_BUILT);
@@ -91,7 +91,7 @@ fn step_of(alloc: Global, value: &Value, peering: &PeeringInput) -> Result<Step,
 
 /// The steps that values are.
 fn steps_of(alloc: Global, values: &[Value], peering: &PeeringInput) -> Result<Steps, LabStop>
-    ensures { Answers (Each (GivesTable (GivesStep (peering.now ∷ []))) (items_view values.now)) result }
+    ensures { FindsOrStops (Each (GivesTable (GivesStep (peering.now ∷ []))) (items_view values.now)) result }
 {
     let mut steps = Steps::new(alloc);
     for value in values {
@@ -102,7 +102,7 @@ fn steps_of(alloc: Global, values: &[Value], peering: &PeeringInput) -> Result<S
 
 /// The steps of the array in a document, none where there is no such key.
 pub(crate) fn steps_at(alloc: Global, doc: &Table, peering: &PeeringInput) -> Result<Steps, LabStop>
-    ensures { Answers (OrElse (table_view doc.now) (codes "step") (ArrayAt (table_view doc.now) (codes "step") 0 4096 (GivesTable (GivesStep (peering.now ∷ [])))) []) result }
+    ensures { FindsOrStops (OrElse (table_view doc.now) (codes "step") (ArrayAt (table_view doc.now) (codes "step") 0 4096 (GivesTable (GivesStep (peering.now ∷ [])))) []) result }
 {
     if value_at(doc, "step").is_none() {
         return Ok(Steps::new(alloc));

@@ -6,7 +6,7 @@ use Rattle.lab_input.specs.declared.input.BadInput.{BadInput}
 use Rattle.lab_input.specs.declared.input.LabInput.{LabInput}
 use Rattle.lab_input.specs.declared.input.LabStop.{LabStop}
 use Rattle.lab_input.specs.declared.input.LabStop.TheVariants.{Bad}
-use Rattle.lab_input.specs.Labs.{InputOf, Answers}
+use Rattle.lab_input.specs.Labs.{InputOf, FindsOrStops}
 use Rattle.lab_top.specs.Ends.{Writes}
 
 -- under its own status a text was appended whole
@@ -22,8 +22,8 @@ AppendedFront-under text planned faults_before faults_after before after status 
 AppendedFront-under text planned faults_before faults_after before after status (inr front) five same = front.2
 
 -- a refusal of the bytes says that they are no input
-pub no_input : (bytes read : List ℕ) (stop : LabStop) (bad : BadInput) → read ≡ bytes → stop ≡ Bad bad → Answers (InputOf read) (Err stop) → (input : LabInput) → ¬ (InputOf bytes input)
+pub no_input : (bytes read : List ℕ) (stop : LabStop) (bad : BadInput) → read ≡ bytes → stop ≡ Bad bad → FindsOrStops (InputOf read) (Err stop) → (input : LabInput) → ¬ (InputOf bytes input)
 no_input bytes read stop bad same is answers input found =
-    let refused : Answers (InputOf read) (Err (Bad bad)) = subst (λ s. Answers (InputOf read) (Err s)) is answers in
-    let none : Answers (InputOf bytes) (Err (Bad bad)) = subst (λ bs. Answers (InputOf bs) (Err (Bad bad))) same refused in
+    let refused : FindsOrStops (InputOf read) (Err (Bad bad)) = subst (λ s. FindsOrStops (InputOf read) (Err s)) is answers in
+    let none : FindsOrStops (InputOf bytes) (Err (Bad bad)) = subst (λ bs. FindsOrStops (InputOf bs) (Err (Bad bad))) same refused in
     none input found

@@ -4,9 +4,9 @@ ghost use Rattle.std.specs.Prelude.{◌≡◌, false, All, IfOk, map};
 ghost use Rattle.bgp_types.specs.declared.message.Message.TheVariants as messages;
 ghost use Rattle.bgp_types.specs.Spelling.{spell};
 ghost use Rattle.bgp_types.specs.Writable.{IsWritable};
-ghost use Rattle.lab_input.specs.Said.{update_of as update_of_lem, IsReady};
+ghost use Rattle.lab_input.specs.Said.{update_of, IsReady};
 ghost use Rattle.pipe_model.specs.Pipes.{IsSound};
-ghost use Rattle.lab_top.specs.Seen.{PipeOf, said_by as said_by_lem};
+ghost use Rattle.lab_top.specs.Seen.{PipeOf, said_by};
 
 use bgp_types::{Items, Message, NoMemory, Octets, TryCopy, Update};
 use bgp_wire::write_message;
@@ -16,7 +16,7 @@ use std::alloc::Global;
 
 /// The UPDATE that a step says.
 fn update_of(alloc: Global, step: &Step) -> Result<Update, NoMemory>
-    ensures { IfOk result (λ update. update ≡ update_of_lem step.now) }
+    ensures { IfOk result (λ update. update ≡ update_of step.now) }
 {
     match step {
         Step::Announce {
@@ -38,8 +38,8 @@ fn update_of(alloc: Global, step: &Step) -> Result<Update, NoMemory>
 
 /// The octets that a step says.
 fn said_by(alloc: Global, step: &Step) -> Result<Octets, NoMemory>
-    requires { IsWritable (messages.UpdateMsg (update_of_lem step.now)) false }
-    ensures { IfOk result (λ octets. octets ≡ said_by_lem step.now) }
+    requires { IsWritable (messages.UpdateMsg (update_of step.now)) false }
+    ensures { IfOk result (λ octets. octets ≡ said_by step.now) }
 {
     let update = update_of(alloc, step)?;
     write_message(alloc, &Message::UpdateMsg(update), false)
@@ -47,8 +47,8 @@ fn said_by(alloc: Global, step: &Step) -> Result<Octets, NoMemory>
 
 /// What each step says.
 fn says_of(alloc: Global, steps: &[Step]) -> Result<Items<Octets>, NoMemory>
-    requires { All (λ step. IsWritable (messages.UpdateMsg (update_of_lem step)) false) steps.now }
-    ensures { IfOk result (λ says. says ≡ map said_by_lem steps.now) }
+    requires { All (λ step. IsWritable (messages.UpdateMsg (update_of step)) false) steps.now }
+    ensures { IfOk result (λ says. says ≡ map said_by steps.now) }
 {
     let mut says = Items::new(alloc);
     for step in steps {
@@ -63,8 +63,8 @@ pub fn pipe_of(alloc: Global, input: &LabInput) -> Result<Pipe, NoMemory>
     ensures of { IfOk result (λ pipe. PipeOf input.now pipe) }
     ensures sound { IfOk result (λ pipe. IsSound pipe) }
 {
-    let router = &input.routers.as_slice()[0];
-    let peering = &input.peerings.as_slice()[0];
+    let router = &input.routers[0];
+    let peering = &input.peerings[0];
     Ok(Pipe {
         home_as: input.home_as,
         identifier: router.id,
@@ -72,6 +72,6 @@ pub fn pipe_of(alloc: Global, input: &LabInput) -> Result<Pipe, NoMemory>
         remote_as: peering.remote_as,
         remote_address: peering.remote_address,
         local_address: peering.local_address,
-        says: says_of(alloc, input.steps.as_slice())?,
+        says: says_of(alloc, &input.steps)?,
     })
 }

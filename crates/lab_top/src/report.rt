@@ -4,7 +4,7 @@ ghost use Rattle.std.specs.Prelude.{◌≡◌, ◌++◌, Some, OnOk, IfOk, strin
 ghost use Rattle.std.specs.List.{flat_map, enumerate_from};
 ghost use Rattle.bgp_story.specs.Legal.{Peering};
 ghost use Rattle.bgp_story.specs.States.{state_of};
-ghost use Rattle.lab_top.specs.Report.{ases_text, part_text, path_text, from_text, router_name as router_name_lem, peering_name as peering_name_lem, best_line, router_lines, peering_line, named_line, table_lines, place_words, state_words, session_words, place_text, state_text, report_text, IsCounted, AreCounted};
+ghost use Rattle.lab_top.specs.Report.{ases_text, part_text, path_text, from_text, router_name, peering_name, best_line, router_lines, peering_line, named_line, table_lines, place_words, state_words, session_words, place_text, state_text, report_text, IsCounted, AreCounted};
 
 use crate::lab::{BestEntry, Lab, Place, RouterTable, RunEnd, SessionView};
 use bgp_types::{AsList, AsPath, From, NoMemory, PathPart, SessionState};
@@ -14,9 +14,9 @@ use std::fmt::Write;
 
 /// The name of a router of the input.
 fn router_name(input: &LabInput, place: u8) -> &str
-    ensures { result.now ≡ router_name_lem input.now place }
+    ensures { result.now ≡ router_name input.now place }
 {
-    match input.routers.as_slice().get(usize::from(place)) {
+    match input.routers.get(usize::from(place)) {
         Some(router) => router.name.as_str(),
         None => "-",
     }
@@ -24,9 +24,9 @@ fn router_name(input: &LabInput, place: u8) -> &str
 
 /// The name of a peering of the input.
 fn peering_name(input: &LabInput, place: u8) -> &str
-    ensures { result.now ≡ peering_name_lem input.now place }
+    ensures { result.now ≡ peering_name input.now place }
 {
-    match input.peerings.as_slice().get(usize::from(place)) {
+    match input.peerings.get(usize::from(place)) {
         Some(peering) => peering.name.as_str(),
         None => "-",
     }
@@ -47,7 +47,7 @@ fn push_further_ases(text: &mut String, ases: &[u32]) -> Result<(), NoMemory>
 fn push_ases(text: &mut String, ases: &AsList) -> Result<(), NoMemory>
     ensures { OnOk result (string_bytes text.new ≡ string_bytes text.old ++ ases_text ases.now) }
 {
-    let Some((first, further)) = ases.as_slice().split_first() else {
+    let Some((first, further)) = ases.split_first() else {
         return Ok(());
     };
     write!(text, "{first}")?;
@@ -84,7 +84,7 @@ fn push_further_parts(text: &mut String, parts: &[PathPart]) -> Result<(), NoMem
 fn push_path(text: &mut String, path: &AsPath) -> Result<(), NoMemory>
     ensures { OnOk result (string_bytes text.new ≡ string_bytes text.old ++ path_text path.now) }
 {
-    let Some((first, further)) = path.as_slice().split_first() else {
+    let Some((first, further)) = path.split_first() else {
         text.push_str("-")?;
         return Ok(());
     };
@@ -128,8 +128,7 @@ fn push_best(text: &mut String, input: &LabInput, best: &BestEntry) -> Result<()
 fn push_table(text: &mut String, input: &LabInput, table: &RouterTable) -> Result<(), NoMemory>
     ensures { OnOk result (string_bytes text.new ≡ string_bytes text.old ++ flat_map (best_line input.now) table.now.best) }
 {
-    let best = table.best.as_slice();
-    for entry in best {
+    for entry in &table.best {
         push_best(text, input, entry)?;
     }
     Ok(())
@@ -149,7 +148,7 @@ fn push_name(text: &mut String, name: &str) -> Result<(), NoMemory>
 fn push_table_at(text: &mut String, lab: &Lab, place: usize) -> Result<(), NoMemory>
     ensures { OnOk result (string_bytes text.new ≡ string_bytes text.old ++ table_lines lab.now.input (slice_get lab.now.tables place)) }
 {
-    match lab.tables.as_slice().get(place) {
+    match lab.tables.get(place) {
         Some(table) => push_table(text, &lab.input, table),
         None => Ok(()),
     }
@@ -183,7 +182,7 @@ fn state_name(state: SessionState) -> &'static str
 fn place_name<'a>(lab: &'a Lab, place: usize) -> &'a str
     ensures { result.now ≡ place_text lab.now.input (slice_get lab.now.placement place) }
 {
-    match lab.placement.as_slice().get(place) {
+    match lab.placement.get(place) {
         Some(Place::Held(router)) => router_name(&lab.input, router.0),
         None => "-",
     }
@@ -231,7 +230,7 @@ fn push_peering(
     requires at { slice_get lab.now.input.peerings place ≡ Some peering.now }
     ensures { OnOk result (string_bytes text.new ≡ string_bytes text.old ++ peering_line lab.now (place, peering.now)) }
 {
-    match lab.sessions.as_slice().get(place) {
+    match lab.sessions.get(place) {
         Some(view) => push_view(text, peering.name.as_str(), place_name(lab, place), view),
         None => Ok(()),
     }

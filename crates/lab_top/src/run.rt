@@ -52,7 +52,7 @@ fn seen_of(alloc: Global, input: LabInput, world: PipeWorld) -> Result<Lab, NoMe
 {
     let table = table_of(alloc, &world.loc)?;
     let pointer = world.pipe.start;
-    let received = Octets::from_slice(alloc, &world.put.as_slice()[..world.received])?;
+    let received = Octets::from_slice(alloc, &world.put[..world.received])?;
     let heard = world.heard.len();
     let PipeWorld {
         story,

@@ -119,7 +119,7 @@ where
         Err(ReadStop::TooLong) => return end_with(sink, NOT_BUILT_TEXT.as_bytes(), BAD_INPUT, None),
         Err(ReadStop::NoMemory) => return without_run(NO_MEMORY),
     };
-    let input = match read_lab(alloc, bytes.as_slice()) {
+    let input = match read_lab(alloc, &bytes) {
         Ok(input) => input,
         Err(LabStop::Bad(_)) => return end_with(sink, NOT_BUILT_TEXT.as_bytes(), BAD_INPUT, None),
         Err(LabStop::NoMemory) => return without_run(NO_MEMORY),

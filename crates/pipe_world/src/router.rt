@@ -36,7 +36,7 @@ fn make_due(due: &mut TrieTable<()>, prefix: Prefix, wanted: bool) -> Result<(),
 
 impl PipeWorld {
     /// Ends that prefixes are due, where none is dirty: each best route came from the session, so
-    /// nothing is told. Answers whether some were.
+    /// nothing is told. FindsOrStops whether some were.
     pub fn pass(&mut self) -> Result<bool, NoMemory>
         requires { Stands self.old }
         ensures went { IfOk result (λ made. Went made self.old self.new) }

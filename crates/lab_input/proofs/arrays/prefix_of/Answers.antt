@@ -4,4 +4,4 @@ use Rattle.lab_input.proofs.Repeated.{text_gives}
 use Rattle.lab_input.proofs.arrays.prefix_of.Goals as goal
 
 pub returns : goal.returns
-returns c = text_gives (view c.args.value.now) c.in-Some.text.now (as_str-string _ _ c.in-Some.ensures) c.read_prefix.result c.read_prefix.ensures
+returns c = text_gives (view c.args.value.now) c.in_ok-as_str.field-0.now (as_str-string _ _ c.in_ok-as_str.ensures) c.read_prefix.result c.read_prefix.ensures

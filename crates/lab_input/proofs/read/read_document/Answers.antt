@@ -19,11 +19,11 @@ pub returns-then-not-name_few : goal.returns-then-not-name_few
 returns-then-not-name_few c =
     too_many_named (table_view c.args.doc.now) (table_view c.in-Some-table_at-2.peering.now) c.in-Some.home_as c.in_ok-router.router c.in_ok-peering.peering c.in-Some-table_at-2.ensures c.in_ok-peering.ensures
     c.in_ok-steps.steps c.in_ok-steps.ensures
-    (λ few. false≢true (sym c.if-not-name_few.true ∙ c.name_few.ensures.1 (subst (λ steps. sum_by prefixes_in steps ≤ 4096) (sym c.as_slice.ensures) few)))
+    (λ few. false≢true (sym c.if-not-name_few.true ∙ c.name_few.ensures.1 (subst (λ steps. sum_by prefixes_in steps ≤ 4096) (sym c.deref.ensures) few)))
 
 pub returns : goal.returns
 returns c =
-    let few : sum_by prefixes_in c.in_ok-steps.steps ≤ 4096 = subst (λ steps. sum_by prefixes_in steps ≤ 4096) c.as_slice.ensures (c.name_few.ensures.0 c.if-not-name_few.false) in
+    let few : sum_by prefixes_in c.in_ok-steps.steps ≤ 4096 = subst (λ steps. sum_by prefixes_in steps ≤ 4096) c.deref.ensures (c.name_few.ensures.0 c.if-not-name_few.false) in
     subst (λ (input : LabInput). GivesLab (table_view c.args.doc.now) input) (sym c.in_ok-input_of_one.ensures)
     (record {
       home_as = search rules;

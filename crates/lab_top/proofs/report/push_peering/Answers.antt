@@ -12,7 +12,7 @@ returns-in-Some c =
     let view : SessionView = c.in-Some.view.now in
     let found : slice_get lab.sessions c.args.place ≡ Some view =
     let inside = c.in-Some.ensures.lookup.3 in
-    ap (λ vs. slice_get vs c.args.place) (sym c.as_slice.ensures) ∙ slice_get_read c.as_slice.result.now (length c.as_slice.result.now) c.args.place view refl inside.0 c.in-Some.ensures.lookup.1 in
+    ap (λ vs. slice_get vs c.args.place) (sym c.deref.ensures) ∙ slice_get_read c.deref.result.now (length c.deref.result.now) c.args.place view refl inside.0 c.in-Some.ensures.lookup.1 in
     let at = place_text lab.input (slice_get lab.placement c.args.place) in
     let words = session_words (peering_of lab.input p) view.story.lines in
     let line : place_words c.as_str.result.now c.place_name.result.now ++ words ≡ peering_line lab (c.args.place, p) =
@@ -26,6 +26,6 @@ pub returns-in-None : goal.returns-in-None
 returns-in-None c =
     let lab = c.args.lab.now in
     let none : slice_get lab.sessions c.args.place ≡ None =
-    ap (λ vs. slice_get vs c.args.place) (sym c.as_slice.ensures) ∙ slice_get_past c.as_slice.result.now c.args.place c.in-None.ensures.lookup.3 in
+    ap (λ vs. slice_get vs c.args.place) (sym c.deref.ensures) ∙ slice_get_past c.deref.result.now c.args.place c.in-None.ensures.lookup.3 in
     let line = ap (λ found. view_words (peering_of lab.input c.args.peering.now) found (place_words c.args.peering.now.name (place_text lab.input (slice_get lab.placement c.args.place)))) none in
     sym (append-nil (string_bytes c.args.text.now)) ∙ ap (λ (l : List ℕ). string_bytes c.args.text.now ++ l) (sym line)

@@ -9,6 +9,6 @@ returns-clause-observed c =
       end = refl;
       placement = c.in_ok-one.ensures;
       sessions = seen_session w c.len-heard.result 0 c.in_ok-one-2.field-0 c.requires.kept.remote c.len-heard.ensures refl c.in_ok-one-2.ensures;
-      far = c.in_ok-one-3.ensures ∙ ap (λ r. record { said = w.said; received = r; pointer = w.pipe.start } ∷ []) (c.in_ok-received.ensures ∙ ap (take w.received) c.as_slice.ensures);
+      far = c.in_ok-one-3.ensures ∙ ap (λ r. record { said = w.said; received = r; pointer = w.pipe.start } ∷ []) (c.in_ok-received.ensures ∙ ap (take w.received) c.deref.ensures);
       tables = c.in_ok-one-4.ensures ∙ ap (λ best. record { best = best } ∷ []) c.in_ok-table.ensures;
     }

@@ -11,7 +11,7 @@ returns-in-Err-Bad-clause-bad_input g c = λ _.
     record {
       bytes = c.in-Ok.bytes;
       took = c.in-Ok.ensures.whole;
-      cause = inr (c.in-Ok.ensures.end.1, no_input c.in-Ok.bytes c.as_slice.result.now c.in-Err-Bad.field-0 c.in-Err-Bad.field-0-0 c.as_slice.ensures c.in-Err-Bad.field-0-is c.in-Err-Bad.ensures);
+      cause = inr (c.in-Ok.ensures.end.1, no_input c.in-Ok.bytes c.deref.result.now c.in-Err-Bad.field-0 c.in-Err-Bad.field-0-0 c.deref.ensures c.in-Err-Bad.field-0-is c.in-Err-Bad.ensures);
     }
 
 pub returns-in-Err-Bad-clause-bad_input_text : goal.returns-in-Err-Bad-clause-bad_input_text
@@ -29,7 +29,7 @@ returns-in-Err-Bad-clause-bad_input_unwritten g c = λ five run none.
       record {
         bytes = c.in-Ok.bytes;
         took = c.in-Ok.ensures.whole;
-        cause = inr (c.in-Ok.ensures.end.1, no_input c.in-Ok.bytes c.as_slice.result.now c.in-Err-Bad.field-0 c.in-Err-Bad.field-0-0 c.as_slice.ensures c.in-Err-Bad.field-0-is c.in-Err-Bad.ensures);
+        cause = inr (c.in-Ok.ensures.end.1, no_input c.in-Ok.bytes c.deref.result.now c.in-Err-Bad.field-0 c.in-Err-Bad.field-0-0 c.deref.ensures c.in-Err-Bad.field-0-is c.in-Err-Bad.ensures);
       },
       subst (λ text. AppendedFront before after text) c.as_bytes-in-Err-Bad.ensures.value
           (AppendedFront-under c.as_bytes-in-Err-Bad.result.now 2 (g.K.Sink.faults c.args.sink.now) (g.K.Sink.faults c.end_with-in-Err-Bad.new.sink) before after
