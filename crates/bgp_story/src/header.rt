@@ -1,49 +1,19 @@
 //! The type of what was got (RFC 4271, section 4.1).
 
-ghost use Rattle.std.specs.Prelude.{◌≡◌, ◌==◌, ◌≤◌, length};
-ghost use Rattle.std.specs.List.{list_all};
-ghost use Rattle.bgp_types.specs.Header.{len_in};
-ghost use Rattle.bgp_story.specs.States.{is_type};
+ghost use Rattle.std.specs.Prelude.{◌≡◌};
+ghost use Rattle.bgp_story.specs.States.{is_type as is_type_lem};
 
-use byteorder::{BigEndian, ByteOrder};
+use bgp_types::{HEADER, header_fault};
 
-/// The octets of a header.
-const HEADER: usize = 19;
+/// The type of a NOTIFICATION.
+pub const NOTIFICATION: u8 = 3;
 
-/// The length that a header says.
-fn len_of(octets: &[u8]) -> u16
-    requires { 19 ≤ length octets.now }
-    ensures { result ≡ len_in octets.now }
+/// The type of a KEEPALIVE.
+pub const KEEPALIVE: u8 = 4;
+
+/// Whether octets begin with a sound header of this type.
+pub fn is_type(kind: u8, octets: &[u8]) -> bool
+    ensures { result ≡ is_type_lem kind octets.now }
 {
-    BigEndian::read_u16(&octets[16..18])
-}
-
-fn is_marker(octets: &[u8]) -> bool
-    ensures { result ≡ list_all (λ octet. octet == 255) octets.now }
-{
-    octets.iter().all(|octet| *octet == 0xFF)
-}
-
-/// Whether octets begin with a sound header of a NOTIFICATION.
-#[tactic(auto, unfolding(bgp_types::specs::Header::header_fault))]
-pub fn is_notification(octets: &[u8]) -> bool
-    ensures { result ≡ is_type 3 octets.now }
-{
-    if octets.len() < HEADER {
-        return false;
-    }
-    let (marker, _) = octets.split_at(16);
-    is_marker(marker) && (21..=4096).contains(&len_of(octets)) && octets[18] == 3
-}
-
-/// Whether octets begin with a sound header of a KEEPALIVE.
-#[tactic(auto, unfolding(bgp_types::specs::Header::header_fault))]
-pub fn is_keepalive(octets: &[u8]) -> bool
-    ensures { result ≡ is_type 4 octets.now }
-{
-    if octets.len() < HEADER {
-        return false;
-    }
-    let (marker, _) = octets.split_at(16);
-    is_marker(marker) && len_of(octets) == 19 && octets[18] == 4
+    octets.len() >= HEADER && header_fault(octets).is_none() && octets[18] == kind
 }

@@ -6,7 +6,7 @@ ghost use Rattle.bgp_story.specs.Legal.{IsPeering};
 ghost use Rattle.bgp_story.specs.States.{Begins, state_of, after_put as after_put_lem, after_got as after_got_lem};
 ghost use Rattle.bgp_story.specs.declared.line.Line.TheVariants.{Put, Got, Tick};
 
-use crate::header::{is_keepalive, is_notification};
+use crate::header::{KEEPALIVE, NOTIFICATION, is_type};
 use crate::line::Line;
 use bgp_types::{Message, NoMemory, Octets, OpenMsg, SessionState};
 use std::alloc::Global;
@@ -47,10 +47,10 @@ fn after_put(state: SessionState, message: &Message) -> SessionState
 fn after_got(state: SessionState, octets: &[u8]) -> SessionState
     ensures { result ≡ after_got_lem state octets.now }
 {
-    if is_notification(octets) {
+    if is_type(NOTIFICATION, octets) {
         return SessionState::Closed;
     }
-    if state == SessionState::OpenConfirm && is_keepalive(octets) {
+    if state == SessionState::OpenConfirm && is_type(KEEPALIVE, octets) {
         return SessionState::Established;
     }
     state

@@ -3,7 +3,7 @@
 ghost use Rattle.std.specs.Prelude.{◌≡◌, ◌↔◌, [], length, IsTrue, IsSome, IsNone, OnOk, OnErr};
 ghost use Rattle.std.specs.Option.{option_copied};
 ghost use Rattle.decision_core.specs.Choice.{choice};
-ghost use Rattle.decision_groups.specs.Order.{IsInOrder, rank_of, with_rank, without};
+ghost use Rattle.decision_groups.specs.Order.{IsInOrder, rank_at, with_rank, without};
 
 use crate::groups::{Groups, best_champion, join, leave};
 use crate::ranks::Ranks;
@@ -14,8 +14,9 @@ use std::marker::Model;
 
 /// The ranks of the routes to one prefix, at most one of each `From`. Contracts see the list of them
 /// in the order of candidates: the own network, then peerings by rising number, then routers by rising
-/// number. They are kept in groups by neighbour AS, each with its champion, so that a change of one
-/// rank looks at no rank of another neighbour.
+/// number. They are kept in groups by neighbour AS, each with its champion, so that a change of one rank
+/// looks through the group of its neighbour AS alone. Where a rank replaces one of another neighbour AS,
+/// the group of that one is looked through too.
 #[derive(Drop)]
 pub struct GroupSet {
     alloc: Global,
@@ -25,10 +26,10 @@ pub struct GroupSet {
 
 impl Model for GroupSet {
     ghost use Rattle.std.specs.Prelude.{List};
-    ghost use Rattle.decision_groups.specs.Order.{Candidate};
+    ghost use Rattle.decision_groups.specs.Order.{RankedSource};
     ghost use Rattle.decision_groups.specs.Groups.{AreGroupsOf};
 
-    ghost Value = { List Candidate };
+    ghost Value = { List RankedSource };
 
     ghost view = { λ s. s.ranks };
 
@@ -62,12 +63,13 @@ impl GroupSet {
 
     /// The rank of the route that comes from there.
     pub fn get(&self, from: From) -> Option<&Rank>
-        ensures { option_copied result ≡ rank_of self.now from }
+        ensures { option_copied result ≡ rank_at self.now from }
     {
         self.ranks.get(from)
     }
 
-    /// Puts a rank in its place, where it replaces the one that came from there before.
+    /// Puts a rank in its place, where it replaces the one that came from there before. If memory runs
+    /// out, nothing changes.
     pub fn set(&mut self, from: From, rank: Rank) -> Result<(), NoMemory>
         ensures ok { OnOk result (self.new ≡ with_rank self.old from rank) }
         ensures err { OnErr result (self.new ≡ self.old) }
@@ -89,10 +91,10 @@ impl GroupSet {
         }
     }
 
-    /// Takes out the rank of what comes from there, and answers whether there was one. It takes no
-    /// memory.
+    /// Takes out the rank of the route that comes from there, and answers whether there was one. It takes
+    /// no memory.
     pub fn remove(&mut self, from: From) -> bool
-        ensures removed { IsTrue result ↔ IsSome (rank_of self.old from) }
+        ensures removed { IsTrue result ↔ IsSome (rank_at self.old from) }
         ensures left { self.new ≡ without self.old from }
         ensures in_order { IsInOrder self.new }
     {
@@ -105,16 +107,15 @@ impl GroupSet {
         }
     }
 
-    /// Where the route comes from that the nine rules of the decision process choose. Of ranks that are
-    /// equal by all nine the first in the order of candidates is chosen. It takes no memory.
+    /// Where the route comes from that the nine rules of the decision process choose (RFC 4271, section
+    /// 9.1.2.2). Of the routes that all nine leave, which are equal by them, it is the first in the order
+    /// of candidates. An equal one that is not left may stand before it: one that a third route took out
+    /// by its MED. It takes no memory.
     pub fn best(&self) -> Option<From>
         ensures empty { IsNone result ↔ (self.now ≡ []) }
         ensures choice { result ≡ choice self.now }
         ensures in_order { IsInOrder self.now }
     {
-        match best_champion(&self.groups) {
-            Some((from, _)) => Some(from),
-            None => None,
-        }
+        best_champion(&self.groups).map(|(from, _)| from)
     }
 }

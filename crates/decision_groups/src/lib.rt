@@ -1,5 +1,6 @@
 //! The choice between the routes to one prefix, kept in groups by neighbour AS, so that a change of one
-//! rank looks at the ranks of its own neighbours alone (RFC 4271, section 9.1.2.2).
+//! rank looks through no other group than its own and, where its neighbour AS changes, its old one
+//! (RFC 4271, section 9.1.2.2).
 #![tactic(auto)]
 
 mod group;
@@ -10,7 +11,4 @@ mod ranks;
 
 pub use bgp_types::{From, NoMemory, PeeringId, Rank, RouterId};
 pub use group_set::GroupSet;
-pub use laws::champions_decide;
-
-#[cfg(test)]
-mod tests;
+pub use laws::{champions_decide, choice_by_sources};

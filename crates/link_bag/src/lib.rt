@@ -4,8 +4,6 @@
 
 mod bag;
 mod plan;
-#[cfg(test)]
-mod tests;
 
 pub use bag::Bag;
 pub use plan::{Fate, Fault, FaultKind, Plan};

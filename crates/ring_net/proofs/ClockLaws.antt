@@ -124,7 +124,7 @@ module _ {A I : Type 0} where
   some_cell [] k h = absurd (omega arith)
   some_cell (c ∷ cells) k h = c
 
-  pub greatest_view : (old new : List (Cell A I)) (edges : List (ℕ × ℕ)) (l : LevelsAll old new) → IsGreatest (view_of old edges) l.clock
+  pub greatest_view : (old new : List (Cell A I)) (edges : List (ℕ × ℕ)) (l : LevelsAll old new) → IsGreatest (length (view_of old edges).actors) (view_of old edges).clock l.clock
   greatest_view old new edges l = record {
     bound = λ k h. let k_in : k < length old = omega (arith, h, length-map (λ (z : Cell A I). z.actor) old) in
         subst (λ n. n ≤ l.clock) (sym (clock_get old k (some_cell old k k_in) k_in)) (l.bound k (some_cell old k k_in) k_in);

@@ -10,7 +10,7 @@ use Rattle.ring_net.specs.declared.cell.Cell.{Cell}
 use Rattle.ring_net.specs.Posts.{entries_in}
 use Rattle.ring_net.specs.Ends.{ring_known}
 use Rattle.ring_net.specs.Nets.{in_of, in_end, waits_of, view_of}
-use Rattle.ring_net.specs.Fresh.{EachOnce}
+use Rattle.ring_net.specs.Fresh.{EdgesOnce}
 use Rattle.ring_net.specs.Left.{left_of, actors_of, journals_of, WithoutRing, WithoutBox, Drains}
 use Rattle.ring_net.proofs.EdgeReads.{slice_get-set_same, slice_get-set_other}
 
@@ -89,7 +89,7 @@ module _ {A I : Type 0} where
   pub draining_none : (edges : List (ℕ × ℕ)) (cells : List (Cell A I)) → Draining edges 0 cells cells []
   draining_none edges cells = record { left = refl; rings = λ j h k. refl; boxes = λ j h k. refl; actors = refl; journals = refl }
 
-  pub draining_more : (edges : List (ℕ × ℕ)) (i a b : ℕ) (old mid new : List (Cell A I)) (left left' : List (Left I)) (items : List I) → EachOnce edges → i < length edges → a ≡ (get_or edges i (0, 0)).0 → b ≡ (get_or edges i (0, 0)).1
+  pub draining_more : (edges : List (ℕ × ℕ)) (i a b : ℕ) (old mid new : List (Cell A I)) (left left' : List (Left I)) (items : List I) → EdgesOnce edges → i < length edges → a ≡ (get_or edges i (0, 0)).0 → b ≡ (get_or edges i (0, 0)).1
       → Draining edges i old mid left → items ≡ map (λ (x : Stamped I). x.item) (ring_known (in_end mid a b) ++ waits_of (slice_get mid a) b) → Drains a b mid new → left' ≡ left ++ record { from = a; to = b; items = items } ∷ []
       → Draining edges (i + 1) old new left'
   draining_more edges i a b old mid new left left' items once i_in is_a is_b h is d more = record {

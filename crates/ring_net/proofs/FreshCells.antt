@@ -13,7 +13,7 @@ use Rattle.rtrb.specs.Ring.{sent, received, known_items, known_free, producer_ca
 use Rattle.ring_net.specs.declared.entry.Stamped.{Stamped}
 use Rattle.ring_net.specs.declared.cell.Cell.{Cell}
 use Rattle.ring_net.specs.Ends.{ring_known}
-use Rattle.ring_net.specs.Nets.{Joined, Known, out_of, in_of, out_end, in_end, box_of, waits_of, journal_of, clock_in, number_of}
+use Rattle.ring_net.specs.Nets.{IsOneRing, Known, out_of, in_of, out_end, in_end, box_of, waits_of, journal_of, clock_in, number_of}
 use Rattle.ring_net.specs.Phases.{is_edge}
 use Rattle.ring_net.specs.Fresh.{IsBlank, BlankAt, AllBlank, AddsOut, AddsIn, Connects, Fresh}
 use Rattle.ring_net.proofs.EdgeReads.{slice_get-set_same, slice_get-set_other}
@@ -36,7 +36,7 @@ module _ {A I : Type 0} where
   -- ---- one edge more
 
   pub connects_set : (old new : List (Cell A I)) (a b : ℕ) (f t x y : Cell A I) (p : Producer (Stamped I) Global AnyItems) (c : Consumer (Stamped I) Global AnyItems) → a ≢ b → a < length old → b < length old
-      → slice_get old a ≡ Some f → slice_get old b ≡ Some t → new ≡ set (set old a x) b y → AddsOut b p f x → AddsIn a c t y → Joined p c → Known p c → known_items c ≡ [] → Connects a b old new
+      → slice_get old a ≡ Some f → slice_get old b ≡ Some t → new ≡ set (set old a x) b y → AddsOut b p f x → AddsIn a c t y → IsOneRing p c → Known p c → known_items c ≡ [] → Connects a b old new
   connects_set old new a b f t x y p c apart a_in b_in is_f is_t writes out into joined known empty =
       let at_b : slice_get new b ≡ Some y = rw writes (slice_get-set_same (set old a x) b y (rw length-set b_in)) in
       let at_a : slice_get new a ≡ Some x = rw writes (slice_get-set_other (set old a x) b a y apart ∙ slice_get-set_same old a x a_in) in
@@ -161,7 +161,7 @@ module _ {A I : Type 0} where
     net = record {
       linked = record {
         joined = λ x y p c out into. elim (here x y) [
-          | inl s ↦ subst (λ q. Joined q c) (same_some k.out p (sym (out_here x y s.0 s.1) ∙ out)) (subst (λ d. Joined k.out d) (same_some k.into c (sym (in_here x y s.0 s.1) ∙ into)) k.joined)
+          | inl s ↦ subst (λ q. IsOneRing q c) (same_some k.out p (sym (out_here x y s.0 s.1) ∙ out)) (subst (λ d. IsOneRing k.out d) (same_some k.into c (sym (in_here x y s.0 s.1) ∙ into)) k.joined)
           | inr ne ↦ f.net.linked.joined x y p c (sym (out_else x y ne) ∙ out) (sym (in_else x y ne) ∙ into)
         ];
         outs = λ x y. elim (here x y) [

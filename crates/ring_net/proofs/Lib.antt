@@ -2,6 +2,7 @@ pub mod Lists
 pub mod Replays
 pub mod Takes
 pub mod TakesEach
+pub mod Peers
 pub mod Acts
 pub mod EdgeReads
 pub mod Linked

@@ -15,7 +15,7 @@ use Rattle.ring_net.specs.declared.post.Post.{Post}
 use Rattle.ring_net.specs.declared.cell.Cell.{Cell}
 use Rattle.ring_net.specs.Posts.{actor_of, has_edge}
 use Rattle.ring_net.specs.Ends.{SameOut, SameIn}
-use Rattle.ring_net.specs.Nets.{LookedOut, LookedIn, Joined, Linked, LevelAt, out_of, in_of, out_end, in_end, box_of, number_of}
+use Rattle.ring_net.specs.Nets.{LookedOut, LookedIn, IsOneRing, Linked, LevelAt, out_of, in_of, out_end, in_end, box_of, number_of}
 use Rattle.ring_net.specs.Phases.{is_edge}
 use Rattle.ring_net.specs.Reads.{rest_of, Looked, ReadsEdge}
 use Rattle.ring_net.proofs.EdgeReads.{looked_then}
@@ -75,7 +75,7 @@ module _ {T : Type 0} where
   same_in_looked (Some p) None h = absurd h
   same_in_looked (Some p) (Some q) h = h.0
 
-  pub joined_same : (p p' : Producer T Global AnyItems) (c c' : Consumer T Global AnyItems) → SameProducer p p' → SameConsumer c c' → Joined p c → Joined p' c'
+  pub joined_same : (p p' : Producer T Global AnyItems) (c c' : Consumer T Global AnyItems) → SameProducer p p' → SameConsumer c c' → IsOneRing p c → IsOneRing p' c'
   joined_same p p' c c' l m h = record {
     pair = (m.0.0 ∙ h.pair.0 ∙ sym l.0.0, m.0.1 ∙ h.pair.1 ∙ sym l.0.1, m.0.2 ∙ h.pair.2 ∙ sym l.0.2, m.0.3 ∙ h.pair.3 ∙ sym l.0.3);
     size = l.1 ∙ h.size;

@@ -20,7 +20,7 @@ use Rattle.ring_net.specs.Turns.{ActorDid}
 use Rattle.ring_net.specs.Ends.{SameOut, SameIn, IsSmall, Emptied, ring_sent, ring_free, ring_received, ring_known}
 use Rattle.ring_net.specs.Cells.{CellDid, CellTurned}
 use Rattle.ring_net.specs.Phases.{Phase}
-use Rattle.ring_net.specs.Nets.{LookedOut, LookedIn, Level, Known, Joined, Linked, IsNet, LevelAt, out_of, in_of, out_end, in_end, box_of, waits_of, journal_of, clock_in, number_of, view_of}
+use Rattle.ring_net.specs.Nets.{LookedOut, LookedIn, Level, Known, IsOneRing, Linked, IsNet, LevelAt, out_of, in_of, out_end, in_end, box_of, waits_of, journal_of, clock_in, number_of, view_of}
 use Rattle.ring_net.specs.Phases.{is_edge}
 use Rattle.ring_net.specs.Reads.{rest_of, Looked}
 use Rattle.ring_net.proofs.TakesEach.{emptied_none}
@@ -202,13 +202,13 @@ module _ {T : Type 0} where
   known_counts (Some p) (Some c) e h = (h p c refl refl).items
 
   small_in : (o : Option (Producer T Global AnyItems)) (i : Option (Consumer T Global AnyItems)) → is_some o ≡ is_some i
-      → ((p : Producer T Global AnyItems) (c : Consumer T Global AnyItems) → o ≡ Some p → i ≡ Some c → Joined p c) → IsSmall i
+      → ((p : Producer T Global AnyItems) (c : Consumer T Global AnyItems) → o ≡ Some p → i ≡ Some c → IsOneRing p c) → IsSmall i
   small_in o None e h = tt
   small_in None (Some c) e h = absurd cc
   small_in (Some p) (Some c) e h = (h p c refl refl).small
 
   room_out : (o : Option (Producer T Global AnyItems)) (i : Option (Consumer T Global AnyItems)) → is_some o ≡ true → is_some i ≡ true
-      → ((p : Producer T Global AnyItems) (c : Consumer T Global AnyItems) → o ≡ Some p → i ≡ Some c → Joined p c)
+      → ((p : Producer T Global AnyItems) (c : Consumer T Global AnyItems) → o ≡ Some p → i ≡ Some c → IsOneRing p c)
       → ((p : Producer T Global AnyItems) (c : Consumer T Global AnyItems) → o ≡ Some p → i ≡ Some c → Known p c) → 256 + length (ring_received i) ≤ ring_free o + length (ring_sent o)
   room_out None i e f h k = absurd cc
   room_out (Some p) None e f h k = absurd cc

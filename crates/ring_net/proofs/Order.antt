@@ -11,8 +11,7 @@ use Rattle.ring_net.specs.Journals.{ClocksRise, IsJournal, AreJournals}
 use Rattle.ring_net.specs.Phases.{View, IsNew, InOrder, Levelled, Phase, Between}
 use Rattle.ring_net.specs.Nets.{journal_of, view_of}
 use Rattle.ring_net.specs.Left.{HasJournals, journals_of, actors_of}
-use Rattle.ring_net.proofs.Replays.{all-append, rising_counted}
-use Rattle.ring_net.proofs.Acts.{entries_deeds}
+use Rattle.ring_net.proofs.Replays.{all-append, clocked_rises, entries_deeds, rising_counted}
 use Rattle.ring_net.proofs.Lists.{written_back}
 
 -- ---- entries
@@ -119,7 +118,7 @@ module _ {A P I : Type 0} (part : A → P) (makes : Makes P I) where
 
       journals : (k : ℕ) → (k < length old.actors) ⊎ (length old.actors ≤ k) → IsJournal k (new.journal k)
       journals k (inl k_in) = let did = p.actors k (some_of old.actors k k_in) k_in in
-          rw (journal k) (grown k (old.clock k) (new.clock k) (old.journal k) (deeds (p.notes k)) (h.journals k) (h.clocks k k_in) did.own did.rising)
+          rw (journal k) (grown k (old.clock k) (new.clock k) (old.journal k) (deeds (p.notes k)) (h.journals k) (h.clocks k k_in) did.own (clocked_rises (old.clock k) (new.clock k) (p.notes k) did.clocks))
       journals k (inr past) = rw (p.journals k, p.none k past, append-nil (old.journal k)) (h.journals k)
 
       none : (k : ℕ) → length new.actors ≤ k → new.journal k ≡ []
@@ -127,7 +126,7 @@ module _ {A P I : Type 0} (part : A → P) (makes : Makes P I) where
 
       clocks : (k : ℕ) → k < length new.actors → AllByRecursion (λ (e : JournalEntry). e.clock ≤ new.clock k) (new.journal k)
       clocks k k_in = let k_old : k < length old.actors = omega (arith, k_in, p.size) in let did = p.actors k (some_of old.actors k k_old) k_old in
-          rw (journal k) (grown_below (old.clock k) (new.clock k) (old.journal k) (deeds (p.notes k)) (h.clocks k k_old) did.rising)
+          rw (journal k) (grown_below (old.clock k) (new.clock k) (old.journal k) (deeds (p.notes k)) (h.clocks k k_old) (clocked_rises (old.clock k) (new.clock k) (p.notes k) did.clocks))
 
   pub order_between : (pauses : A → List (Deed I) → A → Type 0) (k : ℕ) (old new : View A I) (result : Bool) → k < length old.actors → Between part makes pauses k old new result → InOrder old → InOrder new
   order_between pauses k old new result k_old p h = record {

@@ -7,7 +7,7 @@ use Rattle.std.proofs.lemmas.List.Concat.{flat_map-append}
 use Rattle.ring_net.specs.declared.entry.JournalEntry.{JournalEntry}
 use Rattle.ring_net.specs.declared.post.Post.{Post}
 use Rattle.ring_net.specs.Deeds.{Deed, IsOwn, Counted, puts_by, sent_by}
-use Rattle.ring_net.specs.Posts.{actor_of, clock_of, entries_in, waits, for_one, Notes, Sends, Wrote, SameEdges}
+use Rattle.ring_net.specs.Posts.{actor_of, clock_of, entries_in, waits, for_one, Notes, SendsItem, Wrote, SameEdges}
 use Rattle.ring_net.proofs.Replays.{all-append}
 
 module _ {I : Type 0} where
@@ -45,7 +45,7 @@ module _ {I : Type 0} where
   }
 
   -- one event that sends one item
-  pub wrote_send : (old mid new : Post I) (e : JournalEntry) (taken : Option (ℕ × I)) (to : ℕ) (x : I) → e.actor ≡ actor_of old → e.clock ≡ clock_of old + 1 → Notes old e mid → Sends mid to x new
+  pub wrote_send : (old mid new : Post I) (e : JournalEntry) (taken : Option (ℕ × I)) (to : ℕ) (x : I) → e.actor ≡ actor_of old → e.clock ≡ clock_of old + 1 → Notes old e mid → SendsItem mid to x new
       → Wrote old (record { entry = e; taken = taken; sent = (to, x) ∷ [] } ∷ []) new
   wrote_send old mid new e taken to x own next n s =
       let w = wrote_note old mid e taken own next n in record {

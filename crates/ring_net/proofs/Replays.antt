@@ -1,9 +1,9 @@
 -- Events after events.
-use Rattle.std.proofs.Common.{◌≡◌, ◌≤◌, ◌+◌, ℕ, List, [], ◌∷◌, ◌++◌, Some, None, ◌==◌, if◌then◌else◌, refl, ap, sym, subst, ◌∙◌, arith}
+use Rattle.std.proofs.Common.{◌≡◌, ◌≤◌, ◌+◌, ℕ, max, map, List, [], ◌∷◌, ◌++◌, Option, Some, None, ◌==◌, if◌then◌else◌, refl, ap, sym, subst, ◌∙◌, arith}
 use Rattle.std.specs.List.{AllByRecursion}
 use Rattle.std.proofs.lemmas.Bool.Decides.{nat_tests}
 use Rattle.ring_net.specs.declared.entry.Stamped.{Stamped}
-use Rattle.ring_net.specs.Deeds.{Deed, Noted, Makes, Replay, IsLater, TakesNone, TakesFirst, Counted, Rising, Climbs, ClimbsTo, deeds, senders, taken_from}
+use Rattle.ring_net.specs.Deeds.{Deed, Noted, Makes, Replay, IsLater, TakesNone, TakesFirst, Counted, met, Clocked, Rising, Climbs, ClimbsTo, deeds, noted, entries_of, puts_by, senders, sent_by, sent_to, taken_from}
 
 pub all-append : {A : Type 0} (Q : A → Type 0) (xs ys : List A) → AllByRecursion Q xs → AllByRecursion Q ys → AllByRecursion Q (xs ++ ys)
 all-append Q [] ys h k = k
@@ -32,14 +32,47 @@ module _ {P I : Type 0} (makes : Makes P I) where
   replay-append a p q r (x ∷ xs) ys h k = (h.0, h.1, replay-append a (h.0) q r xs ys (h.2) k)
 
 module _ {I : Type 0} where
-  -- events that took an item with this stamp, or none
-  abbrev pub noted : ℕ → List (Deed I) → List (Noted I)
-  noted s [] = []
-  noted s (d ∷ ds) = record { deed = d; stamp = s } ∷ noted s ds
-
   pub deeds_noted : (s : ℕ) (ds : List (Deed I)) → deeds (noted s ds) ≡ ds
   deeds_noted s [] = refl
   deeds_noted s (d ∷ ds) = ap (λ xs. d ∷ xs) (deeds_noted s ds)
+
+  pub entries_noted : (s : ℕ) (ds : List (Deed I)) → entries_of (noted s ds) ≡ map (λ (d : Deed I). d.entry) ds
+  entries_noted s [] = refl
+  entries_noted s (d ∷ ds) = ap (λ xs. d.entry ∷ xs) (entries_noted s ds)
+
+  pub sent_noted : (b s : ℕ) (ds : List (Deed I)) → sent_to b (noted s ds) ≡ sent_by b ds
+  sent_noted b s [] = refl
+  sent_noted b s (d ∷ ds) = ap (λ xs. puts_by b d ++ xs) (sent_noted b s ds)
+
+  pub entries_deeds : (ns : List (Noted I)) → map (λ (d : Deed I). d.entry) (deeds ns) ≡ entries_of ns
+  entries_deeds [] = refl
+  entries_deeds (n ∷ ns) = ap (λ xs. n.deed.entry ∷ xs) (entries_deeds ns)
+
+  -- ---- clocks
+
+  pub clocked-append : (c d e : ℕ) (ns ms : List (Noted I)) → Clocked c ns d → Clocked d ms e → Clocked c (ns ++ ms) e
+  clocked-append c d e [] ms h k = subst (λ x. Clocked x ms e) h k
+  clocked-append c d e (n ∷ ns) ms h k = (h.0, clocked-append n.deed.entry.clock d e ns ms h.1 k)
+
+  pub clocked_none : (c d s : ℕ) (ds : List (Deed I)) → AllByRecursion TakesNone ds → Counted c ds d → Clocked c (noted s ds) d
+  clocked_none c d s [] h k = k
+  clocked_none c d s (x ∷ xs) h k = (rw (h.0) k.0, subst (λ n. Clocked n (noted s xs) d) (sym k.0) (clocked_none (c + 1) d s xs h.1 k.1))
+
+  pub clocked_first : (c d s from : ℕ) (x : I) (ds : List (Deed I)) → TakesFirst from x ds → Counted (max c s) ds d → Clocked c (noted s ds) d
+  clocked_first c d s from x [] h k = absurd h
+  clocked_first c d s from x (y ∷ ys) h k = (rw (h.0) k.0, subst (λ n. Clocked n (noted s ys) d) (sym k.0) (clocked_none (max c s + 1) d s ys h.1 k.1))
+
+  met_above : (c s : ℕ) (t : Option (ℕ × I)) → c ≤ met c s t
+  met_above c s None = omega arith
+  met_above c s (Some x) = omega arith
+
+  pub clocked_rises : (c d : ℕ) (ns : List (Noted I)) → Clocked c ns d → Rising c (deeds ns) d
+  clocked_rises c d [] h = omega (arith, h)
+  clocked_rises c d (n ∷ ns) h = (omega (arith, h.0, met_above c n.stamp n.deed.taken), clocked_rises n.deed.entry.clock d ns h.1)
+
+  pub clocked_later : (c d : ℕ) (ns : List (Noted I)) → Clocked c ns d → AllByRecursion IsLater ns
+  clocked_later c d [] h = tt
+  clocked_later c d (n ∷ ns) h = (λ x e. (let k : n.deed.entry.clock ≡ max c n.stamp + 1 = rw e at h.0 in omega (arith, k)), clocked_later n.deed.entry.clock d ns h.1)
 
   weaker : (b c : ℕ) (ds : List (Deed I)) (e : ℕ) → b ≤ c → Rising c ds e → Rising b ds e
   weaker b c [] e l h = omega (arith, l, h)
@@ -71,11 +104,3 @@ module _ {I : Type 0} where
   pub first_senders : (from : ℕ) (x : I) (ds : List (Deed I)) → TakesFirst from x ds → AllByRecursion (λ s. s ≡ from) (senders ds)
   first_senders from x [] h = absurd h
   first_senders from x (d ∷ ds) h = rw (h.0) (refl, none_senders from ds h.1)
-
-  pub none_later : (s : ℕ) (ds : List (Deed I)) → AllByRecursion TakesNone ds → AllByRecursion IsLater (noted s ds)
-  none_later s [] h = tt
-  none_later s (d ∷ ds) h = (λ x e. absurd (let k : None ≡ Some x = sym h.0 ∙ e in cc), none_later s ds h.1)
-
-  pub all_later : (c s e from : ℕ) (x : I) (ds : List (Deed I)) → s ≤ c → Counted c ds e → TakesFirst from x ds → AllByRecursion IsLater (noted s ds)
-  all_later c s e from x [] l k h = absurd h
-  all_later c s e from x (d ∷ ds) l k h = (λ y f. omega (arith, l, k.0), none_later s ds h.1)

@@ -12,36 +12,39 @@ use Rattle.std.proofs.lemmas.List.{append-nil, map-append}
 use Rattle.std.proofs.lemmas.List.Concat.{flat_map-append}
 use Rattle.ring_net.specs.declared.entry.Stamped.{Stamped}
 use Rattle.ring_net.specs.declared.post.Post.{Post}
-use Rattle.ring_net.specs.Deeds.{Deed, Noted, Makes, Replay, IsLater, IsOwn, TakesFirst, deeds, gets, puts_by, sent_by, taken_from, senders, sender_of}
+use Rattle.ring_net.specs.Deeds.{Deed, Noted, Makes, Replay, IsOwn, TakesFirst, deeds, noted, entries_of, gets, puts, sent_to, taken_from, senders, sender_of}
 use Rattle.ring_net.specs.Posts.{actor_of, clock_of, entries_in, waits, Wrote, TookItem}
 use Rattle.ring_net.specs.Turns.{Posted, TookAll, stays, takes}
-use Rattle.ring_net.proofs.Replays.{all-append, replay-append, noted, deeds_noted, rising-append, rising_counted, first_taken, first_senders, all_later}
+use Rattle.ring_net.proofs.Replays.{all-append, replay-append, deeds_noted, entries_noted, sent_noted, clocked-append, clocked_first, first_taken, first_senders}
 
 module _ {I : Type 0} where
   pub posted_none : (old : Post I) → Posted old [] old
-  posted_none old = record { actor = refl; own = tt; clocks = omega arith; entries = sym (append-nil _); edges = λ b. refl; boxes = λ b l. sym (append-nil _) }
+  posted_none old = record { actor = refl; own = tt; clocks = refl; entries = sym (append-nil _); edges = λ b. refl; boxes = λ b l. sym (append-nil _) }
 
-  pub posted_then : (old mid new : Post I) (ds es : List (Deed I)) → Posted old ds mid → Posted mid es new → Posted old (ds ++ es) new
-  posted_then old mid new ds es h k = record {
+  pub deeds_both : (ns ms : List (Noted I)) → deeds (ns ++ ms) ≡ deeds ns ++ deeds ms
+  deeds_both ns ms = map-append (λ (n : Noted I). n.deed) ns ms
+
+  pub posted_then : (old mid new : Post I) (ns ms : List (Noted I)) → Posted old ns mid → Posted mid ms new → Posted old (ns ++ ms) new
+  posted_then old mid new ns ms h k = record {
     actor = k.actor ∙ h.actor;
-    own = all-append (IsOwn (actor_of old)) ds es h.own (subst (λ a. AllByRecursion (IsOwn a) es) h.actor k.own);
-    clocks = rising-append (clock_of old) (clock_of mid) (clock_of mid) (clock_of new) ds es h.clocks (omega arith) k.clocks;
-    entries = k.entries ∙ ap (λ xs. xs ++ map (λ (d : Deed I). d.entry) es) h.entries ∙ append_assoc (entries_in old) (map (λ (d : Deed I). d.entry) ds) (map (λ (d : Deed I). d.entry) es)
-        ∙ ap (λ xs. entries_in old ++ xs) (sym (map-append (λ (d : Deed I). d.entry) ds es));
+    own = rw (deeds_both ns ms) (all-append (IsOwn (actor_of old)) (deeds ns) (deeds ms) h.own (subst (λ a. AllByRecursion (IsOwn a) (deeds ms)) h.actor k.own));
+    clocks = clocked-append (clock_of old) (clock_of mid) (clock_of new) ns ms h.clocks k.clocks;
+    entries = k.entries ∙ ap (λ xs. xs ++ entries_of ms) h.entries ∙ append_assoc (entries_in old) (entries_of ns) (entries_of ms)
+        ∙ ap (λ xs. entries_in old ++ xs) (sym (map-append (λ (n : Noted I). n.deed.entry) ns ms));
     edges = λ b. k.edges b ∙ h.edges b;
-    boxes = λ b l. k.boxes b (h.edges b ∙ l) ∙ ap (λ xs. xs ++ sent_by b es) (h.boxes b l) ∙ append_assoc (waits old b) (sent_by b ds) (sent_by b es)
-        ∙ ap (λ xs. waits old b ++ xs) (sym (flat_map-append (puts_by b) ds es));
+    boxes = λ b l. k.boxes b (h.edges b ∙ l) ∙ ap (λ xs. xs ++ sent_to b ms) (h.boxes b l) ∙ append_assoc (waits old b) (sent_to b ns) (sent_to b ms)
+        ∙ ap (λ xs. waits old b ++ xs) (sym (flat_map-append (puts b) ns ms));
   }
 
-  -- a call after the clock met a stamp
-  pub posted_wrote : (old new : Post I) (s : ℕ) (ds : List (Deed I)) → Wrote (record old { clock = max (clock_of old) s }) ds new → Posted old ds new
-  posted_wrote old new s ds k = record {
+  -- a take after the clock met the item's stamp
+  pub posted_wrote : (old new : Post I) (s from : ℕ) (x : I) (ds : List (Deed I)) → Wrote (record old { clock = max (clock_of old) s }) ds new → TakesFirst from x ds → Posted old (noted s ds) new
+  posted_wrote old new s from x ds k first = record {
     actor = k.actor;
-    own = k.own;
-    clocks = rising-append (clock_of old) (clock_of old) (max (clock_of old) s) (clock_of new) [] ds (omega arith) (omega arith) (rising_counted (max (clock_of old) s) (clock_of new) ds k.clocks);
-    entries = k.entries;
+    own = rw (deeds_noted s ds) k.own;
+    clocks = clocked_first (clock_of old) (clock_of new) s from x ds first k.clocks;
+    entries = k.entries ∙ ap (λ xs. entries_in old ++ xs) (sym (entries_noted s ds));
     edges = k.edges;
-    boxes = k.boxes;
+    boxes = λ b l. k.boxes b l ∙ ap (λ xs. waits old b ++ xs) (sym (sent_noted b s ds));
   }
 
   pub received_more : (from s : ℕ) (x : I) (ns : List (Noted I)) (ds : List (Deed I)) (r start mid : List (Stamped I)) → r ≡ mid ++ record { stamp = record { 0 = s }; item = x } ∷ [] → mid ≡ start ++ taken_from from ns → TakesFirst from x ds
@@ -59,16 +62,15 @@ module _ {I : Type 0} where
 
 module _ {A P I : Type 0} (part : A → P) (makes : Makes P I) (took : A → ℕ → I → List (Deed I) → A → Type 0) where
   pub took_none : (a : A) (old : Post I) → TookAll part makes took a old [] a old
-  took_none a old = record { posted = posted_none old; replay = refl; later = tt; tooks = stays a }
+  took_none a old = record { posted = posted_none old; replay = refl; tooks = stays a }
 
   pub took_more : (from s : ℕ) (x : I) (a b c : A) (old mid new : Post I) (ns : List (Noted I)) → TookAll part makes took a old ns b mid
       → (h : TookItem part makes took from x b (record mid { clock = max (clock_of mid) s }) c new) → TookAll part makes took a old (ns ++ noted s h.deeds) c new
   took_more from s x a b c old mid new ns k h =
       let e : deeds (ns ++ noted s h.deeds) ≡ deeds ns ++ h.deeds = deeds-append ns s h.deeds in
       record {
-        posted = rw e (posted_then old mid new (deeds ns) h.deeds k.posted (posted_wrote mid new s h.deeds h.wrote));
+        posted = posted_then old mid new ns (noted s h.deeds) k.posted (posted_wrote mid new s from x h.deeds h.wrote h.first);
         replay = rw e (replay-append makes (actor_of old) (part a) (part b) (part c) (deeds ns) h.deeds k.replay (subst (λ n. Replay makes n (part b) h.deeds (part c)) k.posted.actor h.replay));
-        later = all-append IsLater ns (noted s h.deeds) k.later (all_later (max (clock_of mid) s) s (clock_of new) from x h.deeds (omega arith) h.wrote.clocks h.first);
         tooks = rw e (takes a b c (deeds ns) h.deeds from x k.tooks h.took);
       }
 

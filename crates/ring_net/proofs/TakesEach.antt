@@ -2,20 +2,20 @@
 use Rattle.std.proofs.Common.{◌≡◌, ◌≢◌, ◌≤◌, ◌<◌, ◌+◌, ℕ, List, [], ◌∷◌, ◌++◌, length, get_or, Option, Some, None, refl, sym, subst, ◌∙◌, arith, append_assoc, ◌⊎◌, inl, inr}
 use Rattle.std.specs.List.{AllByRecursion}
 use Rattle.std.proofs.lemmas.Bool.Decides.{eqb_tells, nat_tests}
-use Rattle.std.proofs.lemmas.List.{append-nil, map-append, get_or_past}
+use Rattle.std.proofs.lemmas.List.{append-nil, get_or_past}
 use Rattle.std.proofs.lemmas.List.Concat.{flat_map-append}
 use Rattle.std.specs.declared.alloc.Global.{Global}
 use Rattle.rtrb.specs.declared.consumer.Consumer.{Consumer}
 use Rattle.rtrb.specs.declared.AnyItems.{AnyItems}
 use Rattle.ring_net.specs.declared.entry.Stamped.{Stamped}
 use Rattle.ring_net.specs.declared.post.Post.{Post}
-use Rattle.ring_net.specs.Deeds.{Deed, Noted, Makes, Replay, IsLater, ClimbsTo, deeds, gets, from_option, taken_from, senders, sender_of}
+use Rattle.ring_net.specs.Deeds.{Deed, Noted, Makes, Replay, ClimbsTo, deeds, gets, from_option, taken_from, senders, sender_of}
 use Rattle.ring_net.specs.Posts.{actor_of, SameEdges}
 use Rattle.ring_net.specs.Turns.{Tooks, TookAll, stays, takes}
 use Rattle.ring_net.specs.Ends.{Emptied, SameIn}
 use Rattle.ring_net.specs.Takes.{TookOne, TookEach}
-use Rattle.ring_net.proofs.Replays.{all-append, replay-append, climbs-append, climbs_one}
-use Rattle.ring_net.proofs.Takes.{posted_then, took_none}
+use Rattle.ring_net.proofs.Replays.{replay-append, climbs-append, climbs_one}
+use Rattle.ring_net.proofs.Takes.{deeds_both, posted_then, took_none}
 
 pub front : (Q : ℕ → Type 0) (xs ys : List ℕ) → AllByRecursion Q (xs ++ ys) → AllByRecursion Q xs × AllByRecursion Q ys
 front Q [] ys h = (tt, h)
@@ -62,9 +62,6 @@ module _ {I : Type 0} where
       let r = front (λ k. k ≡ from) (sender_of n.deed.taken) (senders (deeds ns)) h in
       rw (one_other a n.stamp from n.deed.taken ne r.0, taken_other a from ns ne r.1) refl
 
-  pub deeds_both : (ns ms : List (Noted I)) → deeds (ns ++ ms) ≡ deeds ns ++ deeds ms
-  deeds_both ns ms = map-append (λ (n : Noted I). n.deed) ns ms
-
   pub senders_both : (ns ms : List (Noted I)) → senders (deeds (ns ++ ms)) ≡ senders (deeds ns) ++ senders (deeds ms)
   senders_both ns ms = rw (deeds_both ns ms) (flat_map-append (λ (d : Deed I). sender_of d.taken) (deeds ns) (deeds ms))
 
@@ -79,9 +76,8 @@ module _ {A I : Type 0} (took : A → ℕ → I → List (Deed I) → A → Type
 module _ {A P I : Type 0} (part : A → P) (makes : Makes P I) (took : A → ℕ → I → List (Deed I) → A → Type 0) where
   pub took_then : (a b c : A) (old mid new : Post I) (ns ms : List (Noted I)) → TookAll part makes took a old ns b mid → TookAll part makes took b mid ms c new → TookAll part makes took a old (ns ++ ms) c new
   took_then a b c old mid new ns ms h k = let e = deeds_both ns ms in record {
-    posted = rw e (posted_then old mid new (deeds ns) (deeds ms) h.posted k.posted);
+    posted = posted_then old mid new ns ms h.posted k.posted;
     replay = rw e (replay-append makes (actor_of old) (part a) (part b) (part c) (deeds ns) (deeds ms) h.replay (subst (λ n. Replay makes n (part b) (deeds ms) (part c)) h.posted.actor k.replay));
-    later = all-append IsLater ns ms h.later k.later;
     tooks = rw e (tooks_then took a b c (deeds ns) (deeds ms) h.tooks k.tooks);
   }
 

@@ -14,10 +14,10 @@ use Rattle.ring_net.specs.Turns.{ActorDid}
 module _ {A I : Type 0} where
   -- the end to this receiver, and the end from this sender
   abbrev pub ring_to : Cell A I → ℕ → Option (Producer (Stamped I) Global AnyItems)
-  ring_to c b = slice_index_or c.rings.items b None
+  ring_to c b = slice_index_or c.rings.slots.items b None
 
   abbrev pub ring_from : Cell A I → ℕ → Option (Consumer (Stamped I) Global AnyItems)
-  ring_from c a = slice_index_or c.ins.items a None
+  ring_from c a = slice_index_or c.ins.slots.items a None
 
 -- the cell with this clock
 abbrev pub with_clock : {A I : Type 0} → ℕ → Cell A I → Cell A I

@@ -1,5 +1,5 @@
 -- What an actor did: its events, with what each took and sent.
-use Rattle.std.specs.Prelude.{ℕ, ◌≡◌, ◌<◌, ◌≤◌, ◌+◌, List, [], ◌∷◌, ◌==◌, if◌then◌else◌, Option, Some, None, map, flat_map}
+use Rattle.std.specs.Prelude.{ℕ, ◌≡◌, ◌<◌, ◌≤◌, ◌+◌, max, List, [], ◌∷◌, ◌==◌, if◌then◌else◌, Option, Some, None, map, flat_map}
 use Rattle.std.specs.List.{AllByRecursion}
 use Rattle.ring_net.specs.declared.entry.JournalEntry.{JournalEntry}
 use Rattle.ring_net.specs.declared.entry.Stamped.{Stamped}
@@ -50,6 +50,10 @@ module _ {I : Type 0} where
   abbrev pub deeds : List (Noted I) → List (Deed I)
   deeds ns = map (λ n. n.deed) ns
 
+  -- these events, each with this stamp
+  abbrev pub noted : ℕ → List (Deed I) → List (Noted I)
+  noted s ds = map (λ d. record { deed = d; stamp = s }) ds
+
   abbrev pub entries_of : List (Noted I) → List JournalEntry
   entries_of ns = map (λ n. n.deed.entry) ns
 
@@ -73,6 +77,16 @@ module _ {I : Type 0} where
 
   abbrev pub taken_from : ℕ → List (Noted I) → List (Stamped I)
   taken_from a ns = flat_map (gets a) ns
+
+  -- the greater of this clock and this stamp, where an item with the stamp is taken; else this clock
+  abbrev pub met : ℕ → ℕ → Option (ℕ × I) → ℕ
+  met c stamp None = c
+  met c stamp (Some x) = max c stamp
+
+  -- The clock of each event is one above the greater of the clock before it and the stamp of what it takes. The last clock is d.
+  abbrev pub Clocked : ℕ → List (Noted I) → ℕ → Type 0
+  Clocked c [] d = d ≡ c
+  Clocked c (n ∷ ns) d = (n.deed.entry.clock ≡ met c n.stamp n.deed.taken + 1) × Clocked n.deed.entry.clock ns d
 
   -- what an event takes was stamped before it
   abbrev pub IsLater : Noted I → Type 0
@@ -98,6 +112,10 @@ module _ {I : Type 0} where
   abbrev pub Rising : ℕ → List (Deed I) → ℕ → Type 0
   Rising c [] d = c ≤ d
   Rising c (e ∷ es) d = (c < e.entry.clock) × Rising e.entry.clock es d
+
+-- exact clocks rise, and each is above the stamp of what its event takes
+abbrev pub ClockedRise : Type 0 → Type 0
+ClockedRise I = (c d : ℕ) (notes : List (Noted I)) → Clocked c notes d → Rising c (deeds notes) d × AllByRecursion IsLater notes
 
 -- none of the numbers is below the one before it, nor below this one
 abbrev pub Climbs : ℕ → List ℕ → Type 0

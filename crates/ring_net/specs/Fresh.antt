@@ -10,7 +10,7 @@ use Rattle.ring_net.specs.declared.cell.Cell.{Cell}
 use Rattle.ring_net.specs.Posts.{actor_of, clock_of, entries_in, has_edge, waits}
 use Rattle.ring_net.specs.Ends.{ring_known}
 use Rattle.ring_net.specs.Cells.{ring_to, ring_from}
-use Rattle.ring_net.specs.Nets.{Joined, Known, IsNet, out_end, in_end, box_of, waits_of, journal_of, clock_in, number_of}
+use Rattle.ring_net.specs.Nets.{IsOneRing, Known, IsNet, out_end, in_end, box_of, waits_of, journal_of, clock_in, number_of}
 
 module _ {A I : Type 0} where
   -- the cell of this number, with no entry and no edge
@@ -20,8 +20,8 @@ module _ {A I : Type 0} where
     pub entries : entries_in c.post ≡ []
     pub edges : (b : ℕ) → has_edge c.post b ≡ false
     pub boxes : (b : ℕ) → waits c.post b ≡ []
-    pub rings : c.rings.items ≡ []
-    pub ins : c.ins.items ≡ []
+    pub rings : c.rings.slots.items ≡ []
+    pub ins : c.ins.slots.items ≡ []
 
   abbrev pub BlankAt : ℕ → Option (Cell A I) → Type 0
   BlankAt k None = Unit {0}
@@ -49,7 +49,7 @@ module _ {A I : Type 0} where
   pub record Connects (a b : ℕ) (old new : List (Cell A I)) : Type 0 where
     pub out : Producer (Stamped I) Global AnyItems
     pub into : Consumer (Stamped I) Global AnyItems
-    pub joined : Joined out into
+    pub joined : IsOneRing out into
     pub known : Known out into
     pub empty : known_items into ≡ []
     pub outs : (x y : ℕ) → out_end new x y ≡ (if x == a then (if y == b then Some out else out_end old x y) else out_end old x y)
@@ -70,12 +70,12 @@ module _ {A I : Type 0} where
     pub rings : (a b : ℕ) → ring_known (in_end cells a b) ≡ []
 
 -- no edge stands twice
-abbrev pub EachOnce : List (ℕ × ℕ) → Type 0
-EachOnce edges = (i j : ℕ) → i < length edges → j < length edges → slice_index_or edges i (0, 0) ≡ slice_index_or edges j (0, 0) → i ≡ j
+abbrev pub EdgesOnce : List (ℕ × ℕ) → Type 0
+EdgesOnce edges = (i j : ℕ) → i < length edges → j < length edges → slice_index_or edges i (0, 0) ≡ slice_index_or edges j (0, 0) → i ≡ j
 
 -- each edge joins two actors of as many, and no edge stands twice
 pub record AreEdges (count : ℕ) (edges : List (ℕ × ℕ)) : Type 0 where
   pub from : (i : ℕ) → i < length edges → (slice_index_or edges i (0, 0)).0 < count
   pub to : (i : ℕ) → i < length edges → (slice_index_or edges i (0, 0)).1 < count
   pub apart : (i : ℕ) → i < length edges → (slice_index_or edges i (0, 0)).0 ≢ (slice_index_or edges i (0, 0)).1
-  pub once : EachOnce edges
+  pub once : EdgesOnce edges

@@ -2,6 +2,7 @@ pub mod Deeds
 pub mod Posts
 pub mod Turns
 pub mod Ends
+pub mod Peers
 pub mod Takes
 pub mod Cells
 pub mod Journals

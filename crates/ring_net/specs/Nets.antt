@@ -38,7 +38,7 @@ module _ {T : Type 0} where
     pub slots : producer_capacity p + length (received c) ≤ known_free p + length (sent p)
 
   -- the ends of one ring of 256
-  pub record Joined (p : Producer T Global AnyItems) (c : Consumer T Global AnyItems) : Type 0 where
+  pub record IsOneRing (p : Producer T Global AnyItems) (c : Consumer T Global AnyItems) : Type 0 where
     pub pair : IsPair p c
     pub size : producer_capacity p ≡ 256
     pub small : consumer_capacity c ≤ 256
@@ -82,7 +82,7 @@ module _ {A I : Type 0} where
 
   -- the cells own the ends of a ring for each edge, and no others
   pub record Linked (cells : List (Cell A I)) (edges : List (ℕ × ℕ)) : Type 0 where
-    pub joined : (a b : ℕ) (p : Producer (Stamped I) Global AnyItems) (c : Consumer (Stamped I) Global AnyItems) → out_end cells a b ≡ Some p → in_end cells a b ≡ Some c → Joined p c
+    pub joined : (a b : ℕ) (p : Producer (Stamped I) Global AnyItems) (c : Consumer (Stamped I) Global AnyItems) → out_end cells a b ≡ Some p → in_end cells a b ≡ Some c → IsOneRing p c
     pub outs : (a b : ℕ) → is_some (out_end cells a b) ≡ is_edge edges a b
     pub ins : (a b : ℕ) → is_some (in_end cells a b) ≡ is_edge edges a b
     pub boxes : (a b : ℕ) → box_of (slice_get cells a) b ≡ is_edge edges a b

@@ -53,12 +53,12 @@ pub record InOrder {A I : Type 0} (v : View A I) : Type 0 where
 abbrev pub AllAt : {A I : Type 0} → View A I → ℕ → Type 0
 AllAt v c = (k : ℕ) → k < length v.actors → v.clock k ≡ c
 
--- no clock is above this value, which one of them has
-pub record IsGreatest {A I : Type 0} (v : View A I) (c : ℕ) : Type 0 where
-  pub bound : (k : ℕ) → k < length v.actors → v.clock k ≤ c
+-- none of the first n clocks is above this one, which one of them is
+pub record IsGreatest (n : ℕ) (clock : ℕ → ℕ) (c : ℕ) : Type 0 where
+  pub bound : (k : ℕ) → k < n → clock k ≤ c
   pub here : ℕ
-  pub within : here < length v.actors
-  pub is : v.clock here ≡ c
+  pub within : here < n
+  pub is : clock here ≡ c
 
 -- nothing but the clocks changed
 pub record OnlyClocks {A I : Type 0} (old new : View A I) : Type 0 where
@@ -72,7 +72,7 @@ pub record OnlyClocks {A I : Type 0} (old new : View A I) : Type 0 where
 pub record Levelled {A I : Type 0} (old new : View A I) : Type 0 where
   pub only : OnlyClocks old new
   pub clock : ℕ
-  pub greatest : IsGreatest old clock
+  pub greatest : IsGreatest (length old.actors) old.clock clock
   pub level : AllAt new clock
 
 module _ {A P I : Type 0} (part : A → P) (makes : Makes P I) where
@@ -95,7 +95,7 @@ module _ {A P I : Type 0} (part : A → P) (makes : Makes P I) where
     pub deeds : List (Deed I)
     pub from : ℕ
     pub to : ℕ
-    pub greatest : IsGreatest old from
+    pub greatest : IsGreatest (length old.actors) old.clock from
     pub level : AllAt new to
     pub counted : Counted from deeds to
     pub own : AllByRecursion (IsOwn k) deeds

@@ -50,7 +50,7 @@ pub record Notes {I : Type 0} (old : Post I) (entry : JournalEntry) (new : Post 
   pub boxes : new.boxes ≡ old.boxes
 
 -- The item stands last in the outbox for its receiver, stamped with the last clock. Where no edge leads there it is dropped.
-pub record Sends {I : Type 0} (old : Post I) (to : ℕ) (x : I) (new : Post I) : Type 0 where
+pub record SendsItem {I : Type 0} (old : Post I) (to : ℕ) (x : I) (new : Post I) : Type 0 where
   pub actor : actor_of new ≡ actor_of old
   pub clock : clock_of new ≡ clock_of old
   pub entries : entries_in new ≡ entries_in old

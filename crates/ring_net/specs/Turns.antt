@@ -1,18 +1,18 @@
 -- What an actor did in one phase: its takes, then its turn.
-use Rattle.std.specs.Prelude.{ℕ, ◌≡◌, ◌≤◌, true, List, [], ◌++◌, length, map}
+use Rattle.std.specs.Prelude.{ℕ, ◌≡◌, ◌≤◌, true, List, [], ◌++◌, length}
 use Rattle.std.specs.List.{AllByRecursion}
-use Rattle.ring_net.specs.Deeds.{Deed, Noted, Makes, Replay, IsOwn, IsLater, TakesNone, Rising, Climbs, deeds, senders, sent_by, taken_from}
+use Rattle.ring_net.specs.Deeds.{Deed, Noted, Makes, Replay, IsOwn, TakesNone, Clocked, Climbs, deeds, entries_of, senders, sent_to, taken_from}
 use Rattle.ring_net.specs.declared.post.Post.{Post}
 use Rattle.ring_net.specs.Posts.{actor_of, clock_of, entries_in, has_edge, waits}
 
--- The entries and outboxes of a post after several calls, between which the clock may leap.
-pub record Posted {I : Type 0} (old : Post I) (ds : List (Deed I)) (new : Post I) : Type 0 where
+-- The entries and outboxes of a post after several calls, before each of which the clock met the stamp of what it takes.
+pub record Posted {I : Type 0} (old : Post I) (ns : List (Noted I)) (new : Post I) : Type 0 where
   pub actor : actor_of new ≡ actor_of old
-  pub own : AllByRecursion (IsOwn (actor_of old)) ds
-  pub clocks : Rising (clock_of old) ds (clock_of new)
-  pub entries : entries_in new ≡ entries_in old ++ map (λ d. d.entry) ds
+  pub own : AllByRecursion (IsOwn (actor_of old)) (deeds ns)
+  pub clocks : Clocked (clock_of old) ns (clock_of new)
+  pub entries : entries_in new ≡ entries_in old ++ entries_of ns
   pub edges : (b : ℕ) → has_edge new b ≡ has_edge old b
-  pub boxes : (b : ℕ) → has_edge old b ≡ true → waits new b ≡ waits old b ++ sent_by b ds
+  pub boxes : (b : ℕ) → has_edge old b ≡ true → waits new b ≡ waits old b ++ sent_to b ns
 
 -- One take after another: the actor before, the events of all, the actor after.
 pub data Tooks {A I : Type 0} (took : A → ℕ → I → List (Deed I) → A → Type 0) : A → List (Deed I) → A → Type 0 where
@@ -22,9 +22,8 @@ pub data Tooks {A I : Type 0} (took : A → ℕ → I → List (Deed I) → A �
 module _ {A P I : Type 0} (part : A → P) (makes : Makes P I) (took : A → ℕ → I → List (Deed I) → A → Type 0) where
   -- what several takes leave
   pub record TookAll (a : A) (old : Post I) (ns : List (Noted I)) (b : A) (new : Post I) : Type 0 where
-    pub posted : Posted old (deeds ns) new
+    pub posted : Posted old ns new
     pub replay : Replay makes (actor_of old) (part a) (deeds ns) (part b)
-    pub later : AllByRecursion IsLater ns
     pub tooks : Tooks took a (deeds ns) b
 
   -- The actor of number k in a phase, between two clocks: one take for each item that it took, by rising number
@@ -41,5 +40,4 @@ module _ {A P I : Type 0} (part : A → P) (makes : Makes P I) (took : A → ℕ
     pub most : (a : ℕ) → length (taken_from a ns) ≤ 256
     pub replay : Replay makes k (part old) (deeds ns) (part new)
     pub own : AllByRecursion (IsOwn k) (deeds ns)
-    pub later : AllByRecursion IsLater ns
-    pub rising : Rising before (deeds ns) after
+    pub clocks : Clocked before ns after

@@ -3,11 +3,12 @@
 ghost use Rattle.std.specs.Prelude.{◌≡◌, ◌≢◌, ◌≤◌, ◌<◌, ◌==◌, ◌++◌, ◌∷◌, [], ℕ, None, Some, true, false, if◌then◌else◌, length, map, slice_index_or, OnOk, IfOk};
 ghost use Rattle.ring_net.specs.Posts.{actor_of, clock_of, entries_in, has_edge, waits};
 ghost use Rattle.ring_net.specs.Fresh.{IsBlank, AllBlank, AddsOut, AddsIn, Connects, Fresh};
-ghost use Rattle.ring_net.specs.Nets.{Linked, Joined, Known};
+ghost use Rattle.ring_net.specs.Nets.{Linked, IsOneRing, Known};
 ghost use Rattle.rtrb.specs.Ring.{known_items};
 
 use crate::actor::Actor;
 use crate::cell::Cell;
+use crate::ends::Ends;
 use crate::entry::Stamped;
 use crate::parts::Actors;
 use crate::post::{Post, open_box};
@@ -26,8 +27,8 @@ fn begin_cell<A: Actor>(alloc: Global, actor: A, number: u16) -> Result<Cell<A>,
     Ok(Cell {
         actor,
         post: Post::begin(alloc, number, 0, &[])?,
-        rings: Vec::new(alloc),
-        ins: Vec::new(alloc),
+        rings: Ends::new(alloc),
+        ins: Ends::new(alloc),
         has_failed: false,
     })
 }
@@ -48,17 +49,6 @@ fn begin_cells<A: Actor>(alloc: Global, actors: Vec<A>) -> Result<Vec<Cell<A>>, 
     Ok(cells)
 }
 
-/// Puts an end of a ring at this place, by the number of the peer.
-fn put_end<T: Drop>(ends: &mut Vec<Option<T>>, at: usize, end: T) -> Result<(), NoMemory>
-    ensures { OnOk result ((x : ℕ) → slice_index_or ends.new.items x None ≡ (if x == at then Some end else slice_index_or ends.old.items x None)) }
-{
-    while ends.len() <= at {
-        ends.push(None)?;
-    }
-    ends[at] = Some(end);
-    Ok(())
-}
-
 /// Gives a cell an outbox and the end of a ring to the actor b.
 fn add_out<A: Actor>(
     alloc: Global,
@@ -69,7 +59,7 @@ fn add_out<A: Actor>(
     ensures { OnOk result (AddsOut b out cell.old cell.new) }
 {
     open_box(alloc, &mut cell.post.boxes, b)?;
-    put_end(&mut cell.rings, b, out)
+    cell.rings.put(b, out)
 }
 
 /// Gives a cell the end of a ring from the actor a.
@@ -80,7 +70,7 @@ fn add_in<A: Actor>(
 ) -> Result<(), NoMemory>
     ensures { OnOk result (AddsIn a into cell.old cell.new) }
 {
-    put_end(&mut cell.ins, a, into)
+    cell.ins.put(a, into)
 }
 
 /// Makes the ring of the edge from the actor a to the actor b.

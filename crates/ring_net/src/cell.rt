@@ -1,12 +1,13 @@
 //! A cell: an actor with its post and its ends of the rings, and what it does in a phase.
 
 ghost use Rattle.std.specs.Prelude.{◌≡◌, ◌≢◌, ◌≤◌, ◌<◌, ◌+◌, ◌++◌, ℕ, None, length, slice_index_or, is_some};
-ghost use Rattle.std.specs.Bool.{OnTrue};
 ghost use Rattle.rtrb.specs.Ring.{sent, received, known_free, SameProducer, SameConsumer, consumer_capacity};
 ghost use Rattle.ring_net.specs.Posts.{box_items, SameEdges};
 ghost use Rattle.ring_net.specs.Ends.{Flushed, SameIn, SameOut};
+ghost use Rattle.ring_net.specs.Peers.{Lists};
 
 use crate::actor::Actor;
+use crate::ends::Ends;
 use crate::entry::{Stamp, Stamped};
 use crate::post::Post;
 use graft_edge::NoMemory;
@@ -19,8 +20,8 @@ use std::collections::VecDeque;
 pub struct Cell<A: Actor> {
     pub(crate) actor: A,
     pub(crate) post: Post<A::Item>,
-    pub(crate) rings: Vec<Option<Producer<Stamped<A::Item>>>>,
-    pub(crate) ins: Vec<Option<Consumer<Stamped<A::Item>>>>,
+    pub(crate) rings: Ends<Producer<Stamped<A::Item>>>,
+    pub(crate) ins: Ends<Consumer<Stamped<A::Item>>>,
     pub(crate) has_failed: bool,
 }
 
@@ -72,15 +73,27 @@ fn flush_at<I: Drop>(
 }
 
 /// The same for each receiver.
-fn flush_all<I: Drop>(
+fn flush_each<I: Drop>(
+    receivers: &[usize],
     rings: &mut [Option<Producer<Stamped<I>>>],
     boxes: &mut [Option<VecDeque<Stamped<I>>>],
 )
+    requires { Lists rings.old receivers.now }
     ensures { (b : ℕ) → Flushed (slice_index_or rings.old b None) (slice_index_or boxes.old b None) (slice_index_or rings.new b None) (slice_index_or boxes.new b None) }
 {
-    for b in 0..rings.len() {
-        flush_at(rings, boxes, b);
+    for b in receivers {
+        flush_at(rings, boxes, *b);
     }
+}
+
+/// The same of a cell's ends.
+fn flush_all<I: Drop>(
+    rings: &mut Ends<Producer<Stamped<I>>>,
+    boxes: &mut [Option<VecDeque<Stamped<I>>>],
+)
+    ensures { (b : ℕ) → Flushed (slice_index_or rings.old.slots.items b None) (slice_index_or boxes.old b None) (slice_index_or rings.new.slots.items b None) (slice_index_or boxes.new b None) }
+{
+    flush_each(rings.peers.as_slice(), rings.slots.as_mut_slice(), boxes);
 }
 
 ghost use Rattle.std.specs.Prelude.{true, false, max, OnOk};
@@ -98,37 +111,33 @@ fn take_one<A: Actor>(
     from: usize,
     mail: Stamped<A::Item>,
     post: &mut Post<A::Item>,
-) -> bool
+) -> Result<(), NoMemory>
     ensures edges { SameEdges post.old post.new }
-    ensures took { OnTrue result (TookItem A.part A.makes A.took from mail.item actor.old (record post.old { clock = max post.old.clock mail.stamp.0 }) actor.new post.new) }
+    ensures took { OnOk result (TookItem A.part A.makes A.took from mail.item actor.old (record post.old { clock = max post.old.clock mail.stamp.0 }) actor.new post.new) }
 {
     let Stamped { stamp, item } = mail;
     post.meet(stamp);
-    actor.take(from, item, post).is_ok()
+    actor.take(from, item, post)
 }
 
-/// Takes what is in the ring, up to 256 items. It answers whether memory was found.
+/// Takes what is in the ring, up to 256 items.
 fn take_from<A: Actor>(
     actor: &mut A,
     from: usize,
     into: &mut Consumer<Stamped<A::Item>>,
     post: &mut Post<A::Item>,
-) -> bool
+) -> Result<(), NoMemory>
     ensures ring { SameConsumer into.old into.new }
     ensures edges { SameEdges post.old post.new }
-    ensures took { OnTrue result (TookFrom A.part A.makes A.took from actor.old post.old into.old actor.new post.new into.new) }
+    ensures took { OnOk result (TookFrom A.part A.makes A.took from actor.old post.old into.old actor.new post.new into.new) }
 {
     for _ in 0..MOST {
         match into.pop() {
-            Ok(mail) => {
-                if !take_one(actor, from, mail, post) {
-                    return false;
-                }
-            }
-            Err(_) => return true,
+            Ok(mail) => take_one(actor, from, mail, post)?,
+            Err(_) => return Ok(()),
         }
     }
-    true
+    Ok(())
 }
 
 /// The same where the ring is there.
@@ -137,14 +146,14 @@ fn take_maybe<A: Actor>(
     from: usize,
     into: &mut Option<Consumer<Stamped<A::Item>>>,
     post: &mut Post<A::Item>,
-) -> bool
+) -> Result<(), NoMemory>
     ensures ring { SameIn into.old into.new }
     ensures edges { SameEdges post.old post.new }
-    ensures took { OnTrue result (TookOne A.part A.makes A.took from actor.old post.old into.old actor.new post.new into.new) }
+    ensures took { OnOk result (TookOne A.part A.makes A.took from actor.old post.old into.old actor.new post.new into.new) }
 {
     match into {
         Some(ring) => take_from(actor, from, ring, post),
-        None => true,
+        None => Ok(()),
     }
 }
 
@@ -154,12 +163,12 @@ fn take_at<A: Actor>(
     ins: &mut [Option<Consumer<Stamped<A::Item>>>],
     from: usize,
     post: &mut Post<A::Item>,
-) -> bool
+) -> Result<(), NoMemory>
     requires { from < length ins.old }
     ensures ring { SameIn (slice_index_or ins.old from None) (slice_index_or ins.new from None) }
     ensures edges { SameEdges post.old post.new }
     ensures others { (a : ℕ) → a ≢ from → slice_index_or ins.new a None ≡ slice_index_or ins.old a None }
-    ensures took { OnTrue result (TookOne A.part A.makes A.took from actor.old post.old (slice_index_or ins.old from None) actor.new post.new (slice_index_or ins.new from None)) }
+    ensures took { OnOk result (TookOne A.part A.makes A.took from actor.old post.old (slice_index_or ins.old from None) actor.new post.new (slice_index_or ins.new from None)) }
 {
     take_maybe(actor, from, &mut ins[from], post)
 }
@@ -167,47 +176,47 @@ fn take_at<A: Actor>(
 /// The same for each sender in turn.
 fn take_each<A: Actor>(
     actor: &mut A,
+    senders: &[usize],
     ins: &mut [Option<Consumer<Stamped<A::Item>>>],
     post: &mut Post<A::Item>,
-) -> bool
+) -> Result<(), NoMemory>
+    requires { Lists ins.old senders.now }
     ensures rings { (a : ℕ) → SameIn (slice_index_or ins.old a None) (slice_index_or ins.new a None) }
     ensures edges { SameEdges post.old post.new }
-    ensures took { OnTrue result (TookEach A.part A.makes A.took actor.old post.old ins.old actor.new post.new ins.new) }
+    ensures took { OnOk result (TookEach A.part A.makes A.took actor.old post.old ins.old actor.new post.new ins.new) }
 {
-    for from in 0..ins.len() {
-        if !take_at(actor, ins, from, post) {
-            return false;
-        }
+    for from in senders {
+        take_at(actor, ins, *from, post)?;
     }
-    true
+    Ok(())
 }
 
 /// All that an actor does in a phase: its takes, then its turn.
 fn act<A: Actor>(
     actor: &mut A,
-    ins: &mut [Option<Consumer<Stamped<A::Item>>>],
+    ins: &mut Ends<Consumer<Stamped<A::Item>>>,
     post: &mut Post<A::Item>,
-) -> bool
-    ensures rings { (a : ℕ) → SameIn (slice_index_or ins.old a None) (slice_index_or ins.new a None) }
+) -> Result<(), NoMemory>
+    ensures rings { (a : ℕ) → SameIn (slice_index_or ins.old.slots.items a None) (slice_index_or ins.new.slots.items a None) }
     ensures edges { SameEdges post.old post.new }
-    ensures acts { OnTrue result (Acts A.part A.makes A.took A.turned actor.old post.old ins.old actor.new post.new ins.new) }
+    ensures acts { OnOk result (Acts A.part A.makes A.took A.turned actor.old post.old ins.old.slots.items actor.new post.new ins.new.slots.items) }
 {
-    if !take_each(actor, ins, post) {
-        return false;
-    }
-    match actor.turn(post) {
-        Ok(()) => true,
-        Err(NoMemory) => false,
-    }
+    take_each(
+        actor,
+        ins.peers.as_slice(),
+        ins.slots.as_mut_slice(),
+        post,
+    )?;
+    actor.turn(post)
 }
 
 /// A cell acts, and pushes what waits into the rings.
 pub(crate) fn turn<A: Actor>(cell: &mut Cell<A>)
     ensures { CellTurned A.part A.makes A.took A.turned cell.old cell.new }
 {
-    let has_memory = act(&mut cell.actor, cell.ins.as_mut_slice(), &mut cell.post);
-    flush_all(cell.rings.as_mut_slice(), cell.post.boxes.as_mut_slice());
-    if !has_memory {
+    let acted = act(&mut cell.actor, &mut cell.ins, &mut cell.post);
+    flush_all(&mut cell.rings, cell.post.boxes.as_mut_slice());
+    if let Err(NoMemory) = acted {
         cell.has_failed = true;
     }
 }

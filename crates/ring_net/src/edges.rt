@@ -7,6 +7,7 @@ ghost use Rattle.ring_net.specs.Reads.{ReadsEnds, LooksOut, LooksIn, ReadsEdge};
 
 use crate::actor::Actor;
 use crate::cell::Cell;
+use crate::ends::Ends;
 use crate::entry::Stamped;
 use rtrb::{Consumer, Producer};
 
@@ -39,6 +40,23 @@ fn read_both<I: Drop>(
 
 ghost use Rattle.ring_net.specs.Cells.{ring_to, ring_from};
 
+/// The same at the places of two peers.
+fn read_slots<I: Drop>(
+    rings: &mut Ends<Producer<Stamped<I>>>,
+    a: usize,
+    ins: &mut Ends<Consumer<Stamped<I>>>,
+    b: usize,
+)
+    requires { (p : _) (c : _) → slice_index_or rings.old.slots.items b None ≡ Some p → slice_index_or ins.old.slots.items a None ≡ Some c → IsPair p c }
+    ensures ends { ReadsEnds (slice_index_or rings.old.slots.items b None) (slice_index_or ins.old.slots.items a None) (slice_index_or rings.new.slots.items b None) (slice_index_or ins.new.slots.items a None) }
+    ensures rings { (x : ℕ) → x ≢ b → slice_index_or rings.new.slots.items x None ≡ slice_index_or rings.old.slots.items x None }
+    ensures ins { (x : ℕ) → x ≢ a → slice_index_or ins.new.slots.items x None ≡ slice_index_or ins.old.slots.items x None }
+{
+    if b < rings.slots.len() && a < ins.slots.len() {
+        read_both(&mut rings.slots[b], &mut ins.slots[a]);
+    }
+}
+
 /// Reads the ends of the edge from one cell, of number a, to another, of number b.
 fn read_cells<A: Actor>(from: &mut Cell<A>, a: usize, to: &mut Cell<A>, b: usize)
     requires { (p : _) (c : _) → ring_to from.old b ≡ Some p → ring_from to.old a ≡ Some c → IsPair p c }
@@ -46,9 +64,7 @@ fn read_cells<A: Actor>(from: &mut Cell<A>, a: usize, to: &mut Cell<A>, b: usize
     ensures from { LooksOut b from.old from.new }
     ensures to { LooksIn a to.old to.new }
 {
-    if b < from.rings.len() && a < to.ins.len() {
-        read_both(&mut from.rings[b], &mut to.ins[a]);
-    }
+    read_slots(&mut from.rings, a, &mut to.ins, b);
 }
 
 /// The same in a list of cells.

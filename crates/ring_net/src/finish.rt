@@ -6,7 +6,7 @@ ghost use Rattle.ring_net.specs.Posts.{box_items, entries_in, waits};
 ghost use Rattle.ring_net.specs.Ends.{ring_known};
 ghost use Rattle.ring_net.specs.Cells.{ring_from};
 ghost use Rattle.ring_net.specs.Nets.{IsNet, in_end, waits_of, view_of};
-ghost use Rattle.ring_net.specs.Fresh.{EachOnce};
+ghost use Rattle.ring_net.specs.Fresh.{EdgesOnce};
 ghost use Rattle.ring_net.specs.Left.{left_of, actors_of, journals_of, Drains, WithoutRing, WithoutBox};
 
 use crate::actor::Actor;
@@ -23,11 +23,7 @@ fn take_ring<A: Actor>(cell: &mut Cell<A>, a: usize) -> Option<Consumer<Stamped<
     ensures ring { result ≡ ring_from cell.old a }
     ensures rest { WithoutRing a cell.old cell.new }
 {
-    if a < cell.ins.len() {
-        cell.ins[a].take()
-    } else {
-        None
-    }
+    cell.ins.take(a)
 }
 
 /// Takes an outbox out of a cell: that for the actor b.
@@ -111,7 +107,7 @@ pub(crate) fn drain_all<A: Actor>(
     edges: &[(u16, u16)],
 ) -> Result<Lefts<A::Item>, NoMemory>
     requires net { IsNet cells.old edges.now }
-    requires once { EachOnce edges.now }
+    requires once { EdgesOnce edges.now }
     ensures left { IfOk result (λ left. left ≡ left_of (view_of cells.old edges.now) edges.now) }
     ensures actors { actors_of cells.new ≡ actors_of cells.old }
     ensures journals { journals_of cells.new ≡ journals_of cells.old }

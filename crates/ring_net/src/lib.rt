@@ -7,6 +7,7 @@ mod build;
 mod cell;
 mod clocks;
 mod edges;
+mod ends;
 mod entry;
 mod finish;
 mod laws;
@@ -17,7 +18,7 @@ mod post;
 
 pub use actor::Actor;
 pub use entry::{JournalEntry, Stamp, Stamped};
-pub use laws::two_phases_drain;
+pub use laws::{clocks_rise, two_phases_drain};
 pub use net::Net;
 pub use parts::{Actors, Journal, Journals, Left, Lefts, Mark, Marks, Parts};
 pub use post::Post;

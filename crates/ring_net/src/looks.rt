@@ -64,8 +64,8 @@ fn ring_len<A: Actor>(cell: &Cell<A>, a: usize) -> usize
     ensures count { result ≡ length (ring_known (ring_from cell.now a)) }
     ensures bound { result < 2 ^ 63 }
 {
-    if a < cell.ins.len() {
-        known_count(&cell.ins[a])
+    if a < cell.ins.slots.len() {
+        known_count(&cell.ins.slots[a])
     } else {
         0
     }

@@ -1,13 +1,12 @@
 //! The net: cells and the edges between them, turned in phases.
 
-ghost use Rattle.std.specs.Prelude.{◌≡◌, ◌≤◌, ◌<◌, ◌+◌, ◌++◌, ℕ, false, length, map, slice_index_or, slice_get, IfOk};
+ghost use Rattle.std.specs.Prelude.{◌≡◌, ◌≤◌, ◌<◌, ◌+◌, ◌++◌, ℕ, false, length, map, slice_index_or, slice_get, IfOk, OnOk};
 ghost use Rattle.ring_net.specs.Posts.{entries_in};
-ghost use Rattle.std.specs.Bool.{OnTrue};
 ghost use Rattle.std.specs.List.{list_any};
 ghost use Rattle.ring_net.specs.declared.cell.Cell.{Cell};
 ghost use Rattle.ring_net.specs.Cells.{CellTurned};
 ghost use Rattle.ring_net.specs.Phases.{Phase, InOrder};
-ghost use Rattle.ring_net.specs.Fresh.{EachOnce};
+ghost use Rattle.ring_net.specs.Fresh.{EdgesOnce};
 ghost use Rattle.ring_net.specs.Journals.{ClocksRise-prop};
 ghost use Rattle.std.proofs.Props.{props};
 ghost use Rattle.ring_net.specs.Nets.{IsNet, view_of};
@@ -59,29 +58,29 @@ fn any_failed<A: Actor>(cells: &[Cell<A>]) -> bool
     cells.iter().any(|cell| cell.has_failed)
 }
 
-/// One phase, and a read of both ends of every edge. It answers whether memory was found.
+/// One phase, and a read of both ends of every edge.
 fn phase_all<R: Threads + Sync, G: Gate, A: Actor + Send>(
     rt: &R,
     cells: &mut [Cell<A>],
     edges: &[(u16, u16)],
     workers: usize,
     gate: &G,
-) -> bool
+) -> Result<(), NoMemory>
 where
     A::Item: Send,
     requires workers { 0 < workers }
     requires net { IsNet cells.old edges.now }
     requires order { InOrder (view_of cells.old edges.now) }
     ensures net { IsNet cells.new edges.now }
-    ensures order { OnTrue result (InOrder (view_of cells.new edges.now)) }
-    ensures phase { OnTrue result (Phase A.part A.makes A.took A.turned (view_of cells.old edges.now) (view_of cells.new edges.now)) }
+    ensures order { OnOk result (InOrder (view_of cells.new edges.now)) }
+    ensures phase { OnOk result (Phase A.part A.makes A.took A.turned (view_of cells.old edges.now) (view_of cells.new edges.now)) }
 {
     turn_all(rt, cells, workers, gate);
     read_all(cells, edges);
     if any_failed(cells) {
-        return false;
+        return Err(NoMemory);
     }
-    true
+    Ok(())
 }
 
 /// Actors that hand items over. Each edge from one actor to another is a ring with room for 256 items
@@ -95,7 +94,7 @@ pub struct Net<A: Actor> {
     has_failed: bool,
     ghost sound: { IsNet cells.items edges.items },
     ghost some: { 0 < length cells.items },
-    ghost once: { EachOnce edges.items },
+    ghost once: { EdgesOnce edges.items },
     ghost ordered: { has_failed ≡ false → InOrder (view_of cells.items edges.items) } by { Prim.hlevel (props, ClocksRise-prop) },
 }
 
@@ -152,17 +151,15 @@ impl<A: Actor> Net<A> {
         if self.has_failed {
             return Err(NoMemory);
         }
-        if !phase_all(
+        let turned = phase_all(
             rt,
             self.cells.as_mut_slice(),
             self.edges.as_slice(),
             workers,
             gate,
-        ) {
-            self.has_failed = true;
-            return Err(NoMemory);
-        }
-        Ok(())
+        );
+        self.has_failed = turned.is_err();
+        turned
     }
 
     /// Appends the length of each journal to the marks.

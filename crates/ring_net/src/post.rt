@@ -2,7 +2,7 @@
 
 ghost use Rattle.std.specs.Prelude.{◌≡◌, ◌+◌, ◌++◌, ◌∷◌, ◌≢◌, ◌↔◌, [], ℕ, max, option_map, None, true, OnOk, OnErr, IfOk, IfErr, IfSome, IfNone, IsNone, Contains, IsTrue};
 ghost use Rattle.std.specs.List.{list_any};
-ghost use Rattle.ring_net.specs.Posts.{actor_of, clock_of, entries_in, has_edge, waits, Notes, Sends, Wrote, SameEdges};
+ghost use Rattle.ring_net.specs.Posts.{actor_of, clock_of, entries_in, has_edge, waits, Notes, SendsItem, Wrote, SameEdges};
 
 use crate::entry::{JournalEntry, Stamp, Stamped};
 use crate::parts::Journal;
@@ -77,7 +77,7 @@ impl<I: Drop> Post<I> {
     /// Appends the item to the outbox for its receiver, with the last clock as its stamp. Where no edge
     /// leads from this actor to `to`, the item is dropped. Where no memory is found, it is handed back.
     pub fn send(&mut self, to: usize, item: I) -> Result<(), I>
-        ensures ok { OnOk result (Sends self.old to item self.new) }
+        ensures ok { OnOk result (SendsItem self.old to item self.new) }
         ensures err { IfErr result (λ back. (back ≡ item) × Wrote self.old [] self.new) }
     {
         if to >= self.boxes.len() {

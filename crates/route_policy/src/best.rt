@@ -1,10 +1,19 @@
 //! What a router decided on.
 
-use bgp_types::{From, Route};
+use bgp_types::{From, NoMemory, Route, TryCopy};
 
 /// The best route to a prefix, and where it comes from.
-#[derive(Debug, Drop)]
+#[derive(Debug, PartialEq, Eq, Drop)]
 pub struct Best {
     pub from: From,
     pub route: Route,
+}
+
+impl TryCopy for Best {
+    fn copy(&self) -> Result<Best, NoMemory> {
+        Ok(Best {
+            from: self.from,
+            route: self.route.copy()?,
+        })
+    }
 }

@@ -1,12 +1,15 @@
-//! Routing policies (RFC 4271, sections 9.1.1 and 9.1.3), and what a router goes by when it decides and tells.
+//! Routing policies (RFC 4271, sections 9.1.1 and 9.1.3), the ranks of routes, and what a router goes by when
+//! it decides and tells.
 #![tactic(auto)]
 
 mod best;
 mod path;
 mod policy;
+mod rank;
 mod rule;
 
 pub use best::Best;
 pub use path::prepend;
 pub use policy::Policy;
+pub use rank::{own_rank, router_rank, session_rank};
 pub use rule::{PrefixRange, Rule, Rules};

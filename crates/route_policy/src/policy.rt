@@ -27,7 +27,7 @@ impl Policy {
     ghost use Rattle.route_policy.specs.Rules.{matches as matches_lem};
     ghost use Rattle.route_policy.specs.Policies.{policy as policy_lem};
 
-    /// The policy of these rules. It takes no memory.
+    /// The policy of these rules, which are tried in their order. It takes no memory.
     pub fn new(rules: Rules) -> Policy
         ensures { result ≡ rules }
     {
@@ -39,14 +39,14 @@ impl Policy {
         ensures { result ≡ position (λ rule. matches_lem rule prefix route.now) self.now }
     {
         self.rules
-            .as_slice()
             .iter()
             .position(|rule| matches(rule, prefix, route))
     }
 
-    /// What becomes of a route. Where a rule matches, the first that does decides: the route is refused,
-    /// and there is none, or else its preference and MED are set, and `as_number` is put in front of its
-    /// path as often as the rule says. Where none matches, the route stays as it is.
+    /// What becomes of a route. The first rule that matches decides: it refuses the route, and the answer
+    /// is `None`, or else it sets the preference and the MED that it has, and puts `as_number` in front of
+    /// the path as often as it says. If none matches, the route stays as it is. If memory runs out, the
+    /// route is gone.
     pub fn apply(
         &self,
         prefix: Prefix,
@@ -56,7 +56,7 @@ impl Policy {
         ensures { IfOk result (λ answer. answer ≡ policy_lem self.now prefix as_number route) }
     {
         match self.matching(prefix, &route) {
-            Some(place) => decide(&self.rules.as_slice()[place], route, as_number),
+            Some(place) => decide(&self.rules[place], route, as_number),
             None => Ok(Some(route)),
         }
     }
@@ -98,129 +98,5 @@ impl TryCopy for Policy {
         Ok(Policy {
             rules: self.rules.copy()?,
         })
-    }
-}
-
-#[cfg(test)]
-mod tests {
-    use super::*;
-    use crate::rule::PrefixRange;
-    use bgp_types::{AsPath, Items, Origin, PathPart, RawAttrs};
-    use std::alloc::Global;
-    use std::test::Fail;
-
-    const ANY: Rule = Rule {
-        within: None,
-        has_as: None,
-        origin: None,
-        deny: false,
-        pref: None,
-        med: None,
-        prepend: 0,
-    };
-
-    /// A route with ORIGIN EGP and MED 7, over 65001 and 65002.
-    fn route(alloc: Global) -> Result<Route, NoMemory> {
-        let mut path: AsPath = Items::new(alloc);
-        path.push(PathPart::Sequence(Items::from_slice(alloc, &[65001, 65002])?))?;
-        let unknown: RawAttrs = Items::new(alloc);
-        Ok(Route {
-            attrs: Attrs {
-                origin: Origin::Egp,
-                path,
-                next_hop: 0xC000_0201,
-                med: Some(7),
-                atomic: false,
-                aggregator: None,
-                unknown,
-            },
-            pref: 100,
-        })
-    }
-
-    fn policy(alloc: Global, rules: &[Rule]) -> Result<Policy, NoMemory> {
-        Ok(Policy::new(Items::from_slice(alloc, rules)?))
-    }
-
-    /// The rule for the prefixes of 10.0.0.0/8 of these lengths.
-    fn range(ge: u8, le: u8) -> Rule {
-        Rule {
-            within: Prefix::new(0x0A00_0000, 8).map(|prefix| PrefixRange { prefix, ge, le }),
-            ..ANY
-        }
-    }
-
-    /// The place of the rule that matches the prefix of this address and length.
-    fn place(
-        alloc: Global,
-        rules: &[Rule],
-        address: u32,
-        len: u8,
-    ) -> Result<Option<usize>, NoMemory> {
-        let Some(prefix) = Prefix::new(address, len) else {
-            return Ok(None);
-        };
-        Ok(
-            policy(alloc, rules)?
-                .copy()?
-                .matching(prefix, &route(alloc)?),
-        )
-    }
-
-    /// What becomes of the route to 10.64.0.0/10.
-    fn applied(alloc: Global, rules: &[Rule]) -> Result<Option<Route>, NoMemory> {
-        let Some(prefix) = Prefix::new(0x0A40_0000, 10) else {
-            return Ok(None);
-        };
-        policy(alloc, rules)?.apply(prefix, route(alloc)?, 65001)
-    }
-
-    #[test]
-    fn the_first_rule_whose_parts_all_match(rt: HostRuntime) -> Result<(), Fail> {
-        let mine = Rule {
-            has_as: Some(65002),
-            origin: Some(Origin::Egp),
-            ..ANY
-        };
-        let rules = [
-            Rule {
-                has_as: Some(65009),
-                ..ANY
-            },
-            Rule {
-                origin: Some(Origin::Igp),
-                ..mine
-            },
-            range(11, 24),
-            range(10, 10),
-            mine,
-            ANY,
-        ];
-        for (len, wanted) in [(10, 3), (11, 2), (24, 2), (25, 4), (32, 4)] {
-            let found = place(rt.alloc(), &rules, 0x0A40_0000, len)?;
-            assert_eq!(rt; found, Some(wanted), "length {len}");
-        }
-        assert_eq!(rt; place(rt.alloc(), &[range(8, 32)], 0x0B00_0000, 12)?, None);
-        Ok(())
-    }
-
-    #[test]
-    fn a_rule_that_matches_sets_what_it_has(rt: HostRuntime) -> Result<(), Fail> {
-        let raises = Rule {
-            pref: Some(200),
-            med: Some(0),
-            prepend: 2,
-            ..ANY
-        };
-        let denies = Rule { deny: true, ..ANY };
-        let changed = applied(rt.alloc(), &[range(11, 11), raises, denies])?.ok_or("denied")?;
-        assert_eq!(rt; (changed.pref, changed.attrs.med), (200, Some(0)));
-        assert_eq!(rt; changed.attrs.next_hop, 0xC000_0201);
-        assert_eq!(rt; bgp_types::path_len(&changed.attrs.path), 4);
-        let denied = applied(rt.alloc(), &[denies, raises])?;
-        assert_eq!(rt; denied.is_none(), true);
-        let kept = applied(rt.alloc(), &[range(11, 11)])?.ok_or("denied")?;
-        assert_eq!(rt; (kept.pref, kept.attrs.med), (100, Some(7)));
-        Ok(())
     }
 }

@@ -70,7 +70,7 @@ fn has_origin(wanted: Option<Origin>, origin: Origin) -> bool
     ensures { result ≡ has_some_origin wanted origin }
 {
     match wanted {
-        Some(wanted) => wanted as u8 == origin as u8,
+        Some(wanted) => wanted == origin,
         None => true,
     }
 }

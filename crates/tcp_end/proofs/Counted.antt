@@ -6,9 +6,11 @@ use Rattle.std.specs.Option.{option_or}
 use Rattle.std.proofs.lemmas.List.Edits.{map_over_more}
 use Rattle.tcp_seq.specs.Numbers.{plus, offset_from}
 use Rattle.tcp_seq.specs.declared.state.Piece.{Piece}
-use Rattle.tcp_reasm.specs.Runs.{byte_from, held, AreRuns}
+use Rattle.tcp_reasm.specs.Runs.{held, AreRuns}
+use Rattle.tcp_seq.specs.Endpoint.{byte_from}
 use Rattle.tcp_end.specs.State.{counted_from, raised}
-use Rattle.tcp_end.proofs.Held.{byte_below, byte_there, runs_from}
+use Rattle.tcp_reasm.proofs.Held.{runs_from}
+use Rattle.tcp_seq.proofs.ByteFrom.{byte_below, byte_there}
 
 -- one more piece is counted from a place
 pub counted_more : (base : ℕ) (xs ys : List Piece) (i : ℕ) (x : Piece) (place : ℕ) → i < length xs → ys ≡ counted_from base (take i xs) ++ drop i xs → x ≡ get_or ys i x → place ≡ offset_from (get_or ys i x).place base

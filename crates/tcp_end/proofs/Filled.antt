@@ -7,10 +7,12 @@ use Rattle.std.proofs.lemmas.Option.{slice_get-get_or}
 use Rattle.std.specs.List.{slice_get}
 use Rattle.std.specs.Option.{option_or}
 use Rattle.tcp_seq.specs.declared.state.Piece.{Piece}
-use Rattle.tcp_reasm.specs.Runs.{byte_from, held, AreRuns}
+use Rattle.tcp_reasm.specs.Runs.{held, AreRuns}
+use Rattle.tcp_seq.specs.Endpoint.{byte_from}
 use Rattle.tcp_end.specs.Filling.{reached, filled}
-use Rattle.tcp_end.proofs.Lookups.{get-append_left, get-append_right, get-drop, get-take}
-use Rattle.tcp_end.proofs.Held.{byte_there, held_below, runs-take, held_here, held_later, byte_below}
+use Rattle.tcp_seq.proofs.Lookups.{get-append_left, get-append_right, get-drop, get-take}
+use Rattle.tcp_reasm.proofs.Held.{held_below, runs-take, held_here, held_later}
+use Rattle.tcp_seq.proofs.ByteFrom.{byte_there, byte_below}
 
 -- The run from `at` on, of bytes from the place expected next on and the first c of pieces that stand at `at` or above: it goes as
 -- far as the bytes do, the other pieces stand above its end, and it has the pieces' bytes, else the given ones.

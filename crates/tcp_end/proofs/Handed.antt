@@ -1,6 +1,7 @@
 -- Pieces whose places are counted from the stream's first byte, as they are handed over, or from the place expected next.
 use Rattle.std.proofs.Common.{◌≡◌, ℕ, ◌+◌, ◌-◌, ◌^◌, ◌%◌, ◌<◌, ◌≤◌, List, [], ◌∷◌, length, refl, sym, ap, subst, ◌∙◌, arith}
 use Rattle.tcp_seq.specs.Numbers.{plus, offset_from}
+use Rattle.tcp_seq.specs.Rules.{IsInStream}
 use Rattle.tcp_seq.specs.declared.state.Piece.{Piece}
 use Rattle.tcp_reasm.specs.Runs.{AreRuns}
 use Rattle.tcp_reasm.specs.Reassembly.{Reassembly}
@@ -9,7 +10,7 @@ use Rattle.tcp_end.specs.State.{IsEndState, expected, got, counted_from, raised,
 use Rattle.tcp_end.specs.Inner.{state_of, Keeps}
 use Rattle.tcp_end.specs.Arriving.{ahead_of}
 use Rattle.tcp_end.specs.declared.end.End.TheInside.{Inside}
-use Rattle.tcp_end.proofs.Held.{runs_from}
+use Rattle.tcp_reasm.proofs.Held.{runs_from}
 
 -- counted from a place and back
 pub counted-raised : (base low : ℕ) (ps : List Piece) → base < 2 ^ 32 → AreRuns low ps → counted_from base (raised base ps) ≡ ps
@@ -26,7 +27,7 @@ raised-counted base low high (p ∷ ps) above fits lie =
     ap (λ (n : ℕ). let q : Piece = record p { place = n } in q ∷ raised base (counted_from base ps)) back
     ∙ ap (λ (qs : List Piece). p ∷ qs) (raised-counted base (p.place + length p.bytes) high ps (omega (arith, above, lie.0)) fits lie.3)
 
-pub lie-raised : (base low from high : ℕ) (ps : List Piece) → base ≤ 2 ^ 20 → from ≡ base + low → high ≡ base + 16384 → AreRuns low ps → LieFrom from high (raised base ps)
+pub lie-raised : (base low from high : ℕ) (ps : List Piece) → IsInStream base → from ≡ base + low → high ≡ base + 16384 → AreRuns low ps → LieFrom from high (raised base ps)
 lie-raised base low from high [] fits at window runs = tt
 lie-raised base low from high (p ∷ ps) fits at window runs =
     let moved : plus p.place base ≡ p.place + base = omega (arith, runs.2, fits) in (
@@ -36,7 +37,7 @@ lie-raised base low from high (p ∷ ps) fits at window runs =
       lie-raised base (p.place + length p.bytes) (plus p.place base + length p.bytes) high ps fits (omega (arith, moved)) window runs.3,
     )
 
-pub runs-counted_back : (base low from high : ℕ) (ps : List Piece) → base ≤ 2 ^ 20 → from ≡ base + low → high ≡ base + 16384 → LieFrom from high ps → AreRuns low (counted_from base ps)
+pub runs-counted_back : (base low from high : ℕ) (ps : List Piece) → IsInStream base → from ≡ base + low → high ≡ base + 16384 → LieFrom from high ps → AreRuns low (counted_from base ps)
 runs-counted_back base low from high [] fits at window lie = tt
 runs-counted_back base low from high (p ∷ ps) fits at window lie =
     let moved : offset_from p.place base ≡ p.place - base = omega (arith, lie.0, lie.2, at, window, fits) in (
@@ -54,7 +55,7 @@ ahead_is e next runs =
     ∙ ap (λ (ps : List Piece). let r : Reassembly = record { next = e.ahead.next; pieces = ps } in r) (counted-raised base 1 e.ahead.pieces (omega arith) runs)
 
 -- what is exported can be imported, where at most 1 MiB was received
-pub lies : (e : Inside) → Keeps e → got (state_of e) ≤ 2 ^ 20 → IsEndState (state_of e)
+pub lies : (e : Inside) → Keeps e → IsInStream (got (state_of e)) → IsEndState (state_of e)
 lies e keeps few =
     let base : (e.taken + length e.ready) % 2 ^ 32 ≡ e.taken + length e.ready = omega (arith, few) in
     record {
@@ -64,8 +65,8 @@ lies e keeps few =
           (omega (arith, base, few)) (omega (arith, base)) (omega (arith, base)) keeps.runs;
     }
 
-pub exported : (e : Inside) (s : EndState) → s ≡ state_of e → Keeps e → got s ≤ 2 ^ 20 → IsEndState s
-exported e s is keeps few = subst IsEndState (sym is) (lies e keeps (subst (λ (t : EndState). got t ≤ 2 ^ 20) is few))
+pub exported : (e : Inside) (s : EndState) → s ≡ state_of e → Keeps e → IsInStream (got s) → IsEndState s
+exported e s is keeps few = subst IsEndState (sym is) (lies e keeps (subst (λ (t : EndState). IsInStream (got t)) is few))
 
 -- the fields of what is imported
 abbrev pub inside_of : EndState → Reassembly → Inside

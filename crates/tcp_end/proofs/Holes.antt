@@ -7,7 +7,7 @@ use Rattle.tcp_seq.specs.declared.state.Piece.{Piece}
 use Rattle.tcp_reasm.specs.Runs.{held, AreRuns}
 use Rattle.tcp_end.specs.Filling.{end_from}
 use Rattle.tcp_end.specs.Holes.{HasHole, IsCovered}
-use Rattle.tcp_end.proofs.Held.{held_below, held_here, held_later}
+use Rattle.tcp_reasm.proofs.Held.{held_below, held_here, held_later}
 
 -- the first place from one on that no piece has
 pub record IsFirstHole (ps : List Piece) (from hole : ℕ) : Type 0 where

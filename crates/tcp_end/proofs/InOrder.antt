@@ -8,12 +8,14 @@ use Rattle.std.specs.List.{slice_get}
 use Rattle.std.specs.Option.{option_or}
 use Rattle.tcp_seq.specs.Numbers.{plus}
 use Rattle.tcp_seq.specs.declared.state.Piece.{Piece}
-use Rattle.tcp_reasm.specs.Runs.{byte_from, held, AreRuns}
+use Rattle.tcp_reasm.specs.Runs.{held, AreRuns}
+use Rattle.tcp_seq.specs.Endpoint.{byte_from}
 use Rattle.tcp_reasm.specs.Reassembly.{Reassembly, Puts, brought}
 use Rattle.tcp_end.specs.Filling.{reached, filled}
 use Rattle.tcp_end.specs.Holes.{HasHole}
-use Rattle.tcp_end.proofs.Lookups.{or_none, or_first, or_second}
-use Rattle.tcp_end.proofs.Held.{byte_below, byte_within, held_below, held_here, held-append, runs_from}
+use Rattle.tcp_seq.proofs.Lookups.{or_none, or_first, or_second}
+use Rattle.tcp_reasm.proofs.Held.{held_below, held_here, held-append, runs_from}
+use Rattle.tcp_seq.proofs.ByteFrom.{byte_below, byte_within}
 use Rattle.tcp_end.proofs.Counted.{held-counted}
 use Rattle.tcp_end.proofs.Filled.{Fills, fills}
 use Rattle.tcp_end.specs.Receiving.{BringsByte, byte_then, Receives, run_of, ReceivesRun}

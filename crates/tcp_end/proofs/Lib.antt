@@ -1,5 +1,3 @@
-pub mod Lookups
-pub mod Held
 pub mod Counted
 pub mod Holes
 pub mod Filled
@@ -7,8 +5,6 @@ pub mod InOrder
 pub mod Handed
 pub mod Taken
 pub mod Steps
-pub mod Arrived
 pub mod Places
 pub mod Arrives
-pub mod Grown
-pub mod Carried
+pub mod Followed

@@ -9,11 +9,12 @@ use Rattle.tcp_seq.specs.Numbers.{plus, offset_from, number}
 use Rattle.tcp_seq.specs.Rules.{Acceptable, AcceptablePlace, IsAck, IsInWindow, IsPlaceInWindow}
 use Rattle.tcp_seq.specs.declared.rules.AckKind.TheVariants.{New, Beyond}
 use Rattle.tcp_seq.specs.declared.state.Piece.{Piece}
-use Rattle.tcp_reasm.specs.Runs.{byte_from, held}
+use Rattle.tcp_reasm.specs.Runs.{held}
+use Rattle.tcp_seq.specs.Endpoint.{byte_from}
 use Rattle.tcp_reasm.specs.Reassembly.{brought}
 use Rattle.tcp_end.specs.State.{LieFrom, counted_from}
 use Rattle.tcp_end.proofs.Counted.{byte_counted}
-use Rattle.tcp_end.proofs.Held.{byte_below, byte_there}
+use Rattle.tcp_seq.proofs.ByteFrom.{byte_below, byte_there}
 
 -- the offset of a number from another, by places
 ahead_offset : (f next place : ℕ) → next ≤ place → place < 2 ^ 31 → offset_from (number f place) (number f next) ≡ place - next

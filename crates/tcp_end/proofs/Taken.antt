@@ -4,6 +4,7 @@ use Rattle.std.specs.Prelude.{IsSome, nat_lt, ◌||◌, if◌then◌else◌}
 use Rattle.std.specs.Option.{option_or}
 use Rattle.std.proofs.lemmas.Bool.{lt-ltb}
 use Rattle.tcp_seq.specs.Numbers.{plus}
+use Rattle.tcp_seq.specs.Rules.{IsInStream}
 use Rattle.tcp_seq.specs.declared.segment.Segment.{Segment}
 use Rattle.tcp_seq.specs.declared.state.EndState.{EndState}
 use Rattle.tcp_reasm.specs.Runs.{AreRuns}
@@ -12,12 +13,12 @@ use Rattle.std.proofs.lemmas.List.{length-drop}
 use Rattle.tcp_end.specs.State.{IsSending, IsEndState, expected, got}
 use Rattle.tcp_end.specs.Inner.{state_of, Keeps}
 use Rattle.tcp_end.specs.Receiving.{BringsByte, byte_then, Receives, Received}
-use Rattle.tcp_end.specs.Arriving.{ahead_of, BringsNewByte, TakesSegment, TakenIn, IsArrival, IsAcceptableTo, Says}
+use Rattle.tcp_end.specs.Arriving.{ahead_of, BringsNewByte, TakesByNumbers, TakenIn, IsArrival, IsAcceptableTo, Says}
 use Rattle.tcp_end.specs.declared.arrival.Arrival.{Arrival}
 use Rattle.tcp_end.specs.declared.arrival.Arrival.TheVariants.{Outside, Ahead, Accepted, Duplicate}
 use Rattle.tcp_seq.specs.declared.rules.AckKind.TheVariants.{New, Old, Beyond}
 use Rattle.tcp_end.specs.declared.end.End.TheInside.{Inside}
-use Rattle.tcp_end.proofs.Held.{held_below}
+use Rattle.tcp_reasm.proofs.Held.{held_below}
 use Rattle.tcp_end.proofs.Handed.{ahead_is, lies}
 use Rattle.tcp_end.proofs.Places.{flight_offset}
 
@@ -53,7 +54,7 @@ next_after e ready r g acked keeps is =
     is.next ∙ ap (λ (m : ℕ). plus m (length is.given)) keeps.next ∙ omega (arith, n)
 
 takes_segment : (e : Inside) (ready : List ℕ) (r : Reassembly) (g : Segment) (acked : ℕ) → Keeps e → AreRuns 1 r.pieces → Receives e.ahead r e.ready ready g.seq.0 g.bytes
-    → TakesSegment (state_of e) g acked (state_of (taken e ready r g acked))
+    → TakesByNumbers (state_of e) g acked (state_of (taken e ready r g acked))
 takes_segment e ready r g acked keeps runs is =
     let old : ahead_of (state_of e) ≡ e.ahead = ahead_is e keeps.next keeps.runs in
     let new : ahead_of (state_of (taken e ready r g acked)) ≡ r = ahead_is (taken e ready r g acked) (next_after e ready r g acked keeps is) runs in
@@ -114,7 +115,7 @@ receives_either false e ready r g keeps is = old_bytes e ready r g keeps is
 
 -- what is left can be handed over
 rests_taken : (e : Inside) (ready : List ℕ) (r : Reassembly) (g : Segment) (acked : ℕ) → acked ≤ e.sent - e.acked → Keeps e → AreRuns 1 r.pieces → Receives e.ahead r e.ready ready g.seq.0 g.bytes
-    → got (state_of (taken e ready r g acked)) ≤ 2 ^ 20 → IsEndState (state_of (taken e ready r g acked))
+    → IsInStream (got (state_of (taken e ready r g acked))) → IsEndState (state_of (taken e ready r g acked))
 rests_taken e ready r g acked within keeps runs is few =
     let n : length (drop acked e.waiting) ≡ length e.waiting - acked = length-drop acked e.waiting in
     let s : IsSending (state_of e) = keeps.sending in
@@ -132,7 +133,7 @@ rests_taken e ready r g acked within keeps runs is few =
 
 pub rests_took : (e : Inside) (ready waiting : List ℕ) (r : Reassembly) (g : Segment) (acked : ℕ) (brings owed : Bool) (bytes : List ℕ) → acked ≤ e.sent - e.acked
     → Keeps e → AreRuns 1 r.pieces → Received brings e.ahead r e.ready ready g.seq.0 bytes → bytes ≡ g.bytes → waiting ≡ drop acked e.waiting → owed ≡ (e.owed || nat_lt 0 (length bytes))
-    → got (state_of (record e { acked = e.acked + acked; waiting = waiting; ready = ready; ahead = r; owed = owed })) ≤ 2 ^ 20 → IsEndState (state_of (record e { acked = e.acked + acked; waiting = waiting; ready = ready; ahead = r; owed = owed }))
+    → IsInStream (got (state_of (record e { acked = e.acked + acked; waiting = waiting; ready = ready; ahead = r; owed = owed }))) → IsEndState (state_of (record e { acked = e.acked + acked; waiting = waiting; ready = ready; ahead = r; owed = owed }))
 rests_took e ready waiting r g acked brings owed bytes within keeps runs is same drops owes few =
     let is' : Received brings e.ahead r e.ready ready g.seq.0 g.bytes = subst (λ (b : List ℕ). Received brings e.ahead r e.ready ready g.seq.0 b) same is in
     let owes' : owed ≡ (e.owed || nat_lt 0 (length g.bytes)) = owes ∙ ap (λ (b : List ℕ). e.owed || nat_lt 0 (length b)) same in
@@ -141,7 +142,7 @@ rests_took e ready waiting r g acked brings owed bytes within keeps runs is same
     (rests_taken e ready r g acked within keeps runs (receives_either brings e ready r g keeps is') few))
 
 -- an owed answer doesn't hinder
-pub rests_owing : (e : Inside) → Keeps e → got (state_of (record e { owed = true })) ≤ 2 ^ 20 → IsEndState (state_of (record e { owed = true }))
+pub rests_owing : (e : Inside) → Keeps e → IsInStream (got (state_of (record e { owed = true }))) → IsEndState (state_of (record e { owed = true }))
 rests_owing e keeps few =
     let rests : IsEndState (state_of e) = lies e keeps few in
     record {

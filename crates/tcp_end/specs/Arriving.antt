@@ -42,7 +42,7 @@ newly_acked s g =
 
 -- A segment is taken in, of which so many outstanding bytes are acknowledged: its bytes are received, those that it acknowledges
 -- are forgotten, and an answer is owed where it has bytes.
-pub record TakesSegment (before : EndState) (g : Segment) (acked : ℕ) (after : EndState) : Type 0 where
+pub record TakesByNumbers (before : EndState) (g : Segment) (acked : ℕ) (after : EndState) : Type 0 where
   pub received : Receives (ahead_of before) (ahead_of after) before.ready after.ready g.seq.0 g.bytes
   pub changed : after ≡ record before {
     acked = before.acked + acked;
@@ -57,11 +57,11 @@ abbrev pub Leaves : Arrival → EndState → Segment → EndState → Type 0
 Leaves Outside before g after = after ≡ record before { owed = true }
 Leaves (Ahead ack) before g after = after ≡ record before { owed = true }
 Leaves Duplicate before g after = after ≡ record before { owed = before.owed || nat_lt 0 (length g.bytes) }
-Leaves Accepted before g after = TakesSegment before g (newly_acked before g) after
+Leaves Accepted before g after = TakesByNumbers before g (newly_acked before g) after
 
 -- a segment that is acceptable and isn't ahead, with the number of bytes that it acknowledges
 abbrev pub TakenIn : Arrival → EndState → Segment → ℕ → EndState → Type 0
 TakenIn Outside before g acked after = ⊥
 TakenIn (Ahead ack) before g acked after = ⊥
 TakenIn Duplicate before g acked after = (acked ≡ 0) × (¬ BringsNewByte before g) × Leaves Duplicate before g after
-TakenIn Accepted before g acked after = ((0 < acked) ⊎ BringsNewByte before g) × TakesSegment before g acked after
+TakenIn Accepted before g acked after = ((0 < acked) ⊎ BringsNewByte before g) × TakesByNumbers before g acked after

@@ -5,4 +5,4 @@ pub mod Inner
 pub mod Receiving
 pub mod Arriving
 pub mod Standing
-pub mod Joined
+pub mod Ends

@@ -1,16 +1,16 @@
--- Which endpoint over whole numbers a state of 32-bit numbers and buffers stands for.
-use Rattle.std.specs.Prelude.{ℕ, ◌≡◌, ◌⊎◌, ◌↔◌, ◌<◌, ◌≤◌, ◌+◌, ◌^◌, List, length, take, drop, Contains, Option, Some, None, IsSome, slice_get}
-use Rattle.std.specs.List.Sorted.{IsStrictlyIncreasing}
+-- Which endpoint over whole numbers a state of 32-bit numbers and buffers stands for, and what it means that a call is a step of it.
+use Rattle.std.specs.Prelude.{ℕ, ◌≡◌, ◌≤◌, ◌+◌, length, drop, Option, Some, None, IsSome}
+use Rattle.std.specs.FinMap as map
 use Rattle.tcp_seq.specs.Numbers.{number}
 use Rattle.tcp_seq.specs.Rules.{IsInStream}
-use Rattle.tcp_seq.specs.Endpoint.{Endpoint, PlacedSegment, received, Takes}
+use Rattle.tcp_seq.specs.Endpoint.{Endpoint, PlacedSegment, received, ready_bytes, TakesSegment, IsInStreams}
 use Rattle.tcp_seq.specs.declared.segment.Segment.{Segment}
 use Rattle.tcp_seq.specs.declared.state.EndState.{EndState}
 use Rattle.tcp_reasm.specs.Runs.{held}
-use Rattle.tcp_end.specs.State.{IsEndState, got}
+use Rattle.tcp_end.specs.State.{IsEndState}
 
--- A state stands for an endpoint to which the other side sends the stream `theirs`. Streams have at most 1 MiB.
-pub record Stands (s : EndState) (e : Endpoint) (theirs : List ℕ) : Type 0 where
+-- A state stands for an endpoint.
+pub record EndStands (s : EndState) (e : Endpoint) : Type 0 where
   pub sound : IsEndState s
   pub acked : e.acked ≡ s.acked
   pub emitted : e.emitted ≡ s.sent
@@ -19,15 +19,13 @@ pub record Stands (s : EndState) (e : Endpoint) (theirs : List ℕ) : Type 0 whe
   -- the stream that it sends is what was acknowledged, and then what is waiting
   pub acked_within : e.acked ≤ length e.stream
   pub waiting : s.waiting ≡ drop e.acked e.stream
-  -- the received length, and the bytes from what was read up to it
-  pub rising : IsStrictlyIncreasing e.arrived
-  pub received : received e ≡ got s
-  pub received_within : got s ≤ length theirs
-  pub theirs_within : length theirs ≤ 2 ^ 20
-  pub ready : s.ready ≡ take (length s.ready) (drop e.read theirs)
-  -- a place arrived exactly where it is below the received length or a piece has it, and a piece has the stream's bytes
-  pub arrived : (place : ℕ) → Contains e.arrived place ↔ ((place < got s) ⊎ IsSome (held s.ahead place))
-  pub ahead : (place byte : ℕ) → held s.ahead place ≡ Some byte → slice_get theirs place ≡ Some byte
+  -- what is ready are the received bytes behind those that were read
+  pub read_within : e.read ≤ received e
+  pub ready : s.ready ≡ ready_bytes e
+  -- from the received length on, a place has the byte that a piece has there
+  pub ahead : (place : ℕ) → received e ≤ place → map.get e.arrived place ≡ held s.ahead place
+  -- and no byte stands past a stream of at most 1 MiB and a window at its end
+  pub in_stream : (place : ℕ) → IsSome (map.get e.arrived place) → IsInStream (place + 1)
 
 -- a segment has the numbers of a place and of an acknowledged length, and its bytes
 pub record Numbered (seq_first ack_first : ℕ) (g : Segment) (p : PlacedSegment) : Type 0 where
@@ -35,37 +33,42 @@ pub record Numbered (seq_first ack_first : ℕ) (g : Segment) (p : PlacedSegment
   pub ack : g.ack.0 ≡ number ack_first p.ack
   pub bytes : g.bytes ≡ p.bytes
 
--- a segment is a slice of a stream; what it acknowledges is a place of the other stream, or one in a window at its end
-pub record IsSlice (stream : List ℕ) (p : PlacedSegment) : Type 0 where
-  pub within : p.place + length p.bytes ≤ length stream
-  pub bytes : p.bytes ≡ take (length p.bytes) (drop p.place stream)
-  pub ack : IsInStream p.ack
+-- the numbers of the first bytes stay
+pub record SameNumbers (before after : EndState) : Type 0 where
+  pub send_first : after.send_first ≡ before.send_first
+  pub receive_first : after.receive_first ≡ before.receive_first
 
 -- a state stands for an endpoint that another becomes by a step
-pub record Becomes (Step : Endpoint → Endpoint → Type 0) (e : Endpoint) (after : EndState) (theirs : List ℕ) : Type 0 where
+pub record Becomes (Step : Endpoint → Endpoint → Type 0) (e : Endpoint) (after : EndState) : Type 0 where
   pub end : Endpoint
   pub step : Step e end
-  pub stands : Stands after end theirs
+  pub stands : EndStands after end
 
 -- whatever endpoint the state before stands for, the state after stands for one that it becomes by the step
-abbrev pub StepsBy : (Endpoint → Endpoint → Type 0) → EndState → EndState → Type 0
-StepsBy Step before after = (e : Endpoint) (theirs : List ℕ) → Stands before e theirs → Becomes Step e after theirs
+pub record StepsBy (Step : Endpoint → Endpoint → Type 0) (before after : EndState) : Type 0 where
+  pub numbers : SameNumbers before after
+  pub becomes : (e : Endpoint) → EndStands before e → Becomes Step e after
 
 -- the same of a step that emits a segment
-pub record Emits (Step : Endpoint → PlacedSegment → Endpoint → Type 0) (before : EndState) (e : Endpoint) (g : Segment) (after : EndState) (theirs : List ℕ) : Type 0 where
+pub record BecomesEmitting (Step : Endpoint → PlacedSegment → Endpoint → Type 0) (before : EndState) (e : Endpoint) (g : Segment) (after : EndState) : Type 0 where
   pub segment : PlacedSegment
   pub end : Endpoint
   pub step : Step e segment end
   pub numbered : Numbered before.send_first.0 before.receive_first.0 g segment
-  pub stands : Stands after end theirs
+  pub stands : EndStands after end
 
 -- with no segment the endpoint stays
-abbrev pub EmitsBy : (Endpoint → PlacedSegment → Endpoint → Type 0) → EndState → Option Segment → EndState → Type 0
-EmitsBy Step before (Some g) after = (e : Endpoint) (theirs : List ℕ) → Stands before e theirs → Emits Step before e g after theirs
-EmitsBy Step before None after = (e : Endpoint) (theirs : List ℕ) → Stands before e theirs → Stands after e theirs
+abbrev pub BecomesBy : (Endpoint → PlacedSegment → Endpoint → Type 0) → EndState → Endpoint → Option Segment → EndState → Type 0
+BecomesBy Step before e (Some g) after = BecomesEmitting Step before e g after
+BecomesBy Step before e None after = EndStands after e
 
--- the same of a segment that arrives, which is a slice of the other side's stream
-abbrev pub TakesBy : EndState → Segment → EndState → Type 0
-TakesBy before g after =
-    (e : Endpoint) (theirs : List ℕ) (p : PlacedSegment) → Stands before e theirs
-    → Numbered before.receive_first.0 before.send_first.0 g p → IsSlice theirs p → Becomes (λ e' e''. Takes e' p e'') e after theirs
+pub record EmitsBy (Step : Endpoint → PlacedSegment → Endpoint → Type 0) (before : EndState) (answer : Option Segment) (after : EndState) : Type 0 where
+  pub numbers : SameNumbers before after
+  pub becomes : (e : Endpoint) → EndStands before e → BecomesBy Step before e answer after
+
+-- The same of a segment that arrives, whatever bytes it has: it has the numbers of places of streams of at most 1 MiB, or of a window at
+-- their end.
+pub record TakesBy (before : EndState) (g : Segment) (after : EndState) : Type 0 where
+  pub numbers : SameNumbers before after
+  pub becomes : (e : Endpoint) (p : PlacedSegment) → EndStands before e → Numbered before.receive_first.0 before.send_first.0 g p
+      → IsInStreams p → Becomes (λ e' e''. TakesSegment e' p e'') e after

@@ -3,6 +3,7 @@
 use Rattle.std.specs.Prelude.{ℕ, ◌<◌, ◌≤◌, ◌+◌, ◌-◌, ◌^◌, min, List, [], ◌∷◌, length, take, drop, map, false}
 use Rattle.graft_edge.specs.declared.ids.PeeringId.{PeeringId}
 use Rattle.tcp_seq.specs.Numbers.{plus, offset_from, number}
+use Rattle.tcp_seq.specs.Rules.{IsInStream}
 use Rattle.tcp_seq.specs.declared.seq.Seq.{Seq}
 use Rattle.tcp_seq.specs.declared.segment.Way.{Way}
 use Rattle.tcp_seq.specs.declared.segment.Segment.{Segment}
@@ -93,6 +94,6 @@ LieFrom low high (p ∷ ps) =
 -- what a state at rest meets
 pub record IsEndState (s : EndState) : Type 0 where
   pub sending : IsSending s
-  pub received : got s ≤ 2 ^ 20
+  pub received : IsInStream (got s)
   -- the pieces stand above the place expected next, which has no byte, and in the window
   pub ahead : LieFrom (got s + 1) (got s + 16384) s.ahead

@@ -3,7 +3,8 @@
 ghost use Rattle.std.specs.Prelude.{ℕ, ◌≡◌, ◌<◌, ◌≤◌, ◌+◌, ◌-◌, ◌^◌, ◌++◌, length, take, drop, IfOk, OnOk, OnErr, fold};
 ghost use Rattle.std.specs.Bool.{OnTrue, OnFalse};
 ghost use Rattle.tcp_seq.specs.Numbers.{plus};
-ghost use Rattle.tcp_reasm.specs.Runs.{AreRuns, byte_from, held};
+ghost use Rattle.tcp_reasm.specs.Runs.{AreRuns, held};
+ghost use Rattle.tcp_seq.specs.Endpoint.{byte_from};
 ghost use Rattle.tcp_reasm.specs.Reassembly.{brought};
 ghost use Rattle.tcp_end.specs.State.{counted_from, raised};
 ghost use Rattle.tcp_end.specs.Filling.{end_from, reached, filled};
@@ -11,26 +12,9 @@ ghost use Rattle.tcp_end.specs.Holes.{HasHole, IsCovered};
 ghost use Rattle.tcp_end.specs.Receiving.{Received, ReceivesRun};
 
 use graft_edge::{ByteQueue, Items, NoMemory};
-use std::collections::VecDeque;
 use std::mem;
-use tcp_reasm::{Reasm, WINDOW};
+use tcp_reasm::{Reasm, in_window, part, remove_front};
 use tcp_seq::{Piece, Pieces, Seq};
-
-/// The part of bytes from a sequence number on that stands in the window, with its place there.
-fn in_window(next: Seq, seq: Seq, bytes: &[u8]) -> (u32, &[u8])
-    requires { length bytes.now < 2 ^ 16 }
-    ensures within { result.0 + length result.1.now ≤ 16384 }
-    ensures bytes { (k : ℕ) → byte_from result.0 result.1.now k ≡ brought next.0 seq.0 bytes.now k }
-{
-    let ahead = seq.offset_from(next);
-    if ahead < WINDOW {
-        let room = (WINDOW - ahead) as usize;
-        return (ahead, &bytes[..bytes.len().min(room)]);
-    }
-    let behind = (next.offset_from(seq) as usize).min(bytes.len());
-    let rest = &bytes[behind..];
-    (0, &rest[..rest.len().min(WINDOW as usize)])
-}
 
 /// How far bytes go on from a place without a gap.
 fn end_of_run(pieces: &[Piece], from: usize) -> usize
@@ -69,17 +53,8 @@ fn reached_count(pieces: &[Piece], from: usize) -> usize
     count
 }
 
-/// The bytes from one index up to another, as far as there are any.
-fn part(bytes: &[u8], from: usize, to: usize) -> &[u8]
-    ensures { result.now ≡ take (to - from) (drop from bytes.now) }
-{
-    let from = from.min(bytes.len());
-    let to = to.min(bytes.len()).max(from);
-    &bytes[from..to]
-}
-
-/// Adds bytes from the place expected next on, and those of the pieces that they reach. For want of
-/// memory some are added.
+/// Adds bytes from the place expected next on, and those of the pieces that they reach. If
+/// memory runs out, some of them may be added.
 fn add_some(ready: &mut ByteQueue, pieces: &[Piece], bytes: &[u8]) -> Result<(), NoMemory>
     ensures ok { OnOk result (ready.new ≡ ready.old ++ filled bytes.now 0 pieces.now) }
     ensures front { take (length ready.old) ready.new ≡ ready.old }
@@ -94,8 +69,8 @@ fn add_some(ready: &mut ByteQueue, pieces: &[Piece], bytes: &[u8]) -> Result<(),
     ready.extend(part(bytes, at, bytes.len()))
 }
 
-/// Adds bytes from the place expected next on, and those of the pieces that they reach. For want of
-/// memory none are added.
+/// Adds bytes from the place expected next on, and those of the pieces that they reach. If
+/// memory runs out, none are added.
 fn add_in_order(ready: &mut ByteQueue, pieces: &[Piece], bytes: &[u8]) -> Result<(), NoMemory>
     ensures ok { OnOk result (ready.new ≡ ready.old ++ filled bytes.now 0 pieces.now) }
     ensures err { OnErr result (ready.new ≡ ready.old) }
@@ -128,18 +103,6 @@ pub(crate) fn raise(pieces: &mut Vec<Piece>, base: u32)
     }
 }
 
-/// The pieces after the first ones. It takes no memory.
-fn after_first(pieces: Pieces, count: usize) -> Vec<Piece>
-    requires { count ≤ length pieces }
-    ensures { result.items ≡ drop count pieces }
-{
-    let mut rest = VecDeque::from_vec(pieces.into_vec());
-    for _ in 0..count {
-        rest.pop_front();
-    }
-    rest.into_vec()
-}
-
 /// Takes the first pieces out, and expects a later place.
 fn skipped(ahead: Reasm, count: usize, by: u32) -> Reasm
     requires some { count ≤ length ahead.pieces }
@@ -149,7 +112,8 @@ fn skipped(ahead: Reasm, count: usize, by: u32) -> Reasm
     ensures runs { AreRuns 1 result.pieces }
 {
     let next = ahead.next().plus(by);
-    let mut pieces = after_first(ahead.into_pieces(), count);
+    let mut pieces = ahead.into_pieces().into_vec();
+    remove_front(&mut pieces, count);
     count_from(&mut pieces, by);
     Reasm::from_pieces(next, Items::from_vec(pieces))
 }
@@ -173,7 +137,7 @@ fn receive_in_order(ready: &mut ByteQueue, ahead: &mut Reasm, bytes: &[u8]) -> R
 }
 
 /// Keeps those of the bytes from a sequence number on that stand in the window and have no byte yet,
-/// and answers whether there is one. For want of memory nothing is changed.
+/// and answers whether there is one. If memory runs out, nothing changes.
 pub(crate) fn receive(
     ready: &mut ByteQueue,
     ahead: &mut Reasm,

@@ -2,8 +2,9 @@
 
 ghost use Rattle.std.specs.Prelude.{ℕ, ◌≡◌, ◌≢◌, ◌<◌, ◌≤◌, ◌+◌, ◌-◌, ◌^◌, ◌↔◌, ◌⊎◌, ◌++◌, length, take, drop, true, false, IsNone, IsSome, IfSome, IfOk, OnOk, OnErr, nat_lt, ◌||◌, if◌then◌else◌};
 ghost use Rattle.tcp_seq.specs.Numbers.{plus};
-ghost use Rattle.tcp_seq.specs.Endpoint.{Sends, EmitsNext, EmitsAgain, Answers, Reads};
-ghost use Rattle.tcp_end.specs.Standing.{StepsBy, EmitsBy, TakesBy};
+ghost use Rattle.tcp_seq.specs.Rules.{IsInStream};
+ghost use Rattle.tcp_seq.specs.Endpoint.{Endpoint, SendsBytes, EmitsNext, EmitsAgain, EmitsAnswer, ReadsBytes, fresh_endpoint};
+ghost use Rattle.tcp_end.specs.Standing.{EndStands, StepsBy, EmitsBy, TakesBy};
 ghost use Rattle.tcp_end.specs.Arriving.{IsArrival, Leaves, TakenIn, Says};
 ghost use Rattle.tcp_end.specs.State.{fresh, stream_length, unsent, outstanding, got, segment_at, next_length, again_length, IsSending, IsEndState};
 
@@ -24,7 +25,8 @@ const PAYLOAD: u32 = 1_024;
 /// How many bytes the stream that is sent has at most.
 const STREAM: usize = 1_048_576;
 
-/// One end of a connection. Contracts see its state as it would be handed over.
+/// One end of a connection. Contracts see its state as it would be handed over, and which endpoint over
+/// whole numbers that stands for.
 #[derive(Debug, Drop)]
 pub struct End {
     way: Way,
@@ -81,7 +83,8 @@ impl End {
         send_first: Seq,
         receive_first: Seq,
     ) -> Result<End, NoMemory>
-        ensures { IfOk result (λ end. end ≡ fresh way peering send_first receive_first) }
+        ensures fresh { IfOk result (λ end. end ≡ fresh way peering send_first receive_first) }
+        ensures stands { IfOk result (λ end. EndStands end fresh_endpoint) }
     {
         Ok(End {
             way,
@@ -143,7 +146,7 @@ impl End {
         ensures full { 2 ^ 20 < stream_length self.old + length bytes.now → result ≡ Err (SendStop.Full (stream_length self.old + length bytes.now)) }
         ensures only_full { (n : ℕ) → result ≡ Err (SendStop.Full n) → (n ≡ stream_length self.old + length bytes.now) × (2 ^ 20 < n) }
         ensures err { OnErr result (self.new ≡ self.old) }
-        ensures step { OnOk result (StepsBy (λ e e'. Sends e bytes.now e') self.old self.new) }
+        ensures step { OnOk result (StepsBy (λ e e'. SendsBytes e bytes.now e') self.old self.new) }
     {
         let length = self.acked as usize + self.waiting.len() + bytes.len();
         if length > STREAM {
@@ -220,7 +223,7 @@ impl End {
         ensures some { IsSome result ↔ (self.old.owed ≡ true) }
         ensures empty { IfSome result (λ segment. segment ≡ segment_at self.old self.old.sent 0) }
         ensures after { self.new ≡ record self.old { owed = false } }
-        ensures step { EmitsBy Answers self.old result self.new }
+        ensures step { EmitsBy EmitsAnswer self.old result self.new }
     {
         if !self.owed {
             return None;
@@ -249,7 +252,7 @@ impl End {
         requires len { length segment.now.bytes < 2 ^ 16 }
         requires acked { acked ≤ outstanding self.old }
         ensures arrival { IfOk result (λ arrival. TakenIn arrival self.old segment.now acked self.new) }
-        ensures at_rest { OnOk result (got self.new ≤ 2 ^ 20 → IsEndState self.new) }
+        ensures at_rest { OnOk result (IsInStream (got self.new) → IsEndState self.new) }
         ensures err { OnErr result (self.new ≡ self.old) }
     {
         let bytes = segment.bytes.as_slice();
@@ -265,7 +268,7 @@ impl End {
         requires { length segment.now.bytes < 2 ^ 16 }
         ensures arrival { IfOk result (λ arrival. IsArrival arrival self.old segment.now) }
         ensures after { IfOk result (λ arrival. Leaves arrival self.old segment.now self.new) }
-        ensures at_rest { OnOk result (got self.new ≤ 2 ^ 20 → IsEndState self.new) }
+        ensures at_rest { OnOk result (IsInStream (got self.new) → IsEndState self.new) }
         ensures err { OnErr result (self.new ≡ self.old) }
     {
         let len = segment.bytes.len() as u32;
@@ -286,10 +289,12 @@ impl End {
         }
     }
 
-    /// A segment arrives. One that isn't acceptable, or that acknowledges what wasn't emitted, is
-    /// dropped. Of any other the bytes that stand in the window of 16,384 places from the one expected
-    /// next on are kept, and its acknowledgement counts where it is new. An answer is owed where it is
-    /// dropped or has bytes (RFC 9293, section 3.10.7.4). For want of memory nothing is changed.
+    /// Takes a segment that arrives, of this end's peering, sent to this end's side, with at most 65,535
+    /// bytes. A segment that isn't acceptable, or that acknowledges what wasn't emitted, is dropped. Of any
+    /// other one, the bytes in the window of 16,384 places from the one expected next on are kept, where a
+    /// place that has a byte keeps it, and its acknowledgement counts where it is new. An answer is owed
+    /// where the segment is dropped or has bytes (RFC 9293, section 3.10.7.4). If memory runs out, nothing
+    /// changes.
     pub fn arrive(&mut self, segment: &Segment) -> Result<Arrival, NoMemory>
         requires peering { segment.now.peering ≡ self.old.peering }
         requires way { segment.now.way ≢ self.old.way }
@@ -309,23 +314,24 @@ impl End {
         self.ready.as_slice()
     }
 
-    /// Reads the first of the ready bytes, which are ready no more.
+    /// Reads the first `n` ready bytes, of which there are at least as many. They are no longer ready.
     pub fn read(&mut self, n: usize)
         requires { n ≤ length self.old.ready }
         ensures after { self.new ≡ record self.old { taken = plus self.old.taken n; ready = drop n self.old.ready } }
-        ensures step { StepsBy (λ e e'. Reads e n e') self.old self.new }
+        ensures step { StepsBy (λ e e'. ReadsBytes e n e') self.old self.new }
     {
         self.ready.drop_front(n);
         self.taken = self.taken.wrapping_add((n % (1 << 32)) as u32);
     }
 
-    /// Its state at rest, to be handed over. It takes no memory.
+    /// The end's state at rest, to be handed over. This takes no memory.
     pub fn export(self) -> EndState
         ensures same { result ≡ self }
+        ensures endpoint { (e : Endpoint) → EndStands self e → EndStands result e }
 
-        // It can be imported, where at most 1,048,576 bytes were received.
+        // It can be imported, unless more was received than any stream of 1 MiB and its window have.
         ensures sending { IsSending result }
-        ensures at_rest { got result ≤ 2 ^ 20 → IsEndState result }
+        ensures at_rest { IsInStream (got result) → IsEndState result }
     {
         let base = self.ahead.next().offset_from(self.receive_first);
         let End {
@@ -360,10 +366,15 @@ impl End {
         }
     }
 
-    /// The endpoint that has this state. It takes no memory.
+    /// The end that has this state. This takes no memory. The state has `acked` at most `sent`, which is at
+    /// most the stream's length and at most `acked` plus 15,360; a stream of at most 1,048,576 bytes; and
+    /// `acked_at_turn` at most `acked`. At most 1,114,112 bytes were received, those that were read and those
+    /// that are ready. Each piece of `ahead` has bytes, begins above the place expected next and at or above
+    /// the end of the piece before, and ends at or below the 16,384th place from the one expected next on.
     pub fn import(state: EndState) -> End
         requires { IsEndState state }
-        ensures { result ≡ state }
+        ensures same { result ≡ state }
+        ensures endpoint { (e : Endpoint) → EndStands state e → EndStands result e }
     {
         let EndState {
             way,

@@ -1,27 +1,24 @@
-//! What endpoints that are joined by their segments alone receive.
+//! What the two ends of a connection receive.
 
-ghost use Rattle.std.specs.Prelude.{ℕ, ◌≡◌, ◌≤◌, ◌^◌, ◌++◌, List, length, take};
-ghost use Rattle.tcp_seq.specs.Endpoint.{Endpoint};
-ghost use Rattle.tcp_seq.specs.declared.state.EndState.{EndState};
+ghost use Rattle.std.specs.Prelude.{◌≡◌, ◌++◌, List, length, take, drop};
+ghost use Rattle.graft_edge.specs.declared.ids.PeeringId.{PeeringId};
+ghost use Rattle.tcp_seq.specs.declared.seq.Seq.{Seq};
+ghost use Rattle.tcp_seq.specs.declared.segment.Way.{Way};
+ghost use Rattle.tcp_seq.specs.Connection.{Connection, IsConnection};
 ghost use Rattle.tcp_end.specs.State.{got};
-ghost use Rattle.tcp_end.specs.Standing.{Stands};
-ghost use Rattle.tcp_end.specs.Joined.{Joined, start, Run, IsCarried};
+ghost use Rattle.tcp_end.specs.Ends.{EndPair, fresh_pair, PairStep, PairRun, PairStands, PairBecomes, PairFollows};
 
-/// Two endpoints are joined by nothing but the segments that each of them ever emitted, and these
-/// arrive in any order, any number of times or never. After any list of steps no more was received
-/// than was emitted, in both directions.
-pub fn received_was_emitted()
-    ensures there { (states : List Joined) (last : Joined) → Run start states last → IsCarried last.near last.far }
-    ensures back { (states : List Joined) (last : Joined) → Run start states last → IsCarried last.far last.near }
+/// Each call on an end is a step of the connection of two endpoints, or leaves it as it is.
+pub fn calls_are_steps()
+    ensures step { (before after : EndPair) (c : Connection) → PairStands before c → IsConnection c → PairStep before after → PairBecomes c after }
+    ensures run { (peering : PeeringId) (near_way far_way : Way) (near_first far_first : Seq) (pairs : List EndPair) (last : EndPair)
+        → PairRun (fresh_pair peering near_way far_way near_first far_first) pairs last → PairFollows last }
 {}
 
-/// What was read of the other side's stream and what can be read are its first bytes, as many as were
-/// received.
-pub fn received_is_a_front()
-    ensures { (s : EndState) (e : Endpoint) (theirs : List ℕ) → Stands s e theirs → take s.taken theirs ++ s.ready ≡ take (got s) theirs }
-{}
-
-/// A state that stands for an endpoint stands for it too when the other side sends more.
-pub fn stands_as_the_stream_grows()
-    ensures { (s : EndState) (e : Endpoint) (theirs more : List ℕ) → Stands s e theirs → length (theirs ++ more) ≤ 2 ^ 20 → Stands s e (theirs ++ more) }
+/// What was read of the other side's stream and what is ready are its first bytes, as many as were received.
+pub fn received_are_first_bytes()
+    ensures there { (pair : EndPair) (c : Connection) → PairStands pair c → IsConnection c
+        → take pair.far.state.taken c.near.end.stream ++ pair.far.state.ready ≡ take (got pair.far.state) c.near.end.stream }
+    ensures back { (pair : EndPair) (c : Connection) → PairStands pair c → IsConnection c
+        → take pair.near.state.taken c.far.end.stream ++ pair.near.state.ready ≡ take (got pair.near.state) c.far.end.stream }
 {}

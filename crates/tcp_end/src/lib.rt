@@ -7,12 +7,8 @@ mod ahead;
 mod arrival;
 mod end;
 mod laws;
-#[cfg(test)]
-mod lossy_tests;
-#[cfg(test)]
-mod tests;
 
 pub use arrival::{Arrival, SendStop};
 pub use end::End;
-pub use laws::{received_is_a_front, received_was_emitted, stands_as_the_stream_grows};
+pub use laws::{calls_are_steps, received_are_first_bytes};
 pub use tcp_seq::{EndState, Piece, Pieces};

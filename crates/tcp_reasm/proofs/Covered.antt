@@ -6,7 +6,7 @@ use Rattle.std.proofs.lemmas.Option.{slice_get-get_or, none-some, same_Some}
 use Rattle.std.specs.List.{slice_get}
 use Rattle.std.specs.Option.{option_or}
 use Rattle.tcp_reasm.specs.Reassembly.{Reassembly, Put, PutsAll, AreOf, covers, brought, nothing_from, byte_ahead, TakesReady}
-use Rattle.tcp_reasm.proofs.Lookups.{or_assoc, or_none}
+use Rattle.tcp_seq.proofs.Lookups.{or_assoc, or_none}
 
 -- one byte more or none, of a stream that has x there
 one_more : (o : Option ℕ) (x : ℕ) (c : Bool) → ((byte : ℕ) → o ≡ Some byte → byte ≡ x) → option_or o (if c then Some x else None) ≡ (if is_some o || c then Some x else None)

@@ -1,25 +1,11 @@
 -- What lists of pieces hold.
 use Rattle.std.proofs.Common.{◌≡◌, ℕ, zero, suc, ◌+◌, ◌-◌, ◌<◌, ◌≤◌, List, [], ◌∷◌, ◌++◌, length, take, drop, Some, None, refl, sym, ap, ◌∙◌, arith, get_or}
-use Rattle.std.specs.Prelude.{if◌then◌else◌}
-use Rattle.std.proofs.lemmas.Bool.{lt-ltb, le-ltb}
-use Rattle.std.proofs.lemmas.Option.{slice_get_past, slice_get-get_or}
-use Rattle.std.specs.List.{slice_get}
 use Rattle.std.specs.Option.{option_or}
 use Rattle.tcp_seq.specs.declared.state.Piece.{Piece}
-use Rattle.tcp_reasm.specs.Runs.{byte_from, held, AreRuns}
-use Rattle.tcp_reasm.proofs.Lookups.{or_assoc}
-
-pub byte_below : (place : ℕ) (bytes : List ℕ) (k : ℕ) → k < place → byte_from place bytes k ≡ None
-byte_below place bytes k below = ap (λ b. if b then None else slice_get bytes (k - place)) (lt-ltb k place below)
-
-pub byte_there : (place : ℕ) (bytes : List ℕ) (k : ℕ) → place ≤ k → byte_from place bytes k ≡ slice_get bytes (k - place)
-byte_there place bytes k from = ap (λ b. if b then None else slice_get bytes (k - place)) (le-ltb k place from)
-
-pub byte_past : (place : ℕ) (bytes : List ℕ) (k : ℕ) → place + length bytes ≤ k → byte_from place bytes k ≡ None
-byte_past place bytes k past = byte_there place bytes k (omega (arith, past)) ∙ slice_get_past bytes (k - place) (omega (arith, past))
-
-pub byte_within : (place : ℕ) (bytes : List ℕ) (k : ℕ) → place ≤ k → k < place + length bytes → byte_from place bytes k ≡ Some (get_or bytes (k - place) 0)
-byte_within place bytes k from below = byte_there place bytes k from ∙ slice_get-get_or bytes (k - place) 0 (omega (arith, from, below))
+use Rattle.tcp_reasm.specs.Runs.{held, AreRuns}
+use Rattle.tcp_seq.specs.Endpoint.{byte_from}
+use Rattle.tcp_seq.proofs.Lookups.{or_assoc}
+use Rattle.tcp_seq.proofs.ByteFrom.{byte_below, byte_past, byte_within}
 
 pub held-append : (ps qs : List Piece) (k : ℕ) → held (ps ++ qs) k ≡ option_or (held ps k) (held qs k)
 held-append [] qs k = refl

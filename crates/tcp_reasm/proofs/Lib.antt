@@ -1,4 +1,3 @@
-pub mod Lookups
 pub mod Held
 pub mod Counts
 pub mod Missing

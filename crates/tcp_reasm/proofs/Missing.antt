@@ -5,10 +5,12 @@ use Rattle.std.proofs.lemmas.Bool.{cases_lt, lt-ltb, le-ltb, le-leb, lt-leb}
 use Rattle.std.proofs.lemmas.List.{length-drop, length-take, take_all}
 use Rattle.std.specs.Option.{option_or}
 use Rattle.tcp_seq.specs.declared.state.Piece.{Piece}
-use Rattle.tcp_reasm.specs.Runs.{byte_from, held, AreRuns}
+use Rattle.tcp_reasm.specs.Runs.{held, AreRuns}
+use Rattle.tcp_seq.specs.Endpoint.{byte_from}
 use Rattle.tcp_reasm.specs.Steps.{passed, begun, run_between, runs_outside, where_none}
-use Rattle.tcp_reasm.proofs.Lookups.{get-drop, get-take, or_none}
-use Rattle.tcp_reasm.proofs.Held.{byte_there, byte_below, byte_past, held_below, held-append, held_here, held_later, runs_from, runs-take, runs-drop}
+use Rattle.tcp_seq.proofs.Lookups.{get-drop, get-take, or_none}
+use Rattle.tcp_reasm.proofs.Held.{held_below, held-append, held_here, held_later, runs_from, runs-take, runs-drop}
+use Rattle.tcp_seq.proofs.ByteFrom.{byte_there, byte_below, byte_past}
 
 -- the piece from `at` up to `to`
 abbrev pub run : ℕ → List ℕ → ℕ → ℕ → Piece

@@ -5,10 +5,12 @@ use Rattle.std.proofs.lemmas.Bool.{cases_lt, lt-ltb, le-ltb}
 use Rattle.std.proofs.lemmas.Option.{none-some}
 use Rattle.std.specs.Option.{option_or}
 use Rattle.tcp_seq.specs.declared.state.Piece.{Piece}
-use Rattle.tcp_reasm.specs.Runs.{byte_from, held, AreRuns}
+use Rattle.tcp_reasm.specs.Runs.{held, AreRuns}
+use Rattle.tcp_seq.specs.Endpoint.{byte_from}
 use Rattle.tcp_reasm.specs.Steps.{begun}
-use Rattle.tcp_reasm.proofs.Lookups.{or_assoc, or_none, or_swap}
-use Rattle.tcp_reasm.proofs.Held.{byte_within, byte_past, byte_below, held-append, held_here}
+use Rattle.tcp_seq.proofs.Lookups.{or_assoc, or_none, or_swap}
+use Rattle.tcp_reasm.proofs.Held.{held-append, held_here}
+use Rattle.tcp_seq.proofs.ByteFrom.{byte_within, byte_past, byte_below}
 
 -- what has no byte where another has one, the other way round
 apart : (a b : Option ℕ) → (is_some b ≡ true → a ≡ None) → (a ≡ None) ⊎ (b ≡ None)

@@ -3,16 +3,19 @@ use Rattle.std.proofs.Common.{◌≡◌, ℕ, zero, suc, ◌+◌, ◌-◌, ◌<�
 use Rattle.std.specs.Prelude.{if◌then◌else◌}
 use Rattle.std.proofs.lemmas.List.Edits.{map_over_more}
 use Rattle.std.proofs.lemmas.Bool.{cases_lt, ne_eqb}
+use Rattle.std.proofs.lemmas.List.{length-take, length-drop, get_or-take, get_or-drop, ext_get_or}
 use Rattle.std.proofs.lemmas.Option.{slice_get-get_or}
 use Rattle.std.specs.List.{slice_get}
 use Rattle.std.specs.Option.{option_or}
 use Rattle.tcp_seq.specs.Numbers.{plus}
 use Rattle.tcp_seq.specs.declared.state.Piece.{Piece}
-use Rattle.tcp_reasm.specs.Runs.{byte_from, held, AreRuns}
+use Rattle.tcp_reasm.specs.Runs.{held, AreRuns}
+use Rattle.tcp_seq.specs.Endpoint.{byte_from}
 use Rattle.tcp_reasm.specs.Steps.{in_order, bytes_of, lowered}
 use Rattle.tcp_reasm.specs.Reassembly.{TakesReady}
-use Rattle.tcp_reasm.proofs.Held.{byte_there, byte_below, held_below, runs_from, held_here, held_later}
-use Rattle.tcp_reasm.proofs.Lookups.{get-append_left, get-append_right}
+use Rattle.tcp_reasm.proofs.Held.{held_below, runs_from, held_here, held_later}
+use Rattle.tcp_seq.proofs.ByteFrom.{byte_there, byte_below}
+use Rattle.tcp_seq.proofs.Lookups.{get-append_left, get-append_right}
 
 pub runs-lowered : (by low : ℕ) (ps : List Piece) → AreRuns (by + low) ps → AreRuns low (lowered by ps)
 runs-lowered by low [] runs = tt
@@ -119,3 +122,13 @@ lowered_more by xs ys i x place below is read moves =
     let f : Piece → Piece = λ p. record p { place = p.place - by } in
     let same : record { place = place; bytes = (get_or ys i x).bytes } ≡ f x = rw (moves, ← read) refl in
     ap (set ys i) same ∙ map_over_more f xs ys i x below is read
+
+-- the pieces behind the first ones, at the front
+pub front_removed : (xs ys : List Piece) (count left : ℕ) → count ≤ length xs → left ≡ length xs - count → length ys ≡ length xs
+    → ((k : ℕ) (d : Piece) → k < left → get_or ys k d ≡ get_or xs (k + count) d) → take left ys ≡ drop count xs
+front_removed xs ys count left within lefts same moved =
+    let none : Piece = record { place = 0; bytes = [] } in
+    let n : length (take left ys) ≡ length (drop count xs) = omega (arith, lefts, same, within, length-take left ys, length-drop count xs) in
+    ext_get_or none (take left ys) (drop count xs) n (λ i below.
+    let low : i < left = omega (arith, below, lefts, length-take left ys, same) in
+    get_or-take left ys i none low ∙ moved i none low ∙ ap (λ (j : ℕ). get_or xs j none) (let e : i + count ≡ count + i = omega arith in e) ∙ sym (get_or-drop count xs i none))

@@ -1,11 +1,8 @@
 -- Pieces of a stream, whose places are counted from the one expected next.
-use Rattle.std.specs.Prelude.{ℕ, ◌<◌, ◌≤◌, ◌+◌, ◌-◌, nat_lt, if◌then◌else◌, List, [], ◌∷◌, length, Option, None, slice_get}
+use Rattle.std.specs.Prelude.{ℕ, ◌<◌, ◌≤◌, ◌+◌, List, [], ◌∷◌, length, Option, None}
 use Rattle.std.specs.Option.{option_or}
 use Rattle.tcp_seq.specs.declared.state.Piece.{Piece}
-
--- the byte at a place, of bytes that stand from a place on
-abbrev pub byte_from : ℕ → List ℕ → ℕ → Option ℕ
-byte_from place bytes k = if nat_lt k place then None else slice_get bytes (k - place)
+use Rattle.tcp_seq.specs.Endpoint.{byte_from}
 
 -- the byte that a list of pieces has at a place, that of the first piece that has one
 abbrev pub held : List Piece → ℕ → Option ℕ

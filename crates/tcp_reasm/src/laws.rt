@@ -3,7 +3,7 @@
 ghost use Rattle.std.specs.Prelude.{ℕ, ◌≡◌, ◌<◌, ◌+◌, ◌^◌, nat_lt, if◌then◌else◌, Some, None, List, length};
 ghost use Rattle.tcp_seq.specs.Numbers.{number};
 ghost use Rattle.tcp_seq.specs.Rules.{IsInStream};
-ghost use Rattle.tcp_reasm.specs.Runs.{byte_from};
+ghost use Rattle.tcp_seq.specs.Endpoint.{byte_from};
 ghost use Rattle.tcp_reasm.specs.Reassembly.{Reassembly, Put, PutsAll, AreOf, covers, nothing_from, byte_ahead, TakesReady, brought};
 
 /// After puts of slices of one stream, in whatever order and with whatever overlap and repeats, each

@@ -4,10 +4,8 @@
 mod laws;
 mod piece;
 mod reasm;
-#[cfg(test)]
-mod tests;
 
 pub use laws::{bytes_stand_at_their_places, same_places_same_bytes};
-pub use piece::WINDOW;
-pub use reasm::Reasm;
+pub use piece::{WINDOW, part, remove_front};
+pub use reasm::{Reasm, in_window};
 pub use tcp_seq::{Piece, Pieces};

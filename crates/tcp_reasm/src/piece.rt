@@ -2,7 +2,8 @@
 
 ghost use Rattle.std.specs.Prelude.{ℕ, ◌≡◌, ◌<◌, ◌≤◌, ◌+◌, ◌-◌, ◌^◌, ◌++◌, length, take, drop, None, true, is_some, vec_len, vec_capacity, IfOk, OnOk, OnErr};
 ghost use Rattle.std.specs.Option.{option_or};
-ghost use Rattle.tcp_reasm.specs.Runs.{AreRuns, byte_from, held};
+ghost use Rattle.tcp_reasm.specs.Runs.{AreRuns, held};
+ghost use Rattle.tcp_seq.specs.Endpoint.{byte_from};
 ghost use Rattle.tcp_reasm.specs.Steps.{passed, begun, run_between, runs_outside as runs_outside_lem, where_none, in_order, bytes_of, lowered};
 
 use graft_edge::{NoMemory, Octets};
@@ -31,7 +32,7 @@ fn begun_count(pieces: &[Piece], place: usize) -> usize
 }
 
 /// The bytes from one index up to another, as far as there are any.
-fn part(bytes: &[u8], from: usize, to: usize) -> &[u8]
+pub fn part(bytes: &[u8], from: usize, to: usize) -> &[u8]
     ensures { result.now ≡ take (to - from) (drop from bytes.now) }
 {
     let from = from.min(bytes.len());
@@ -202,13 +203,24 @@ fn lower(pieces: &mut Vec<Piece>, by: u32)
     }
 }
 
+/// Removes the first `count` pieces, of which there are at least as many. This takes no memory, and each
+/// of the others moves once.
+pub fn remove_front(pieces: &mut Vec<Piece>, count: usize)
+    requires { count ≤ length pieces.old.items }
+    ensures { pieces.new.items ≡ drop count pieces.old.items }
+{
+    let left = pieces.len() - count;
+    for index in 0..left {
+        pieces.swap(index, index + count);
+    }
+    pieces.truncate(left);
+}
+
 /// Removes the first pieces, and counts the places of the others from a later one.
 pub(crate) fn remove_first(pieces: &mut Vec<Piece>, count: usize, by: u32)
     requires { count ≤ length pieces.old.items }
     ensures { pieces.new.items ≡ lowered by (drop count pieces.old.items) }
 {
-    let left = pieces.len() - count;
-    pieces.rotate_left(count);
-    pieces.truncate(left);
+    remove_front(pieces, count);
     lower(pieces, by);
 }

@@ -1,7 +1,8 @@
 //! Reassembly.
 
 ghost use Rattle.std.specs.Prelude.{ℕ, ◌≡◌, ◌<◌, ◌≤◌, ◌+◌, ◌^◌, [], length, IfOk, OnOk, OnErr};
-ghost use Rattle.tcp_reasm.specs.Runs.{AreRuns, byte_from};
+ghost use Rattle.tcp_reasm.specs.Runs.{AreRuns};
+ghost use Rattle.tcp_seq.specs.Endpoint.{byte_from};
 ghost use Rattle.tcp_reasm.specs.Reassembly.{Puts, TakesReady, brought};
 
 use crate::piece::{WINDOW, append, insert, ready, remove_first};
@@ -30,8 +31,9 @@ impl Model for Reasm {
     ghost invariant = { λ r. AreRuns 0 r.pieces.items };
 }
 
-/// The part of bytes from a sequence number on that stands in the window, with its place there.
-fn in_window(next: Seq, seq: Seq, bytes: &[u8]) -> (u32, &[u8])
+/// The part of at most 65,535 bytes from a sequence number on that stands in the window of 16,384 places
+/// from `next` on, with its place counted from there.
+pub fn in_window(next: Seq, seq: Seq, bytes: &[u8]) -> (u32, &[u8])
     requires { length bytes.now < 2 ^ 16 }
     ensures within { result.0 + length result.1.now ≤ 16384 }
     ensures bytes { (k : ℕ) → byte_from result.0 result.1.now k ≡ brought next.0 seq.0 bytes.now k }

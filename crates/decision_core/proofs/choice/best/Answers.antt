@@ -1,4 +1,6 @@
-use Rattle.std.proofs.Common.{◌∙◌, sym}
+use Rattle.std.proofs.Common.{◌≡◌, ℕ, ◌∙◌, sym, rules}
+use Rattle.std.specs.Prelude.{option_map}
+use Rattle.bgp_types.specs.declared.rank.Rank.{Rank}
 use Rattle.decision_core.proofs.NineRules.{nearest_more, no_rank, chosen, passed_over, empty_exactly, choice-no_leader, choice-all}
 use Rattle.decision_core.proofs.choice.best.Goals as goal
 use Rattle.decision_core.proofs.choice.best.Goals.{then-is_next, else-is_next}
@@ -10,10 +12,14 @@ loop-place-preserved c = elim c.if-is_next.branch [
 ]
 
 pub returns-clause-choice : goal.returns-clause-choice
-returns-clause-choice c = c.place_of.ensures ∙ choice-all _ c.in_ok-leader.leader _ _ (sym c.in_ok-leader.ensures) c.loop-place-test.false c.loop-place.invariant
+returns-clause-choice c =
+    let place : c.map.result ≡ option_map (λ (x : ℕ × Rank). x.0) c.loop-place.nearest = search rules in
+    place ∙ choice-all _ c.in_ok-leader.leader _ _ (sym c.in_ok-leader.ensures) c.loop-place-test.false c.loop-place.invariant
 
 pub returns-clause-empty : goal.returns-clause-empty
-returns-clause-empty c = empty_exactly _ _ (c.place_of.ensures ∙ choice-all _ c.in_ok-leader.leader _ _ (sym c.in_ok-leader.ensures) c.loop-place-test.false c.loop-place.invariant)
+returns-clause-empty c =
+    let place : c.map.result ≡ option_map (λ (x : ℕ × Rank). x.0) c.loop-place.nearest = search rules in
+    empty_exactly _ _ (place ∙ choice-all _ c.in_ok-leader.leader _ _ (sym c.in_ok-leader.ensures) c.loop-place-test.false c.loop-place.invariant)
 
 pub returns-in_err-leader-clause-choice : goal.returns-in_err-leader-clause-choice
 returns-in_err-leader-clause-choice c = choice-no_leader _ _ c.from_residual.ensures (sym c.in_err-leader.ensures)

@@ -10,7 +10,7 @@ loop-preserved g c = record {
   ring = search rules;
   edges = record { actor = c.take_one.ensures.edges.actor ∙ c.loop.invariant.edges.actor; edges = λ b. c.take_one.ensures.edges.edges b ∙ c.loop.invariant.edges.edges b };
   taking = taking_more g.A.Actor.part g.A.Actor.makes g.A.Actor.took c.args.from c.loop.counter c.in-Ok.mail.stamp.0 c.in-Ok.mail.item c.args.actor.now c.loop.actor c.take_one.new.actor
-      c.args.post.now c.loop.post c.take_one.new.post c.args.into.now c.loop.into c.pop.new.self c.loop.invariant.taking c.in-Ok.ensures.ok.0 c.in-Ok.ensures.ok.1 c.if-not-take_one.ensures.took;
+      c.args.post.now c.loop.post c.take_one.new.post c.args.into.now c.loop.into c.pop.new.self c.loop.invariant.taking c.in-Ok.ensures.ok.0 c.in-Ok.ensures.ok.1 c.in_ok-take_one-in-Ok.ensures.took;
 }
 
 pub returns-clause-took : goal.returns-clause-took

@@ -1,5 +1,5 @@
 use Rattle.std.proofs.Common.{◌≡◌, ℕ, ◌+◌, ◌∙◌, length, ap, subst, sym, arith, refl}
-use Rattle.tcp_reasm.specs.Runs.{byte_from}
+use Rattle.tcp_seq.specs.Endpoint.{byte_from}
 use Rattle.tcp_reasm.specs.Reassembly.{brought}
 use Rattle.tcp_end.specs.Holes.{HasHole}
 use Rattle.tcp_end.proofs.InOrder.{brings_hole, receives_run, receives_ahead, runs_ahead, same_bytes}

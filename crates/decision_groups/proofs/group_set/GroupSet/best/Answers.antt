@@ -1,16 +1,16 @@
-use Rattle.std.proofs.Common.{◌∙◌, sym, ap}
+use Rattle.std.proofs.Common.{◌≡◌, ◌∙◌, sym, ap, rules}
+use Rattle.std.specs.Prelude.{option_map}
 use Rattle.decision_core.specs.Choice.{choice}
-use Rattle.decision_groups.proofs.Best.{best-some, best-none, empty_exactly}
+use Rattle.decision_groups.specs.Order.{RankedSource}
+use Rattle.decision_groups.proofs.Best.{best-chosen, empty_exactly}
 use Rattle.decision_groups.proofs.group_set.GroupSet.best.Goals as goal
 
-pub returns-in-Some-clause-choice : goal.returns-in-Some-clause-choice
-returns-in-Some-clause-choice c = sym (best-some c.self.inside.ranks c.self.inside.groups _ c.self.invariant c.best_champion.ensures.ordered (sym c.in-Some.ensures.best)) ∙ ap choice c.self.view_is
+pub returns-clause-choice : goal.returns-clause-choice
+returns-clause-choice c =
+    let from : c.map.result ≡ option_map (λ (x : RankedSource). x.0) c.best_champion.result = search rules in
+    from ∙ (sym (best-chosen c.self.inside.ranks c.self.inside.groups c.best_champion.result c.self.invariant c.best_champion.ensures.ordered (sym c.best_champion.ensures.best)) ∙ ap choice c.self.view_is)
 
-pub returns-in-None-clause-choice : goal.returns-in-None-clause-choice
-returns-in-None-clause-choice c = sym (best-none c.self.inside.ranks c.self.inside.groups c.self.invariant (sym c.in-None.ensures.best)) ∙ ap choice c.self.view_is
-
-pub returns-in-Some-clause-empty : goal.returns-in-Some-clause-empty
-returns-in-Some-clause-empty c = empty_exactly _ _ (sym (best-some c.self.inside.ranks c.self.inside.groups _ c.self.invariant c.best_champion.ensures.ordered (sym c.in-Some.ensures.best)) ∙ ap choice c.self.view_is)
-
-pub returns-in-None-clause-empty : goal.returns-in-None-clause-empty
-returns-in-None-clause-empty c = empty_exactly _ _ (sym (best-none c.self.inside.ranks c.self.inside.groups c.self.invariant (sym c.in-None.ensures.best)) ∙ ap choice c.self.view_is)
+pub returns-clause-empty : goal.returns-clause-empty
+returns-clause-empty c =
+    let from : c.map.result ≡ option_map (λ (x : RankedSource). x.0) c.best_champion.result = search rules in
+    empty_exactly _ _ (from ∙ (sym (best-chosen c.self.inside.ranks c.self.inside.groups c.best_champion.result c.self.invariant c.best_champion.ensures.ordered (sym c.best_champion.ensures.best)) ∙ ap choice c.self.view_is))

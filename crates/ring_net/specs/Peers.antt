@@ -1,0 +1,31 @@
+-- The peers to which a cell has ends of rings.
+use Rattle.std.specs.Prelude.{ℕ, ◌≡◌, ◌≤◌, ◌<◌, ◌+◌, ◌⊎◌, false, List, [], ◌∷◌, length, Option, None, is_some, slice_index_or}
+use Rattle.std.specs.List.{insert}
+use mathlib.Core.HLevel.{Π_prop, ×_prop}
+use mathlib.Core.Bool.{Bool-set}
+use native.Mathlib.Bridge.{le_prop}
+
+-- each number is below those behind it
+abbrev pub Ascends : List ℕ → Type 0
+Ascends ps = (i j : ℕ) → i < j → j < length ps → slice_index_or ps i 0 < slice_index_or ps j 0
+
+-- The peer stands behind all lower ones. It stood there before, or was put there.
+pub record AddsPeer (peer : ℕ) (old new : List ℕ) : Type 0 where
+  pub place : ℕ
+  pub below : (k : ℕ) → k < place → slice_index_or old k 0 < peer
+  pub stands : ((place < length old) × ((slice_index_or old place 0 ≡ peer) × (new ≡ old)))
+      ⊎ ((place ≤ length old) × ((place < length old → peer < slice_index_or old place 0) × (new ≡ insert old place peer)))
+
+module _ {T : Type 0} where
+  -- From this place on: nothing stands at a place that is not in the list, and the list ascends.
+  abbrev pub ListsFrom : List (Option T) → ℕ → List ℕ → Type 0
+  ListsFrom slots n [] = (k : ℕ) → n ≤ k → is_some (slice_index_or slots k None) ≡ false
+  ListsFrom slots n (p ∷ ps) = (n ≤ p) × ((p < length slots) × (((k : ℕ) → n ≤ k → k < p → is_some (slice_index_or slots k None) ≡ false) × ListsFrom slots (p + 1) ps))
+
+  -- the places at which something stands are in the list, in ascending order
+  abbrev pub Lists : List (Option T) → List ℕ → Type 0
+  Lists slots places = ListsFrom slots 0 places
+
+  pub ListsFrom-prop : (slots : List (Option T)) (n : ℕ) (places : List ℕ) → IsProp (ListsFrom slots n places)
+  ListsFrom-prop slots n [] = Π_prop (λ k. Π_prop (λ h. Bool-set _ _))
+  ListsFrom-prop slots n (p ∷ ps) = ×_prop le_prop (×_prop le_prop (×_prop (Π_prop (λ k. Π_prop (λ h. Π_prop (λ l. Bool-set _ _)))) (ListsFrom-prop slots (p + 1) ps)))
