@@ -40,14 +40,15 @@ impl Bag {
         self.segments.len()
     }
 
+    /// Whether there are none.
     pub fn is_empty(&self) -> bool
         ensures { IsTrue result ↔ (self.now ≡ []) }
     {
         self.segments.is_empty()
     }
 
-    /// Puts a segment behind the others. For want of memory, and only then, it comes back, and the bag
-    /// is as before.
+    /// Puts a segment behind the others. If memory runs out, and only then, the segment comes back and the
+    /// bag is as before.
     pub fn put(&mut self, segment: Segment) -> Result<(), Segment>
         ensures ok { OnOk result (self.new ≡ self.old ++ segment ∷ []) }
         ensures back { IfErr result (λ refused. refused ≡ segment) }
@@ -59,7 +60,7 @@ impl Bag {
         }
     }
 
-    /// A copy of the segment at a place, counted from 0. The bag keeps its own.
+    /// A copy of the segment at a place, counted from 0 and below the bag's length. The bag keeps its own.
     pub fn deliver(&mut self, place: usize) -> Result<Segment, NoMemory>
         requires { place < length self.old }
         ensures copy { IfOk result (λ segment. slice_get self.old place ≡ Some segment) }
@@ -68,7 +69,8 @@ impl Bag {
         self.segments[place].copy()
     }
 
-    /// Takes out the segment at a place, counted from 0. The others keep their order.
+    /// Takes out the segment at a place, counted from 0 and below the bag's length. The others keep their
+    /// order.
     pub fn remove(&mut self, place: usize) -> Segment
         requires { place < length self.old }
         ensures segment { slice_get self.old place ≡ Some result }

@@ -4,7 +4,7 @@ use graft_edge::NoMemory;
 use tcp_seq::Seq;
 use thiserror::Error;
 
-/// What an arriving segment was (RFC 9293, section 3.10.7.4).
+/// What a segment was that arrived (RFC 9293, section 3.10.7.4).
 #[derive(Clone, Copy, Debug, PartialEq, Eq, Hash)]
 pub enum Arrival {
     /// It isn't acceptable.

@@ -1,4 +1,4 @@
-//! The bytes of a stream put in order from segments that come in any order, overlap and repeat.
+//! Puts the bytes of a stream in order, whose segments arrive in any order, overlap and repeat.
 #![tactic(auto)]
 
 mod laws;

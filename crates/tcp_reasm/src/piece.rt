@@ -163,7 +163,7 @@ pub(crate) fn ready(pieces: &[Piece]) -> (usize, usize)
     (count, end)
 }
 
-/// Appends the bytes of pieces, of which there are `len`. For want of memory nothing is appended.
+/// Appends the bytes of pieces, of which there are `len`. If memory runs out, nothing is appended.
 fn extend_all(out: &mut Vec<u8>, pieces: &[Piece], len: usize) -> Result<(), AllocError>
     requires { len ≡ length (bytes_of pieces.now) }
     ensures ok { OnOk result (out.new.items ≡ out.old.items ++ bytes_of pieces.now) }
@@ -177,7 +177,7 @@ fn extend_all(out: &mut Vec<u8>, pieces: &[Piece], len: usize) -> Result<(), All
     Ok(())
 }
 
-/// Appends the bytes of pieces, of which there are `len`. For want of memory nothing is appended.
+/// Appends the bytes of pieces, of which there are `len`. If memory runs out, nothing is appended.
 pub(crate) fn append(
     alloc: Global,
     out: &mut Octets,

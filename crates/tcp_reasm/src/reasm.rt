@@ -11,9 +11,9 @@ use std::alloc::Global;
 use std::marker::Model;
 use tcp_seq::{Piece, Pieces, Seq};
 
-/// The bytes of a stream that arrived and weren't given out yet, at most 16,384 places from the one
-/// expected next on. Contracts see the number expected next and the pieces that stand ahead of it,
-/// each with its place counted from there: rising, none overlapping another, none empty.
+/// The bytes of a stream that arrived and weren't given out yet, in the window of 16,384 places from the
+/// one expected next on. Contracts see the number expected next and the pieces that stand there, each with
+/// its place counted from the one expected next: rising, none overlapping another, none empty.
 #[derive(Debug, Drop)]
 pub struct Reasm {
     next: Seq,
@@ -66,9 +66,9 @@ impl Reasm {
         self.next
     }
 
-    /// Keeps those of the bytes from a sequence number on whose place is from the one expected next up
-    /// to, and not with, the 16,384th after it. A place that has a byte keeps it. At most 65,535 bytes
-    /// are put at a time. For want of memory nothing is put.
+    /// Keeps those bytes from a sequence number on that stand in the window: from the place expected next up
+    /// to, and not including, the 16,384th after it. A place that has a byte keeps it. At most 65,535 bytes
+    /// are put at a time. If memory runs out, nothing is put.
     pub fn put(&mut self, seq: Seq, bytes: &[u8]) -> Result<(), NoMemory>
         requires { length bytes.now < 2 ^ 16 }
         ensures ok { OnOk result (Puts self.old self.new seq.0 bytes.now) }
@@ -79,8 +79,8 @@ impl Reasm {
         insert(&mut self.pieces, place, kept)
     }
 
-    /// Appends all bytes that stand in order from the number expected next, and expects the one after
-    /// them. Answers how many there were. For want of memory nothing is given.
+    /// Appends all bytes that stand in order from the number expected next to `out`, and expects the number
+    /// after them. Returns how many there were. If memory runs out, nothing changes.
     pub fn take_ready(&mut self, out: &mut Octets) -> Result<usize, NoMemory>
         ensures ok { IfOk result (λ n. TakesReady self.old self.new out.old out.new n) }
         ensures err { OnErr result (self.new ≡ self.old) }
@@ -102,7 +102,7 @@ impl Reasm {
         self.pieces.as_slice()
     }
 
-    /// The same pieces, taken out. It takes no memory.
+    /// The same pieces, taken out. This takes no memory.
     pub fn into_pieces(self) -> Pieces
         ensures pieces { result ≡ self.pieces }
         ensures runs { AreRuns 0 result }
@@ -111,8 +111,9 @@ impl Reasm {
         Items::from_vec(pieces)
     }
 
-    /// A reassembly that expects this number next and has these pieces ahead of it, each with its place
-    /// counted from there. It takes no memory.
+    /// A reassembly that expects this number next and has these pieces, each with its place counted from
+    /// there. They rise, none overlaps another or is empty, and each ends in the window of 16,384 places. This
+    /// takes no memory.
     pub fn from_pieces(next: Seq, pieces: Pieces) -> Reasm
         requires { AreRuns 0 pieces }
         ensures { result ≡ record { next = next.0; pieces = pieces } }

@@ -1,12 +1,14 @@
 -- What a segment that arrives changes.
-use Rattle.std.proofs.Common.{◌≡◌, ◌≢◌, ℕ, zero, suc, ◌+◌, max, length, take, Option, None, Some, cond, Bool, true, false, refl, sym, ap, subst, ◌∙◌, arith, inl, inr}
+use Rattle.std.proofs.Common.{◌≡◌, ◌≢◌, ℕ, zero, suc, ◌+◌, max, length, take, Option, None, Some, cond, Bool, true, false, refl, sym, ap, subst, ◌∙◌, arith, ◌⊎◌, ◌-◌, ◌<◌, inl, inr}
 use Rattle.std.specs.Prelude.{nat_lt, nat_le, is_some, ◌==◌, ◌||◌, ◌&&◌, if◌then◌else◌}
 use Rattle.std.specs.Option.{option_or}
 use Rattle.std.specs.Cmp.{nat_cmp_total, unsigned_tied}
 use Rattle.std.specs.FinMap as map
 use Rattle.std.proofs.lemmas.Bool.Decides.{nat_tests}
 use Rattle.std.proofs.lemmas.Bool.{cases_lt, cases_eq, lt-ltb, le-ltb}
-use Rattle.tcp_seq.specs.Endpoint.{Bytes, Endpoint, PlacedSegment, received, received_bytes, byte_from, byte_brought, TakesSegment}
+use Rattle.tcp_seq.specs.Endpoint.{Bytes, Endpoint, PlacedSegment, received, received_bytes, byte_from, byte_brought, IsAcceptable, IsBeyond, TakesSegment, IsTaken}
+use Rattle.tcp_seq.specs.Rules.{AcceptablePlace, IsPlaceInWindow}
+use Rattle.tcp_seq.specs.Rules.{AcceptablePlace, IsPlaceInWindow}
 use Rattle.tcp_seq.proofs.Lookups.{or_none}
 use Rattle.tcp_seq.proofs.ByteFrom.{byte_past}
 use Rattle.tcp_seq.proofs.Received.{in_order_grows}
@@ -104,3 +106,53 @@ leaves_one before a b segment (inr accepts) (inr accepts') =
     accepts.changed
     ∙ ap (λ (m : Bytes). let e : Endpoint = record before { acked = max before.acked segment.ack; arrived = m; owed = before.owed || nat_lt 0 (length segment.bytes) } in e) same
     ∙ sym accepts'.changed
+
+-- And there is one
+in_window_or : (next place : ℕ) → IsPlaceInWindow next 16384 place ⊎ (¬ IsPlaceInWindow next 16384 place)
+in_window_or next place = elim (cases_lt place next) [
+  | inl below ↦ inr (λ is. omega (arith, below, is.0))
+  | inr from ↦ elim (cases_lt place (next + 16384)) [
+    | inl within ↦ inl (from, within)
+    | inr past ↦ inr (λ is. omega (arith, past, is.1))
+  ]
+]
+
+no_bytes : (next place len : ℕ) → len ≡ 0 → ¬ IsPlaceInWindow next 16384 place → AcceptablePlace next 16384 place len → ⊥
+no_bytes next place len none not (inl closed) = omega (arith, closed.1)
+no_bytes next place len none not (inr (inl empty)) = not empty.2
+no_bytes next place len none not (inr (inr bytes)) = omega (arith, none, bytes.0)
+
+neither_in : (next place len : ℕ) → 0 < len → ¬ IsPlaceInWindow next 16384 place → ¬ IsPlaceInWindow next 16384 (place + len - 1) → AcceptablePlace next 16384 place len → ⊥
+neither_in next place len some first last (inl closed) = omega (arith, closed.1)
+neither_in next place len some first last (inr (inl empty)) = omega (arith, some, empty.0)
+neither_in next place len some first last (inr (inr bytes)) = elim bytes.2 [ inl is ↦ first is | inr is ↦ last is ]
+
+acceptable_or : (next place len : ℕ) → AcceptablePlace next 16384 place len ⊎ (¬ AcceptablePlace next 16384 place len)
+acceptable_or next place len = elim (cases_lt 0 len) [
+  | inl some ↦ elim (in_window_or next place) [
+    | inl is ↦ inl (inr (inr (some, omega arith, inl is)))
+    | inr first ↦ elim (in_window_or next (place + len - 1)) [
+      | inl is ↦ inl (inr (inr (some, omega arith, inr is)))
+      | inr last ↦ inr (neither_in next place len some first last)
+    ]
+  ]
+  | inr none ↦ elim (in_window_or next place) [
+    | inl is ↦ inl (inr (inl (omega (arith, none), omega arith, is)))
+    | inr not ↦ inr (no_bytes next place len (omega (arith, none)) not)
+  ]
+]
+
+drops : (before : Endpoint) (segment : PlacedSegment) → (¬ IsAcceptable before segment) ⊎ IsBeyond before segment → IsTaken before segment
+drops before segment cause = record { after = record before { owed = true }; takes = inl (record { cause = cause; stays = refl }) }
+
+pub some_after : (before : Endpoint) (segment : PlacedSegment) → IsTaken before segment
+some_after before segment = elim (acceptable_or (received before) segment.place (length segment.bytes)) [
+  | inr not ↦ drops before segment (inl not)
+  | inl is ↦ elim (cases_lt before.emitted segment.ack) [
+    | inl beyond ↦ drops before segment (inr beyond)
+    | inr within ↦ record {
+      after = record before { acked = max before.acked segment.ack; arrived = accepted before segment; owed = before.owed || nat_lt 0 (length segment.bytes) };
+      takes = inr (record { acceptable = is; within = λ beyond. omega (arith, within, beyond); arrived = get-accepted before segment; changed = refl });
+    }
+  ]
+]

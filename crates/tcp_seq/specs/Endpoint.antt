@@ -149,6 +149,11 @@ pub record AcceptsSegment (before : Endpoint) (segment : PlacedSegment) (after :
 abbrev pub TakesSegment : Endpoint → PlacedSegment → Endpoint → Type 0
 TakesSegment before segment after = DropsSegment before segment after ⊎ AcceptsSegment before segment after
 
+-- an endpoint that is left when a segment arrives
+pub record IsTaken (before : Endpoint) (segment : PlacedSegment) : Type 0 where
+  pub after : Endpoint
+  pub takes : TakesSegment before segment after
+
 -- A segment's places, and the length that it acknowledges, are those of streams of at most 1 MiB or of a window at their end.
 pub record IsInStreams (segment : PlacedSegment) : Type 0 where
   pub end : IsInStream (segment.place + length segment.bytes)

@@ -1,12 +1,12 @@
-//! What 32-bit numbers say of places in a stream, what an endpoint keeps of what arrives, and what the two endpoints of a
-//! connection receive.
+//! What 32-bit numbers say of places in a stream, what an endpoint keeps of what arrives, and what the two
+//! endpoints of a connection receive.
 
 ghost use Rattle.std.specs.Prelude.{ℕ, ◌≡◌, ◌↔◌, ◌≤◌, ◌<◌, ◌+◌, ◌^◌, List, length, take, Some, slice_get};
 ghost use Rattle.std.specs.FinMap as map;
 ghost use Rattle.tcp_seq.specs.declared.rules.AckKind.{AckKind};
 ghost use Rattle.tcp_seq.specs.Numbers.{number, plus, offset_from};
 ghost use Rattle.tcp_seq.specs.Rules.{Acceptable, IsAck, AcceptablePlace, IsPlaceAck, IsInStream};
-ghost use Rattle.tcp_seq.specs.Endpoint.{Endpoint, PlacedSegment, Bytes, bytes_in_order, IsReceived, received, received_bytes, TakesSegment, EmitsNext, EmitsAgain, EmitsSlice};
+ghost use Rattle.tcp_seq.specs.Endpoint.{Endpoint, PlacedSegment, Bytes, bytes_in_order, IsReceived, received, received_bytes, TakesSegment, IsTaken, EmitsNext, EmitsAgain, EmitsSlice};
 ghost use Rattle.tcp_seq.specs.Connection.{Connection, fresh_connection, ConnectionStep, ConnectionRun, IsConnection};
 
 /// Going on from a place's number is going on from the place, and the offset of a later place's number
@@ -28,19 +28,25 @@ pub fn acknowledgement_by_places()
         → IsAck kind (number first acked) (number first emitted) (number first ack) ↔ IsPlaceAck kind acked emitted ack }
 {}
 
-/// The received length is the greatest n such that all places below n have a byte, and the received bytes are theirs.
+/// The received length is the greatest n such that all places below n have a byte, and the received bytes
+/// are theirs.
 pub fn received_is_greatest()
     ensures length { (arrived : Bytes) → IsReceived arrived (length (bytes_in_order arrived)) }
     ensures bytes { (arrived : Bytes) (k : ℕ) → k < length (bytes_in_order arrived) → slice_get (bytes_in_order arrived) k ≡ map.get arrived k }
 {}
 
-/// Whatever segment arrives, a place that has a byte keeps it, and what was received stays the first part of what is. Which endpoint it
-/// leaves is determined by the one before.
+/// Whatever segment arrives, a place that has a byte keeps it, and what was received stays the first part
+/// of what is received.
 pub fn a_place_keeps_its_byte()
     ensures byte { (before after : Endpoint) (segment : PlacedSegment) (place byte : ℕ)
         → TakesSegment before segment after → map.get before.arrived place ≡ Some byte → map.get after.arrived place ≡ Some byte }
     ensures received { (before after : Endpoint) (segment : PlacedSegment)
         → TakesSegment before segment after → received_bytes before ≡ take (received before) (received_bytes after) }
+{}
+
+/// Whatever segment arrives, it leaves one endpoint.
+pub fn a_segment_leaves_one_endpoint()
+    ensures some { (before : Endpoint) (segment : PlacedSegment) → IsTaken before segment }
     ensures one { (before a b : Endpoint) (segment : PlacedSegment) → TakesSegment before segment a → TakesSegment before segment b → a ≡ b }
 {}
 
@@ -52,9 +58,10 @@ pub fn emitted_slices_may_be_emitted()
         → before.emitted ≤ before.acked + 15360 → EmitsAgain before segment after → EmitsSlice before segment after }
 {}
 
-/// Two endpoints are joined by nothing but the segments that each of them ever emitted, and these arrive in any order, any number of
-/// times or never. In every connection that comes about from two fresh endpoints, what each received are the first bytes that the
-/// other sent, no more than the other emitted, and each acknowledged no more than the other received.
+/// Two endpoints are joined by nothing but the segments that each of them ever emitted, and these arrive
+/// in any order, any number of times or never. In every connection that comes about from two fresh
+/// endpoints, what each received are the first bytes that the other sent, and no more than the other
+/// emitted; and of what it sent, no more counts as acknowledged than the other received.
 pub fn connection_carries_streams()
     ensures fresh { IsConnection fresh_connection }
     ensures step { (before after : Connection) → IsConnection before → ConnectionStep before after → IsConnection after }

@@ -31,8 +31,8 @@ pub enum AckKind {
 }
 
 /// What the acknowledgement `ack` says to a sender whose oldest unacknowledged number is `una` and
-/// that sends `nxt` next (RFC 9293, sections 3.4 and 3.10.7.4). An offset of 2^31 or more is that of a
-/// number behind; the bound is this project's.
+/// that sends `nxt` next, at most 1,048,576 numbers further on (RFC 9293, sections 3.4 and 3.10.7.4). An
+/// offset from `una` of 2^31 or more is that of a number behind; this bound is the project's own.
 pub fn ack_kind(una: Seq, nxt: Seq, ack: Seq) -> AckKind
     requires { offset_from nxt.0 una.0 ≤ 2 ^ 20 }
     ensures { IsAck result una.0 nxt.0 ack.0 }

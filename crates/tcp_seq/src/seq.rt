@@ -3,13 +3,13 @@
 ghost use Rattle.std.specs.Prelude.{◌≡◌, ◌<◌, ◌^◌};
 ghost use Rattle.tcp_seq.specs.Numbers.{plus as plus_lem, offset_from as offset_from_lem};
 
-/// The number of a byte in a stream. Numbers go round modulo 2^32, so they have no order of their own:
+/// The number of a byte in a stream. Numbers wrap around modulo 2^32, so they have no order of their own:
 /// they are compared by their offset from a third one (RFC 9293, section 3.4).
 #[derive(Clone, Copy, Debug, PartialEq, Eq, Hash)]
 pub struct Seq(pub u32);
 
 impl Seq {
-    /// The number `n` further on.
+    /// The number that is `n` further on.
     pub fn plus(self, n: u32) -> Seq
         ensures { result.0 ≡ plus_lem self.0 n }
     {

@@ -9,6 +9,8 @@ use graft_edge::{Items, NoMemory, Octets, PeeringId, TryCopy};
 /// Bytes that stand from a place of a stream on.
 #[derive(Debug, Drop)]
 pub struct Piece {
+    /// The place of the first byte. In an [`EndState`] it is counted from the stream's first byte, and in a
+    /// reassembly from the byte expected next.
     pub place: u32,
     pub bytes: Octets,
 }
@@ -35,8 +37,8 @@ impl TryCopy for Piece {
     }
 }
 
-/// An endpoint at rest, as it moves from one router to another. Places are counted from the first
-/// byte of a stream, which has the number `send_first` or `receive_first`.
+/// An endpoint at rest, as it moves from one router to another. Places are counted from the first byte of a
+/// stream, which has place 0 and the number `send_first` or `receive_first`.
 #[derive(Debug, Drop)]
 pub struct EndState {
     /// The side that it sends to.
