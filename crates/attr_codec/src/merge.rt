@@ -52,7 +52,7 @@ fn front_in(alloc: Global, part: &PathPart, count: u128) -> Result<PathPart, NoM
         PathPart::Set(ases) => Ok(PathPart::Set(ases.copy()?)),
         PathPart::Sequence(ases) => Ok(PathPart::Sequence(AsList::from_slice(
             alloc,
-            front_of(ases.as_slice(), count),
+            front_of(ases, count),
         )?)),
     }
 }
@@ -80,7 +80,7 @@ fn put_sequences(path: &mut Vec<PathPart>, front: AsList, back: AsList) -> Resul
     let room = front.len() <= MOST_ASES && back.len() <= MOST_ASES - front.len();
     if room {
         let mut both = front;
-        both.extend(back.as_slice())?;
+        both.extend(&back)?;
         return Ok(path.push(PathPart::Sequence(both))?);
     }
     path.push(PathPart::Sequence(front))?;
@@ -105,7 +105,7 @@ fn put_parts(path: &mut Vec<PathPart>, last: PathPart, part: PathPart) -> Result
     }
 }
 
-/// Puts a part at the end; with a sequence in front of it it may become one.
+/// Puts a part at the end; two sequences that meet there may become one.
 fn put_joined(path: &mut Vec<PathPart>, part: PathPart) -> Result<(), NoMemory>
     ensures { OnOk result (path.new.items ≡ push_joined path.old.items part) }
 {
@@ -135,11 +135,11 @@ fn met(front: Vec<PathPart>, back: &[PathPart]) -> Result<AsPath, NoMemory>
 pub fn merged(alloc: Global, path: AsPath, as4_path: AsPath) -> Result<AsPath, NoMemory>
     ensures { IfOk result (λ p. p ≡ merged_path path as4_path) }
 {
-    let count = count_in(path.as_slice());
-    let as4_count = count_in(as4_path.as_slice());
+    let count = count_in(&path);
+    let as4_count = count_in(&as4_path);
     if count < as4_count {
         return Ok(path);
     }
-    let front = lead_in(alloc, path.as_slice(), count - as4_count)?;
-    met(front, as4_path.as_slice())
+    let front = lead_in(alloc, &path, count - as4_count)?;
+    met(front, &as4_path)
 }

@@ -37,7 +37,8 @@ fn size_at(flags: u8, bytes: &[u8]) -> Option<(usize, &[u8])>
     Some((usize::from(BigEndian::read_u16(size)), rest))
 }
 
-/// Flags, type and value of the attribute at the front of the field, and the octets after it.
+/// Flags, type and value of the first attribute of the field, and the octets after it; none where
+/// the octets are no whole attribute.
 #[tactic(auto, unfolding(bgp_types::specs::WireAttrs::attr_at))]
 fn parts_at(bytes: &[u8]) -> Option<(u8, u8, &[u8], &[u8])>
     ensures parts { option_map (λ x. (wire_of x.0 x.1 x.2.now, x.3.now)) result ≡ attr_at bytes.now }
@@ -54,7 +55,7 @@ fn parts_at(bytes: &[u8]) -> Option<(u8, u8, &[u8], &[u8])>
     Some((*flags, *kind, value, after))
 }
 
-/// The octets in front of a rest.
+/// The octets before a rest of so many octets.
 fn octets_before<'a>(octets: &'a [u8], rest: &[u8]) -> &'a [u8]
     requires { length rest.now ≤ length octets.now }
     ensures { result.now ≡ take (length octets.now - length rest.now) octets.now }
@@ -63,7 +64,8 @@ fn octets_before<'a>(octets: &'a [u8], rest: &[u8]) -> &'a [u8]
     front
 }
 
-/// The attribute at the front of the field, and the octets after it.
+/// The first attribute of the field, and the octets after it; none where the octets are no whole
+/// attribute.
 pub fn piece_at(bytes: &[u8]) -> Option<(Piece<'_>, &[u8])>
     ensures piece { option_map (λ x. (wire x.0, x.1.now)) result ≡ attr_at bytes.now }
     ensures octets { IfSome result (λ x. IsPiece x.0) }

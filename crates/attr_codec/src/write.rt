@@ -79,8 +79,8 @@ fn path_value(alloc: Global, path: &[PathPart], wide: bool) -> Result<Octets, No
     let mut out = Octets::new(alloc);
     for part in path {
         match part {
-            PathPart::Set(ases) => put_part(&mut out, 1, ases.as_slice(), wide)?,
-            PathPart::Sequence(ases) => put_part(&mut out, 2, ases.as_slice(), wide)?,
+            PathPart::Set(ases) => put_part(&mut out, 1, ases, wide)?,
+            PathPart::Sequence(ases) => put_part(&mut out, 2, ases, wide)?,
         }
     }
     Ok(out)
@@ -152,12 +152,7 @@ fn put_aggregator(
         return Ok(());
     };
     let value = aggregator_value(alloc, aggregator, wide)?;
-    put_attr(
-        out,
-        passed(aggregator.partial),
-        AGGREGATOR,
-        value.as_slice(),
-    )
+    put_attr(out, passed(aggregator.partial), AGGREGATOR, &value)
 }
 
 /// Appends an AS4_PATH, where an AS of the path needs one.
@@ -175,7 +170,7 @@ fn put_as4_path(
         return Ok(());
     }
     let value = path_value(alloc, path, true)?;
-    put_attr(out, OPTIONAL | TRANSITIVE, AS4_PATH, value.as_slice())
+    put_attr(out, OPTIONAL | TRANSITIVE, AS4_PATH, &value)
 }
 
 /// Appends an AS4_AGGREGATOR, where the AS of an AGGREGATOR needs one.
@@ -194,7 +189,7 @@ fn put_as4_aggregator(
         return Ok(());
     }
     let value = aggregator_value(alloc, aggregator, true)?;
-    put_attr(out, OPTIONAL | TRANSITIVE, AS4_AGGREGATOR, value.as_slice())
+    put_attr(out, OPTIONAL | TRANSITIVE, AS4_AGGREGATOR, &value)
 }
 
 /// Appends attributes of unknown types.
@@ -203,12 +198,7 @@ fn put_others(out: &mut Octets, others: &[RawAttr]) -> Result<(), NoMemory>
     ensures { OnOk result (out.new ≡ out.old ++ flat_map attr_octets (map other_written others.now)) }
 {
     for other in others {
-        put_attr(
-            out,
-            passed(other.partial),
-            other.kind,
-            other.bytes.as_slice(),
-        )?;
+        put_attr(out, passed(other.partial), other.kind, &other.bytes)?;
     }
     Ok(())
 }
@@ -248,8 +238,8 @@ fn put_known(alloc: Global, out: &mut Octets, attrs: &Attrs, wide: bool) -> Resu
     ensures { OnOk result (out.new ≡ out.old ++ flat_map attr_octets (known_written wide attrs.now)) }
 {
     put_attr(out, TRANSITIVE, ORIGIN, &[origin_octet(attrs.origin)])?;
-    let path = path_value(alloc, attrs.path.as_slice(), wide)?;
-    put_attr(out, TRANSITIVE, AS_PATH, path.as_slice())?;
+    let path = path_value(alloc, &attrs.path, wide)?;
+    put_attr(out, TRANSITIVE, AS_PATH, &path)?;
     put_attr(out, TRANSITIVE, NEXT_HOP, &attrs.next_hop.to_be_bytes())?;
     put_med(out, attrs.med)?;
     put_atomic(out, attrs.atomic)?;
@@ -262,7 +252,7 @@ fn put_as4(alloc: Global, out: &mut Octets, attrs: &Attrs, wide: bool) -> Result
     requires room { NeedsLong wide attrs.now.path → length (path_octets true attrs.now.path) < 2 ^ 16 }
     ensures { OnOk result (out.new ≡ out.old ++ flat_map attr_octets (as4_written wide attrs.now)) }
 {
-    put_as4_path(alloc, out, attrs.path.as_slice(), wide)?;
+    put_as4_path(alloc, out, &attrs.path, wide)?;
     put_as4_aggregator(alloc, out, &attrs.aggregator, wide)
 }
 
@@ -273,7 +263,7 @@ pub fn write_attrs(alloc: Global, attrs: &Attrs, wide: bool) -> Result<Octets, N
     requires { FitsField attrs.now wide }
     ensures { IfOk result (λ octets. octets ≡ spell_attrs wide attrs.now) }
 {
-    let (first, middle, last) = parts_of(attrs.unknown.as_slice());
+    let (first, middle, last) = parts_of(&attrs.unknown);
     let mut out = Octets::new(alloc);
     put_others(&mut out, first)?;
     put_known(alloc, &mut out, attrs, wide)?;

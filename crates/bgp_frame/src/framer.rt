@@ -4,8 +4,7 @@ ghost use Rattle.std.specs.Prelude.{◌≡◌, ◌++◌, [], Some, IfOk, IfSome,
 ghost use Rattle.bgp_types.specs.Header.{frame_at};
 ghost use Rattle.bgp_frame.specs.Next.{Next, has_next, begins};
 
-use crate::header::{HEADER, fault_at, len_of};
-use bgp_types::{HeaderFault, NoMemory, Octets};
+use bgp_types::{HEADER, HeaderFault, NoMemory, Octets, header_fault, header_len};
 use graft_edge::ByteQueue;
 use std::alloc::Global;
 use std::marker::Model;
@@ -61,10 +60,10 @@ fn whole_at(octets: &[u8]) -> Result<Option<usize>, HeaderFault>
     if octets.len() < HEADER {
         return Ok(None);
     }
-    if let Some(fault) = fault_at(octets) {
+    if let Some(fault) = header_fault(octets) {
         return Err(fault);
     }
-    let len = usize::from(len_of(octets));
+    let len = usize::from(header_len(octets));
     if octets.len() < len {
         return Ok(None);
     }
@@ -112,8 +111,7 @@ impl Framer {
             Ok(Some(len)) => len,
         };
         let kind = octets[18];
-        let (front, _) = octets.split_at(len);
-        let bytes = Octets::from_slice(self.held.allocator(), front)?;
+        let bytes = Octets::from_slice(self.held.allocator(), &octets[..len])?;
         self.held.drop_front(len);
         Ok(Some(Frame { kind, bytes }))
     }

@@ -2,7 +2,6 @@
 #![tactic(auto)]
 
 mod framer;
-mod header;
 mod laws;
 
 pub use bgp_types::HeaderFault;

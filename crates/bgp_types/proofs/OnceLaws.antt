@@ -123,13 +123,13 @@ module _ {A : Type 0} where
 
 -- ---- prefixes
 
-same_itself : (p : PrefixValue) → same_prefix p p ≡ true
+pub same_itself : (p : PrefixValue) → same_prefix p p ≡ true
 same_itself p =
     let a : eqb p.address p.address ≡ true = grind (arith, nat_tests) in
     let l : eqb p.len p.len ≡ true = grind (arith, nat_tests) in
     rw (a, l) refl
 
-is_same : (p q : PrefixValue) → same_prefix p q ≡ true → p ≡ q
+pub is_same : (p q : PrefixValue) → same_prefix p q ≡ true → p ≡ q
 is_same p q e = by_test (eqb p.address q.address) (eqb p.len q.len) refl refl e where
   by_test : (a l : Bool) → eqb p.address q.address ≡ a → eqb p.len q.len ≡ l → (a && l) ≡ true → p ≡ q
   by_test true true f g e = let a = eqb-true _ _ f in let l = eqb-true _ _ g in grind arith

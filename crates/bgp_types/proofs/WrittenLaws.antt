@@ -67,7 +67,7 @@ wires_said (p ∷ ps) all = ap (λ (q : PrefixValue). q ∷ map prefix_said (map
 
 -- ---- no prefix twice
 
-distinct_parts : (xs ys : List PrefixValue) → IsDistinct same_prefix (xs ++ ys) → IsDistinct same_prefix xs × IsDistinct same_prefix ys
+pub distinct_parts : (xs ys : List PrefixValue) → IsDistinct same_prefix (xs ++ ys) → IsDistinct same_prefix xs × IsDistinct same_prefix ys
 unfolding IsDistinct
 distinct_parts [] ys d = (tt, d)
 distinct_parts (x ∷ xs) ys d = let h = distinct_parts xs ys d.1 in ((front xs ys d.0, h.0), h.1) where
@@ -75,7 +75,7 @@ distinct_parts (x ∷ xs) ys d = let h = distinct_parts xs ys d.1 in ((front xs 
   front [] ys all = tt
   front (z ∷ zs) ys all = (all.0, front zs ys all.1)
 
-same_turned : (p q : PrefixValue) → same_prefix p q ≡ same_prefix q p
+pub same_turned : (p q : PrefixValue) → same_prefix p q ≡ same_prefix q p
 same_turned p q = both (eqb p.address q.address) (eqb q.address p.address) (eqb p.len q.len) (eqb q.len p.len) (turned p.address q.address) (turned p.len q.len) where
   turned : (m n : ℕ) → eqb m n ≡ eqb n m
   turned m n = grind (arith, nat_tests)

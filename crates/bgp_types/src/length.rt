@@ -145,13 +145,11 @@ fn atomic_len(atomic: bool) -> usize
 fn attrs_len(attrs: &Attrs, wide: bool) -> usize
     ensures { result ≡ min (length (spell_attrs wide attrs.now)) (2 ^ 64 - 1) }
 {
-    let path = attrs.path.as_slice();
-    let others = attrs.unknown.as_slice();
     (ORIGIN_AND_NEXT_HOP + med_len(attrs.med) + atomic_len(attrs.atomic))
         .saturating_add(aggregator_len(&attrs.aggregator, wide))
-        .saturating_add(path_len(path, wide))
-        .saturating_add(as4_path_len(path, wide))
-        .saturating_add(others_len(others))
+        .saturating_add(path_len(&attrs.path, wide))
+        .saturating_add(as4_path_len(&attrs.path, wide))
+        .saturating_add(others_len(&attrs.unknown))
 }
 
 fn caps_len(caps: &[Cap]) -> usize
@@ -177,9 +175,9 @@ fn some_attrs_len(attrs: &Option<Attrs>, wide: bool) -> usize
 fn update_len(update: &Update, wide: bool) -> usize
     ensures { result ≡ min (length (spell_update wide update.now)) (2 ^ 64 - 1) }
 {
-    prefixes_len(update.withdrawn.as_slice())
+    prefixes_len(&update.withdrawn)
         .saturating_add(some_attrs_len(&update.attrs, wide))
-        .saturating_add(prefixes_len(update.nlri.as_slice()))
+        .saturating_add(prefixes_len(&update.nlri))
         .saturating_add(4)
 }
 
@@ -191,7 +189,7 @@ pub fn message_len(message: &Message, wide: bool) -> usize
     ensures { result ≡ min (length (spell message.now wide)) (2 ^ 64 - 1) }
 {
     let body = match message {
-        Message::OpenMsg(open) => caps_len(open.caps.as_slice()).saturating_add(OPEN_FIELDS),
+        Message::OpenMsg(open) => caps_len(&open.caps).saturating_add(OPEN_FIELDS),
         Message::UpdateMsg(update) => update_len(update, wide),
         Message::NoticeMsg(notice) => notice.info.len().saturating_add(2),
         Message::KeepaliveMsg => 0,

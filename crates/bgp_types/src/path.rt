@@ -43,9 +43,8 @@ fn part_len(part: &PathPart) -> u32
 pub fn path_len(path: &AsPath) -> u32
     ensures { result ≡ min (path_count path.now) (2 ^ 32 - 1) }
 {
-    let parts = path.as_slice();
     let mut count = 0u32;
-    for part in parts {
+    for part in path.iter() {
         count = count.saturating_add(part_len(part));
     }
     count
@@ -69,8 +68,8 @@ fn part_holds(part: &PathPart, as_number: u32) -> bool
     ensures { IsTrue result ↔ Contains (ases_of part.now) as_number }
 {
     match part {
-        PathPart::Set(ases) => ases.as_slice().contains(&as_number),
-        PathPart::Sequence(ases) => ases.as_slice().contains(&as_number),
+        PathPart::Set(ases) => ases.contains(&as_number),
+        PathPart::Sequence(ases) => ases.contains(&as_number),
     }
 }
 
@@ -78,7 +77,5 @@ fn part_holds(part: &PathPart, as_number: u32) -> bool
 pub fn holds_as(path: &AsPath, as_number: u32) -> bool
     ensures { IsTrue result ↔ HoldsAs path.now as_number }
 {
-    path.as_slice()
-        .iter()
-        .any(|part| part_holds(part, as_number))
+    path.iter().any(|part| part_holds(part, as_number))
 }

@@ -13,7 +13,7 @@ pub enum From {
     Router(RouterId),
 }
 
-/// What the choice between routes to one prefix goes by. `origin` is 0 for IGP, 1 for EGP and 2 for
+/// What the choice between routes to one prefix looks at. `origin` is 0 for IGP, 1 for EGP and 2 for
 /// INCOMPLETE, an absent MED is 0, and `cost` is the interior cost to where the route comes from.
 #[derive(Clone, Copy, Debug, PartialEq, Eq, Hash)]
 pub struct Rank {

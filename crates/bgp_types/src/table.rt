@@ -21,8 +21,8 @@ pub trait Table<V> {
     fn get(&self, prefix: Prefix) -> Option<&V>
         ensures { option_copied result ≡ map.get (contents self.now) prefix };
 
-    /// Gives a prefix a value, and answers the value that this replaces. For want of memory alone
-    /// the value comes back, and nothing has changed.
+    /// Gives a prefix a value, and answers the value that this replaces. If memory runs out, the
+    /// value comes back and nothing changes; nothing else makes it fail.
     fn set(&mut self, prefix: Prefix, value: V) -> Result<Option<V>, V>
         ensures before { IfOk result (λ before. before ≡ map.get (contents self.old) prefix) }
         ensures ok { OnOk result (contents self.new ≡ map.insert (contents self.old) prefix value) }
@@ -65,7 +65,8 @@ pub trait SpareTable<V>: Table<V> {
     fn spare(&self) -> usize
         ensures { result ≡ Self.room self.now };
 
-    /// Gives a prefix a value without taking memory, and answers the value that this replaces.
+    /// Gives a prefix a value without taking memory, and answers the value that this replaces. The
+    /// table must have memory for at least one further prefix.
     fn set_reserved(&mut self, prefix: Prefix, value: V) -> Option<V>
         requires { 1 ≤ Self.room self.old }
         ensures before { result ≡ map.get (Self.contents self.old) prefix }

@@ -34,8 +34,8 @@ goes_on field rest prefixes p later prefixes' s e more =
     let cut : many prefix_at rest ≡ (w ∷ ws, (many prefix_at later).1) = many_some prefix_at prefix_reads.shortens rest (w, later) f.1 in
     record {
       said = ap (λ (ps : List PrefixValue). once_after ps (map prefix_said ws)) more
-      ∙ (ap (λ (q : PrefixValue). once_after (put_once prefixes q) (map prefix_said ws)) (sym f.2)
-      ∙ (sym (ap (λ (m : List WirePrefix × List ℕ). once_after prefixes (map prefix_said m.0)) cut) ∙ s.said));
+          ∙ (ap (λ (q : PrefixValue). once_after (put_once prefixes q) (map prefix_said ws)) (sym f.2)
+          ∙ (sym (ap (λ (m : List WirePrefix × List ℕ). once_after prefixes (map prefix_said m.0)) cut) ∙ s.said));
       left = sym (ap (λ (m : List WirePrefix × List ℕ). m.1) cut) ∙ s.left;
     }
 

@@ -205,7 +205,7 @@ found_good wide attrs cut differ =
     let as4 : Option Aggregator = unless_wide wide (as4_aggregator_in (attr_of 18 attrs)) in
     record {
       path = of_merge (is_stale aggregator as4) (said (path_in wide) (attr_of 2 attrs)) (unless_wide wide (as4_path_in (attr_of 17 attrs)))
-      (of_said Parts (path_in wide) (attr_of 2 attrs) (at 2) (path_said wide)) (of_width Parts wide (as4_path_in (attr_of 17 attrs)) (as4_said (attr_of 17 attrs) (at 17)));
+          (of_said Parts (path_in wide) (attr_of 2 attrs) (at 2) (path_said wide)) (of_width Parts wide (as4_path_in (attr_of 17 attrs)) (as4_said (attr_of 17 attrs) (at 17)));
       next_hop = of_said IsHost next_hop_in (attr_of 3 attrs) (at 3) (λ a cut. host_said a);
       med = of_said (λ n. n < 2 ^ 32) med_in (attr_of 4 attrs) (at 4) med_said;
       aggregator = of_merged aggregator as4 (of_said IsAggregator (aggregator_in wide) (attr_of 7 attrs) (at 7) (aggregator_said wide)) (of_width IsAggregator wide (as4_aggregator_in (attr_of 18 attrs)) (as4_aggregator_said (attr_of 18 attrs) (at 18)));

@@ -2,8 +2,8 @@
 //! two octets or of four (RFC 6793).
 #![tactic(auto)]
 
+mod fault;
 mod laws;
-mod number;
 mod open;
 mod prefix;
 mod read;

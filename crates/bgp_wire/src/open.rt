@@ -8,23 +8,17 @@ ghost use Rattle.bgp_types.specs.OpenBody.{cap_at, params_of, with_params, as_sa
 ghost use Rattle.bgp_types.specs.Values.{is_short_hold};
 ghost use Rattle.bgp_wire.specs.Caps.{cap_of, caps_fault, IsAdded};
 
-use crate::number::{fault, is_no_host};
+use crate::fault::fault;
 use attr_codec::CodecFault;
-use bgp_types::{Cap, Caps, Expected, NoMemory, Octets, OpenMsg};
+use bgp_types::{Cap, Caps, Expected, NoMemory, Octets, OpenMsg, is_no_host, narrow_as};
 use byteorder::{BigEndian, ByteOrder};
 use std::alloc::Global;
 
 /// The version of BGP.
-const VERSION: u8 = 4;
-
-/// AS_TRANS, which stands for an AS that two octets don't hold (RFC 6793, section 9).
-const AS_TRANS: u32 = 23456;
-
-/// The greatest AS that two octets hold.
-const LAST_SHORT_AS: u32 = 65535;
+pub const VERSION: u8 = 4;
 
 /// The type of a parameter that has capabilities.
-const CAPABILITIES: u8 = 2;
+pub const CAPABILITIES: u8 = 2;
 
 /// The code of the capability of four-octet AS numbers, and its length.
 const FOUR_OCTET_AS: u8 = 65;
@@ -142,7 +136,7 @@ fn as_said(caps: &[Cap]) -> Option<u32>
 {
     for cap in caps {
         if cap.code == FOUR_OCTET_AS && cap.bytes.len() == FOUR_OCTETS {
-            return Some(BigEndian::read_u32(cap.bytes.as_slice()));
+            return Some(BigEndian::read_u32(&cap.bytes));
         }
     }
     None
@@ -152,12 +146,7 @@ fn as_said(caps: &[Cap]) -> Option<u32>
 fn is_field(remote_as: u32, field: u32) -> bool
     ensures { result ≡ is_field remote_as field }
 {
-    let narrow = if remote_as > LAST_SHORT_AS {
-        AS_TRANS
-    } else {
-        remote_as
-    };
-    field == narrow
+    field == u32::from(narrow_as(remote_as))
 }
 
 /// Whether the OPEN says the AS: by a capability, or else by its field.
@@ -198,7 +187,7 @@ pub fn read_open(alloc: Global, body: &[u8], expected: &Expected) -> Result<Open
         return Err(fault(alloc, OPEN_FAULT, BAD_IDENTIFIER, &[]));
     }
     let caps = params_in(alloc, &body[9..])?;
-    if expected.offered && !is_said(expected.remote_as, as_number, as_said(caps.as_slice())) {
+    if expected.offered && !is_said(expected.remote_as, as_number, as_said(&caps)) {
         return Err(fault(alloc, OPEN_FAULT, BAD_PEER_AS, &[]));
     }
     Ok(OpenMsg {

@@ -91,7 +91,7 @@ pub fn apart_from(
         return Ok(prefixes);
     }
     let set = PrefixSet::of(alloc, others)?;
-    outside(alloc, prefixes.as_slice(), &set)
+    outside(alloc, &prefixes, &set)
 }
 
 /// Appends a prefix: its length, and the fewest octets that hold so many bits.
@@ -99,8 +99,7 @@ fn put_prefix(out: &mut Octets, prefix: Prefix) -> Result<(), NoMemory>
     ensures { OnOk result (out.new ≡ out.old ++ prefix_octets prefix) }
 {
     let len = prefix.len();
-    let mut address = [0u8; 4];
-    BigEndian::write_u32(&mut address, prefix.address());
+    let address = prefix.address().to_be_bytes();
     out.push(len)?;
     out.extend(&address[..size_of(len)])
 }

@@ -5,11 +5,11 @@ ghost use Rattle.attr_codec.specs.Decoding.{Decodes};
 ghost use Rattle.bgp_types.specs.FirstFault.{is_in_state, notice_of, body_of, message_of};
 ghost use Rattle.bgp_types.specs.Header.{frame_at, header_notice};
 
-use crate::number::{fault, octets_of_u16};
+use crate::fault::fault;
 use crate::open::read_open;
 use crate::update::read_update;
 use attr_codec::CodecFault;
-use bgp_types::{Expected, HeaderFault, Message, NoMemory, Notice, Octets, SessionState};
+use bgp_types::{Expected, HEADER, HeaderFault, Message, NoMemory, Notice, Octets, SessionState};
 use std::alloc::Global;
 
 /// The types of messages.
@@ -20,9 +20,6 @@ pub const UPDATE: u8 = 2;
 pub const NOTIFICATION: u8 = 3;
 
 pub const KEEPALIVE: u8 = 4;
-
-/// The octets of a header.
-pub const HEADER: usize = 19;
 
 /// The code of a fault in the state machine.
 const STATE_FAULT: u8 = 5;
@@ -109,7 +106,7 @@ pub fn header_notice(alloc: Global, fault: HeaderFault) -> Result<Notice, NoMemo
 {
     let (subcode, info) = match fault {
         HeaderFault::NotSynchronized => (NOT_SYNCHRONIZED, Octets::new(alloc)),
-        HeaderFault::BadLength(len) => (BAD_LENGTH, Octets::from_slice(alloc, &octets_of_u16(len))?),
+        HeaderFault::BadLength(len) => (BAD_LENGTH, Octets::from_slice(alloc, &len.to_be_bytes())?),
         HeaderFault::BadType(kind) => (BAD_TYPE, Octets::from_slice(alloc, &[kind])?),
     };
     Ok(Notice {

@@ -8,9 +8,10 @@ ghost use Rattle.bgp_types.specs.Many.{number_at, told_at};
 ghost use Rattle.bgp_types.specs.UpdateBody.{fields_of, all_known, update_of};
 ghost use Rattle.bgp_wire.specs.Fields.{fields};
 
-use crate::number::fault;
+use crate::fault::fault;
 use crate::prefix::{apart_from, prefixes_in};
 use attr_codec::{CodecFault, read_attrs};
+use bgp_types::kinds::{AS_PATH, NEXT_HOP, ORIGIN};
 use bgp_types::{Attrs, FoundAttrs, PrefixList, Update};
 use byteorder::{BigEndian, ByteOrder};
 use std::alloc::Global;
@@ -24,13 +25,6 @@ const MALFORMED_LIST: u8 = 1;
 const MISSING_ATTRIBUTE: u8 = 3;
 
 const INVALID_NETWORK: u8 = 10;
-
-/// The types of the attributes that an announcement needs.
-const ORIGIN: u8 = 1;
-
-const AS_PATH: u8 = 2;
-
-const NEXT_HOP: u8 = 3;
 
 /// The three fields of the body.
 #[derive(Drop)]
@@ -125,7 +119,7 @@ pub fn read_update(alloc: Global, body: &[u8], wide: bool) -> Result<Update, Cod
     let Some(nlri) = prefixes_in(alloc, fields.nlri)? else {
         return Err(fault(alloc, UPDATE_FAULT, INVALID_NETWORK, &[]));
     };
-    let withdrawn = apart_from(alloc, withdrawn, nlri.as_slice())?;
+    let withdrawn = apart_from(alloc, withdrawn, &nlri)?;
     Ok(Update {
         withdrawn,
         attrs: Some(attrs),

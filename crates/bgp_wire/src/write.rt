@@ -6,19 +6,12 @@ ghost use Rattle.bgp_types.specs.Spelling.{counted, cap_octets, param_octets, sp
 ghost use Rattle.bgp_types.specs.Writable.{IsWritableOpen, IsWritableUpdate, IsWritable};
 ghost use Rattle.bgp_wire.specs.Written.{FitsSome, FitsUpdate, FitsBody};
 
-use crate::number::octets_of_u16;
+use crate::open::{CAPABILITIES, VERSION};
 use crate::prefix::prefixes_out;
-use crate::read::{HEADER, KEEPALIVE, NOTIFICATION, OPEN, UPDATE};
+use crate::read::{KEEPALIVE, NOTIFICATION, OPEN, UPDATE};
 use attr_codec::write_attrs;
-use bgp_types::{Attrs, Cap, Message, NoMemory, Notice, Octets, OpenMsg, Update};
-use byteorder::{BigEndian, ByteOrder};
+use bgp_types::{Attrs, Cap, HEADER, Message, NoMemory, Notice, Octets, OpenMsg, Update};
 use std::alloc::Global;
-
-/// The version of BGP.
-const VERSION: u8 = 4;
-
-/// The type of a parameter that has capabilities.
-const CAPABILITIES: u8 = 2;
 
 /// Sixteen octets of ones.
 const MARKER: [u8; 16] = [0xFF; 16];
@@ -28,7 +21,7 @@ fn put_counted(out: &mut Octets, field: &[u8]) -> Result<(), NoMemory>
     requires { length field.now < 2 ^ 16 }
     ensures { OnOk result (out.new ≡ out.old ++ counted field.now) }
 {
-    out.extend(&octets_of_u16(field.len() as u16))?;
+    out.extend(&(field.len() as u16).to_be_bytes())?;
     out.extend(field)
 }
 
@@ -39,7 +32,7 @@ fn put_cap(out: &mut Octets, cap: &Cap) -> Result<(), NoMemory>
 {
     let size = cap.bytes.len() as u8;
     out.extend(&[CAPABILITIES, size + 2, cap.code, size])?;
-    out.extend(cap.bytes.as_slice())
+    out.extend(&cap.bytes)
 }
 
 /// The parameters of an OPEN.
@@ -59,16 +52,14 @@ fn open_out(alloc: Global, opening: &OpenMsg) -> Result<Octets, NoMemory>
     requires { IsWritableOpen opening.now }
     ensures { IfOk result (λ octets. octets ≡ spell_open opening.now) }
 {
-    let params = params_out(alloc, opening.caps.as_slice())?;
-    let mut identifier = [0u8; 4];
-    BigEndian::write_u32(&mut identifier, opening.identifier);
+    let params = params_out(alloc, &opening.caps)?;
     let mut out = Octets::new(alloc);
     out.push(VERSION)?;
-    out.extend(&octets_of_u16(opening.as_number as u16))?;
-    out.extend(&octets_of_u16(opening.hold))?;
-    out.extend(&identifier)?;
+    out.extend(&(opening.as_number as u16).to_be_bytes())?;
+    out.extend(&opening.hold.to_be_bytes())?;
+    out.extend(&opening.identifier.to_be_bytes())?;
     out.push(params.len() as u8)?;
-    out.extend(params.as_slice())?;
+    out.extend(&params)?;
     Ok(out)
 }
 
@@ -88,13 +79,13 @@ fn update_out(alloc: Global, update: &Update, wide: bool) -> Result<Octets, NoMe
     requires { FitsUpdate update.now wide }
     ensures { IfOk result (λ octets. octets ≡ spell_update wide update.now) }
 {
-    let withdrawn = prefixes_out(alloc, update.withdrawn.as_slice())?;
+    let withdrawn = prefixes_out(alloc, &update.withdrawn)?;
     let attrs = attrs_out(alloc, &update.attrs, wide)?;
-    let nlri = prefixes_out(alloc, update.nlri.as_slice())?;
+    let nlri = prefixes_out(alloc, &update.nlri)?;
     let mut out = Octets::new(alloc);
-    put_counted(&mut out, withdrawn.as_slice())?;
-    put_counted(&mut out, attrs.as_slice())?;
-    out.extend(nlri.as_slice())?;
+    put_counted(&mut out, &withdrawn)?;
+    put_counted(&mut out, &attrs)?;
+    out.extend(&nlri)?;
     Ok(out)
 }
 
@@ -105,7 +96,7 @@ fn notice_out(alloc: Global, notice: &Notice) -> Result<Octets, NoMemory>
     let mut out = Octets::new(alloc);
     out.push(notice.code)?;
     out.push(notice.subcode)?;
-    out.extend(notice.info.as_slice())?;
+    out.extend(&notice.info)?;
     Ok(out)
 }
 
@@ -141,7 +132,7 @@ fn frame_of(alloc: Global, kind: u8, body: &[u8]) -> Result<Octets, NoMemory>
 {
     let mut out = Octets::new(alloc);
     out.extend(&MARKER)?;
-    out.extend(&octets_of_u16((HEADER + body.len()) as u16))?;
+    out.extend(&((HEADER + body.len()) as u16).to_be_bytes())?;
     out.push(kind)?;
     out.extend(body)?;
     Ok(out)
@@ -159,5 +150,5 @@ pub fn write_message(alloc: Global, message: &Message, wide: bool) -> Result<Oct
     ensures { IfOk result (λ octets. octets ≡ spell message.now wide) }
 {
     let body = body_out(alloc, message, wide)?;
-    frame_of(alloc, type_of(message), body.as_slice())
+    frame_of(alloc, type_of(message), &body)
 }

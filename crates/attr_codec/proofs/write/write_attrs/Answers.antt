@@ -9,27 +9,27 @@ use Rattle.attr_codec.proofs.write.write_attrs.Goals as goal
 
 pub put_others-requires : goal.put_others-requires
 put_others-requires c =
-    (all_in_parts (λ (o : RawAttr). length o.bytes < 2 ^ 16) c.as_slice.result.now c.parts_of.result.0.now c.parts_of.result.1.now c.parts_of.result.2.now c.parts_of.ensures (rw c.as_slice.ensures (room_in c.args.wide c.args.attrs.now c.requires).others)).0
+    (all_in_parts (λ (o : RawAttr). length o.bytes < 2 ^ 16) c.deref.result.now c.parts_of.result.0.now c.parts_of.result.1.now c.parts_of.result.2.now c.parts_of.ensures (rw c.deref.ensures (room_in c.args.wide c.args.attrs.now c.requires).others)).0
 
 pub put_known-requires-clause-room : goal.put_known-requires-clause-room
 put_known-requires-clause-room c = (room_in c.args.wide c.args.attrs.now c.requires).path
 
 pub put_others-requires-2 : goal.put_others-requires-2
 put_others-requires-2 c =
-    (all_in_parts (λ (o : RawAttr). length o.bytes < 2 ^ 16) c.as_slice.result.now c.parts_of.result.0.now c.parts_of.result.1.now c.parts_of.result.2.now c.parts_of.ensures (rw c.as_slice.ensures (room_in c.args.wide c.args.attrs.now c.requires).others)).1
+    (all_in_parts (λ (o : RawAttr). length o.bytes < 2 ^ 16) c.deref.result.now c.parts_of.result.0.now c.parts_of.result.1.now c.parts_of.result.2.now c.parts_of.ensures (rw c.deref.ensures (room_in c.args.wide c.args.attrs.now c.requires).others)).1
 
 pub put_as4-requires-clause-room : goal.put_as4-requires-clause-room
 put_as4-requires-clause-room c = (room_in c.args.wide c.args.attrs.now c.requires).long
 
 pub put_others-requires-3 : goal.put_others-requires-3
 put_others-requires-3 c =
-    (all_in_parts (λ (o : RawAttr). length o.bytes < 2 ^ 16) c.as_slice.result.now c.parts_of.result.0.now c.parts_of.result.1.now c.parts_of.result.2.now c.parts_of.ensures (rw c.as_slice.ensures (room_in c.args.wide c.args.attrs.now c.requires).others)).2
+    (all_in_parts (λ (o : RawAttr). length o.bytes < 2 ^ 16) c.deref.result.now c.parts_of.result.0.now c.parts_of.result.1.now c.parts_of.result.2.now c.parts_of.ensures (rw c.deref.ensures (room_in c.args.wide c.args.attrs.now c.requires).others)).2
 
 pub returns : goal.returns
 returns c =
     let a = c.args.attrs.now in
     let p = c.parts_of.result in
-    let are : AreParts a.unknown p.0.now p.1.now p.2.now = subst (λ (us : List RawAttr). AreParts us p.0.now p.1.now p.2.now) c.as_slice.ensures c.parts_of.ensures in
+    let are : AreParts a.unknown p.0.now p.1.now p.2.now = subst (λ (us : List RawAttr). AreParts us p.0.now p.1.now p.2.now) c.deref.ensures c.parts_of.ensures in
     let e1 : c.put_others.new.out ≡ [] ++ flat_map attr_octets (map other_written p.0.now) = search rules in
     let e2 : c.put_known.new.out ≡ c.put_others.new.out ++ flat_map attr_octets (known_written c.args.wide a) = c.in_ok-put_known.ensures in
     let e3 : c.put_others-2.new.out ≡ c.put_known.new.out ++ flat_map attr_octets (map other_written p.1.now) = c.in_ok-put_others-2.ensures in
