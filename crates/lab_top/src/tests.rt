@@ -21,18 +21,8 @@ remote_address = \"192.0.2.1\"
 local_address = \"192.0.2.2\"
 ";
 
-const ONE_PEERING: &str = "home_as = 65000
-[[router]]
-name = \"a\"
-id = \"10.255.0.1\"
-sessions = 4
-[[peering]]
-name = \"c1\"
-at = \"a\"
-remote_as = 65001
-remote_address = \"192.0.2.1\"
-local_address = \"192.0.2.2\"
-[[step]]
+/// A step that may stand behind it.
+const ANNOUNCEMENT: &str = "[[step]]
 do = \"announce\"
 peering = \"c1\"
 prefixes = [\"10.0.0.0/8\"]
@@ -44,11 +34,7 @@ best 10.0.0.0/8 peering c1 pref 100 path 65001
 peering c1 at a state Established heard 1 told 0
 ";
 
-/// The input of one peering. Behind a function its text is read once, and not at every call.
-fn one_peering() -> &'static str {
-    ONE_PEERING
-}
-
+/// The report of that input. Behind a function its text is read once, and not at every call.
 fn report_of_it() -> &'static str {
     REPORT
 }
@@ -154,7 +140,8 @@ fn received_of(lab: &Lab) -> &[u8] {
 fn runs_one_peering_and_reports_it(rt: HostRuntime) -> Result<(), Fail> {
     let alloc = rt.alloc();
     let words = words_of(alloc, "run")?;
-    let mut source = MemSource::new(alloc, one_peering().as_bytes(), 64, &[])?;
+    let input = joined(alloc, &[NO_STEPS, ANNOUNCEMENT])?;
+    let mut source = MemSource::new(alloc, input.as_bytes(), 64, &[])?;
     let mut sink = MemSink::new(alloc, 4096, 16, &[])?;
     let gate = CountingGate {
         passes: [AtomicU64::new(0), AtomicU64::new(0), AtomicU64::new(0)],
@@ -270,7 +257,7 @@ struct Case {
 const CASES: [Case; 6] = [
     Case {
         word: "run",
-        input: ONE_PEERING,
+        input: NO_STEPS,
         read_fails: 1,
         write_fails: 99,
         status: 4,
@@ -278,7 +265,7 @@ const CASES: [Case; 6] = [
     },
     Case {
         word: "run",
-        input: ONE_PEERING,
+        input: NO_STEPS,
         read_fails: 99,
         write_fails: 2,
         status: 5,
@@ -302,7 +289,7 @@ const CASES: [Case; 6] = [
     },
     Case {
         word: "go",
-        input: ONE_PEERING,
+        input: NO_STEPS,
         read_fails: 1,
         write_fails: 99,
         status: 1,
@@ -310,7 +297,7 @@ const CASES: [Case; 6] = [
     },
     Case {
         word: "",
-        input: ONE_PEERING,
+        input: NO_STEPS,
         read_fails: 99,
         write_fails: 2,
         status: 5,

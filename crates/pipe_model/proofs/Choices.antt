@@ -15,7 +15,7 @@ use Rattle.route_policy.specs.declared.best.Best.{Best}
 use Rattle.pipe_model.specs.declared.pipe.Pipe.{Pipe}
 use Rattle.pipe_model.specs.Worlds.{Session}
 use Rattle.route_policy.specs.Telling.{tell_out}
-use Rattle.pipe_model.specs.Decisions.{the_peering, chosen, session_route, out_side}
+use Rattle.pipe_model.specs.Decisions.{the_peering, brought, chosen, session_route, out_side}
 
 -- ---- a list of one
 
@@ -85,10 +85,6 @@ unfolding choice left_of keep
 choice_none = refl
 
 -- ---- what the one session brings in
-
-unfoldable pub brought : Pipe → Option Attrs → Option Best
-brought pipe None = None
-brought pipe (Some attrs) = cond (holds_as attrs.path pipe.home_as) None (Some (record { from = Peering the_peering; route = record { attrs = attrs; pref = 100 } }))
 
 pub chosen_is : (pipe : Pipe) (s : Session) (p : PrefixValue) → chosen pipe (Some s) p ≡ brought pipe (map.get s.heard p)
 unfolding brought

@@ -23,11 +23,10 @@ use Rattle.bgp_story.proofs.StoryLaws.{state_is}
 use Rattle.pipe_model.specs.declared.pipe.Pipe.{Pipe}
 use Rattle.pipe_model.specs.Pipes.{session_of}
 use Rattle.pipe_model.specs.Worlds.{Session, World, has}
-use Rattle.pipe_model.specs.Decisions.{to_tell}
+use Rattle.pipe_model.specs.Decisions.{brought, to_tell}
 use Rattle.pipe_model.specs.Rows.{GetsRow, due_then}
 use Rattle.pipe_model.specs.Claims.{IsFront}
 use Rattle.pipe_model.proofs.Tables.{has_none, no_best}
-use Rattle.pipe_model.proofs.Choices.{brought}
 use Rattle.pipe_model.proofs.Replies.{no_update, answer_gets, answer_tells, answer_hears, while_unclosed, established_from, confirmed_from, same_update}
 use Rattle.pipe_model.proofs.Keeping.{Early, Keeps, same_session, unread_is, front_longer}
 

@@ -16,10 +16,9 @@ use Rattle.pipe_model.specs.Worlds.{Session, World, unread, has, first_world, fi
 use Rattle.bgp_types.specs.declared.attrs.Attrs.{Attrs}
 use Rattle.route_policy.specs.declared.best.Best.{Best}
 use Rattle.route_policy.specs.Telling.{tell_out}
-use Rattle.pipe_model.specs.Decisions.{to_tell, out_side}
+use Rattle.pipe_model.specs.Decisions.{brought, to_tell, out_side}
 use Rattle.pipe_model.specs.Claims.{IsFront, placement}
 use Rattle.pipe_model.proofs.Tables.{has_none}
-use Rattle.pipe_model.proofs.Choices.{brought}
 
 -- ---- fronts
 

@@ -11,12 +11,12 @@ use Rattle.route_policy.specs.declared.best.Best.{Best}
 use Rattle.pipe_model.specs.declared.pipe.Pipe.{Pipe}
 use Rattle.pipe_model.specs.Pipes.{session_of}
 use Rattle.pipe_model.specs.Worlds.{BestRoutes, Prefixes, Session, World, has}
-use Rattle.pipe_model.specs.Decisions.{chosen, to_tell}
+use Rattle.pipe_model.specs.Decisions.{brought, chosen, to_tell}
 use Rattle.loc_rib.specs.Values.{with_best}
 use Rattle.pipe_model.specs.Rows.{PassesRow, DecidesRow, SaysRow, OrdersRow, CarriesHome, CarriesOut, due_in, due_on}
 use Rattle.pipe_model.specs.Claims.{IsFront}
 use Rattle.pipe_model.proofs.Tables.{same, same_is, has_put, has_removed, none_of, get_with}
-use Rattle.pipe_model.proofs.Choices.{brought, chosen_is, brought_untold}
+use Rattle.pipe_model.proofs.Choices.{chosen_is, brought_untold}
 use Rattle.pipe_model.proofs.Keeping.{Keeps, to_tell_of, same_session, front_trans, front_longer, front_taken, front_next}
 
 -- ---- what is due may change where nothing else does

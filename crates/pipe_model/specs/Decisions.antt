@@ -1,13 +1,15 @@
 -- What the router decides and tells (RFC 4271, section 9.1).
-use Rattle.std.specs.Prelude.{ℕ, List, [], ◌∷◌, Option, Some, None, false}
+use Rattle.std.specs.Prelude.{ℕ, List, [], ◌∷◌, Option, Some, None, false, if◌then◌else◌}
 use Rattle.std.specs.FinMap as map
 use Rattle.graft_edge.specs.declared.ids.PeeringId.{PeeringId}
 use Rattle.bgp_types.specs.declared.attrs.Attrs.{Attrs}
 use Rattle.bgp_types.specs.declared.message.OpenMsg.{OpenMsg}
+use Rattle.bgp_types.specs.declared.rank.From.TheVariants.{Peering}
 use Rattle.bgp_types.specs.Prefixes.{PrefixValue}
 use Rattle.bgp_story.specs.Legal.{got_open}
 use Rattle.decision_core.specs.Choice.{choice}
 use Rattle.route_policy.specs.Candidates.{SessionRoute, candidates}
+use Rattle.route_policy.specs.Rules.{holds_as}
 use Rattle.route_policy.specs.Telling.{OutSide, tell_out}
 use Rattle.route_policy.specs.declared.best.Best.{Best}
 use Rattle.pipe_model.specs.declared.pipe.Pipe.{Pipe}
@@ -36,6 +38,12 @@ session_route pipe session prefix = record {
 abbrev pub session_routes : Pipe → Option Session → PrefixValue → List SessionRoute
 session_routes pipe None prefix = []
 session_routes pipe (Some session) prefix = session_route pipe session prefix ∷ []
+
+-- What a session brings in that heard these attributes: nothing where the path has the home AS, and otherwise
+-- their route, with the preference 100 (RFC 4271, sections 9.1.1 and 9.1.2).
+unfoldable pub brought : Pipe → Option Attrs → Option Best
+brought pipe None = None
+brought pipe (Some attrs) = if holds_as attrs.path pipe.home_as then None else Some (record { from = Peering the_peering; route = record { attrs = attrs; pref = 100 } })
 
 -- The choice between the candidates: no own network, the session that is held, no other router.
 abbrev pub chosen : Pipe → Option Session → PrefixValue → Option Best

@@ -2,7 +2,7 @@
 
 ghost use Rattle.std.specs.Prelude.{◌≡◌, false, IfOk, OnOk, if◌then◌else◌};
 ghost use Rattle.std.specs.FinMap as map;
-ghost use Rattle.pipe_model.proofs.Choices.{brought};
+ghost use Rattle.pipe_model.specs.Decisions.{brought};
 ghost use Rattle.bgp_story.specs.States.{state_of};
 ghost use Rattle.pipe_world.specs.Views.{Stands, Went, is_established};
 
@@ -36,7 +36,7 @@ fn make_due(due: &mut TrieTable<()>, prefix: Prefix, wanted: bool) -> Result<(),
 
 impl PipeWorld {
     /// Ends that prefixes are due, where none is dirty: each best route came from the session, so
-    /// nothing is told. FindsOrStops whether some were.
+    /// nothing is told. Returns whether some were.
     pub fn pass(&mut self) -> Result<bool, NoMemory>
         requires { Stands self.old }
         ensures went { IfOk result (λ made. Went made self.old self.new) }

@@ -19,7 +19,7 @@ const FAR: usize = 1;
 const OPERATOR: usize = 2;
 
 impl PipeWorld {
-    /// The router's turn. FindsOrStops whether it made an event.
+    /// The router's turn. Returns whether it made an event.
     fn turn_router(&mut self) -> Result<bool, NoMemory>
         requires { Stands self.old }
         ensures went { IfOk result (λ made. Went made self.old self.new) }
@@ -32,7 +32,7 @@ impl PipeWorld {
         Ok(got || decided || passed || carried)
     }
 
-    /// The far side's turn. FindsOrStops whether it made an event.
+    /// The far side's turn. Returns whether it made an event.
     fn turn_far(&mut self) -> Result<bool, NoMemory>
         requires { Stands self.old }
         ensures went { IfOk result (λ made. Went made self.old self.new) }
@@ -43,7 +43,7 @@ impl PipeWorld {
         Ok(said || carried)
     }
 
-    /// A round: each actor passes the gate and takes its turn. FindsOrStops whether one of them made an
+    /// A round: each actor passes the gate and takes its turn. Returns whether one of them made an
     /// event. If none did, nothing is left to do.
     fn round<G: Gate>(&mut self, gate: &G) -> Result<bool, NoMemory>
         requires { Stands self.old }

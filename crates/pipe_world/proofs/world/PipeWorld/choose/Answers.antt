@@ -4,8 +4,7 @@ use Rattle.bgp_types.specs.declared.attrs.Attrs.{Attrs}
 use Rattle.bgp_types.specs.declared.rank.From.TheVariants.{Peering}
 use Rattle.route_policy.specs.declared.best.Best.{Best}
 use Rattle.route_policy.proofs.PolicyLemmas.{holds_as-is}
-use Rattle.pipe_model.specs.Decisions.{the_peering}
-use Rattle.pipe_model.proofs.Choices.{brought}
+use Rattle.pipe_model.specs.Decisions.{brought, the_peering}
 use Rattle.pipe_world.proofs.Routing.{chosen_none, chosen_loop, chosen_route}
 use Rattle.pipe_world.proofs.world.PipeWorld.choose.Goals as goal
 
