@@ -3,18 +3,16 @@ use Rattle.std.proofs.Common.{◌≡◌, ◌≢◌, ◌≤◌, ◌<◌, ◌+◌,
 use Rattle.std.proofs.Math.ListN.{set}
 use Rattle.std.specs.Prelude.{IsPermutation, sum_by}
 use Rattle.std.specs.List.{AllByRecursion}
-use Rattle.std.specs.List.Sorted.{IsSortedBy}
 use Rattle.std.proofs.lemmas.Bool.Decides.{nat_tests}
 use Rattle.std.proofs.lemmas.List.Elements.{All-from_recursion, recursion_from_All}
 use Rattle.std.proofs.lemmas.List.Recursion.{is_sum_by}
-use Rattle.std.proofs.lemmas.List.Sorted.{All-permutation, IsPermutation-refl, IsPermutation-sym, IsPermutation-trans, IsPermutation-cons, IsPermutation-append_right, IsPermutation-middle, sum_by-IsPermutation, sorted_far, ranks_by}
-use Rattle.std.proofs.lemmas.Cmp.{nat_cmp_total, on_total, then_total}
+use Rattle.std.proofs.lemmas.List.Sorted.{All-permutation, IsPermutation-refl, IsPermutation-sym, IsPermutation-trans, IsPermutation-cons, IsPermutation-append_right, IsPermutation-middle, sum_by-IsPermutation}
 use Rattle.ring_net.specs.declared.entry.JournalEntry.{JournalEntry}
 use Rattle.ring_net.specs.Journals.{ClocksRise, IsJournal, AreJournals}
-use Rattle.journal_merge.specs.Merges.{IsBefore, by_clock, AreSorted, IsMerged, entries_by, Interleaves}
+use Rattle.journal_merge.specs.Merges.{IsBefore, by_clock, NoneBefore, AreSorted, IsMerged, entries_by, Interleaves}
 use Rattle.journal_merge.proofs.Orders.{equal_or_not, by_here, by_else, each_by, apart}
 
-abbrev joined : List (List JournalEntry) → List JournalEntry
+abbrev pub joined : List (List JournalEntry) → List JournalEntry
 joined journals = flat_map (λ entries. entries) journals
 
 -- ---- elements
@@ -249,25 +247,10 @@ count_joined x i (j ∷ journals) h = elim (equal_or_not i x.actor) [
   | inr ne ↦ (let z : count x j ≡ 0 = count_other x i j (first_from i j journals h).own ne in let m : count x (joined journals) ≤ 1 = count_joined x (i + 1) journals (rest_from i j journals h) in omega (arith, z, m, count-append x j (joined journals)))
 ]
 
--- ---- what a sort leaves
+-- ---- what is sorted
 
 not_after : (e f : JournalEntry) → by_clock f e ≡ false → one_if (is_same e f) ≡ 0 → IsBefore e f
 not_after e f h k = grind (arith, nat_tests)
-
-abbrev NoneBefore : List JournalEntry → Type 0
-NoneBefore [] = Unit {0}
-NoneBefore (e ∷ es) = AllByRecursion (λ f. by_clock f e ≡ false) es × NoneBefore es
-
-pub none_before : (es : List JournalEntry) → IsSortedBy by_clock es → NoneBefore es
-none_before es h = by_places es (λ i j d l m. sorted_far by_clock (ranks_by (then_total (on_total (λ (p : ℕ × ℕ). p.0) nat_cmp_total) (on_total (λ (p : ℕ × ℕ). p.1) nat_cmp_total)) (λ (e : JournalEntry). (e.clock, e.actor))) es h i j d l m)
-  where
-    heads : (e : JournalEntry) (es : List JournalEntry) → ((j : ℕ) → j < length es → (d : JournalEntry) → by_clock (get_or es j d) e ≡ false) → AllByRecursion (λ f. by_clock f e ≡ false) es
-    heads e [] h = tt
-    heads e (f ∷ es) h = (h 0 (omega arith) f, heads e es (λ j l d. h (suc j) (omega arith) d))
-
-    by_places : (es : List JournalEntry) → ((i j : ℕ) (d : JournalEntry) → i ≤ j → j < length es → by_clock (get_or es j d) (get_or es i d) ≡ false) → NoneBefore es
-    by_places [] h = tt
-    by_places (e ∷ es) h = (heads e es (λ j l d. h 0 (suc j) d (omega arith) (omega arith)), by_places es (λ i j d l m. h (suc i) (suc j) d (omega arith) (omega arith)))
 
 strictly : (e : JournalEntry) (es : List JournalEntry) → AllByRecursion (λ f. by_clock f e ≡ false) es → count e es ≡ 0 → AllByRecursion (IsBefore e) es
 strictly e [] h z = tt
@@ -277,8 +260,8 @@ pub are_sorted : (es : List JournalEntry) → NoneBefore es → ((x : JournalEnt
 are_sorted [] h c = tt
 are_sorted (e ∷ es) h c = (strictly e es h.0 (omega (arith, c e, one_self e)), are_sorted es h.1 (λ x. omega (arith, c x)))
 
-pub is_merged : (journals : List (List JournalEntry)) (es : List JournalEntry) → AreJournals journals → IsPermutation (joined journals) es → IsSortedBy by_clock es → IsMerged journals es
+pub is_merged : (journals : List (List JournalEntry)) (es : List JournalEntry) → AreJournals journals → IsPermutation (joined journals) es → NoneBefore es → IsMerged journals es
 is_merged journals es own all h = record {
   all = all;
-  sorted = are_sorted es (none_before es h) (λ x. rw (count_permutation x (joined journals) es all) (count_joined x 0 journals (λ k. subst (λ n. IsJournal n (get_or journals k [])) (omega arith) (own k))));
+  sorted = are_sorted es h (λ x. rw (count_permutation x (joined journals) es all) (count_joined x 0 journals (λ k. subst (λ n. IsJournal n (get_or journals k [])) (omega arith) (own k))));
 }

@@ -6,16 +6,13 @@ use Rattle.std.proofs.lemmas.List.{append_cancel_left, append-nil, map-append}
 use Rattle.ring_net.specs.declared.entry.JournalEntry.{JournalEntry}
 use Rattle.ring_net.specs.declared.entry.Stamped.{Stamped}
 use Rattle.ring_net.specs.Deeds.{Deed, Noted, Makes, Replay, IsLater, items_for, stamped, from_option, puts, gets, sent_to, taken_from, deeds, entries_of}
+use Rattle.ring_net.proofs.Replays.{all-append}
 use Rattle.journal_merge.specs.Merges.{IsBefore, AreSorted, entries_by}
 use Rattle.journal_merge.specs.Worlds.{World, SameWorld, taken_of, takes_on, sends_on, Step, Run}
-use Rattle.journal_merge.specs.Growth.{deeds_by}
+use Rattle.journal_merge.specs.Growth.{noted_by}
 use Rattle.journal_merge.proofs.Orders.{equal_or_not, by_here, by_else}
 
 -- ---- lists
-
-pub all-append : {A : Type 0} (Q : A → Type 0) (xs ys : List A) → AllByRecursion Q xs → AllByRecursion Q ys → AllByRecursion Q (xs ++ ys)
-all-append Q [] ys h k = k
-all-append Q (x ∷ xs) ys h k = (h.0, all-append Q xs ys h.1 k)
 
 map_stamped : {I : Type 0} (c : ℕ) (xs : List I) → map (λ (x : Stamped I). x.item) (stamped c xs) ≡ xs
 map_stamped c [] = refl
@@ -53,34 +50,30 @@ low_step : (e f : JournalEntry) → IsBefore e f → e.clock ≤ f.clock
 low_step e f h = grind arith
 
 module _ {I : Type 0} where
-  -- the notes of one actor
-  abbrev pub own : ℕ → List (Noted I) → List (Noted I)
-  own a ns = filter (λ n. n.deed.entry.actor == a) ns
-
-  pub own_here : (a : ℕ) (n : Noted I) (ns : List (Noted I)) → n.deed.entry.actor ≡ a → own a (n ∷ ns) ≡ n ∷ own a ns
+  pub own_here : (a : ℕ) (n : Noted I) (ns : List (Noted I)) → n.deed.entry.actor ≡ a → noted_by a (n ∷ ns) ≡ n ∷ noted_by a ns
   own_here a n ns e = grind (arith, nat_tests)
 
-  pub own_else : (a : ℕ) (n : Noted I) (ns : List (Noted I)) → n.deed.entry.actor ≢ a → own a (n ∷ ns) ≡ own a ns
+  pub own_else : (a : ℕ) (n : Noted I) (ns : List (Noted I)) → n.deed.entry.actor ≢ a → noted_by a (n ∷ ns) ≡ noted_by a ns
   own_else a n ns e = grind (arith, nat_tests)
 
   puts_above : (low b : ℕ) (n : Noted I) → low ≤ n.deed.entry.clock → AllByRecursion (λ (x : Stamped I). low ≤ x.stamp.0) (puts b n)
   puts_above low b n h = stamped_above low n.deed.entry.clock (items_for b n.deed.sent) h
 
   -- what is sent by notes from this clock on has stamps from this clock on
-  sent_above : (low a b : ℕ) (ns : List (Noted I)) → AllByRecursion (λ (n : Noted I). low ≤ n.deed.entry.clock) ns → AllByRecursion (λ (x : Stamped I). low ≤ x.stamp.0) (sent_to b (own a ns))
+  sent_above : (low a b : ℕ) (ns : List (Noted I)) → AllByRecursion (λ (n : Noted I). low ≤ n.deed.entry.clock) ns → AllByRecursion (λ (x : Stamped I). low ≤ x.stamp.0) (sent_to b (noted_by a ns))
   sent_above low a b [] h = tt
   sent_above low a b (n ∷ ns) h = elim (equal_or_not n.deed.entry.actor a) [
-    | inl e ↦ rw (own_here a n ns e) (all-append (λ (x : Stamped I). low ≤ x.stamp.0) (puts b n) (sent_to b (own a ns)) (puts_above low b n h.0) (sent_above low a b ns h.1))
+    | inl e ↦ rw (own_here a n ns e) (all-append (λ (x : Stamped I). low ≤ x.stamp.0) (puts b n) (sent_to b (noted_by a ns)) (puts_above low b n h.0) (sent_above low a b ns h.1))
     | inr ne ↦ rw (own_else a n ns ne) (sent_above low a b ns h.1)
   ]
 
-  later_rest : (a : ℕ) (n : Noted I) (ns : List (Noted I)) → AllByRecursion IsLater (own a (n ∷ ns)) → AllByRecursion IsLater (own a ns)
+  later_rest : (a : ℕ) (n : Noted I) (ns : List (Noted I)) → AllByRecursion IsLater (noted_by a (n ∷ ns)) → AllByRecursion IsLater (noted_by a ns)
   later_rest a n ns h = elim (equal_or_not n.deed.entry.actor a) [
-    | inl e ↦ (let k : AllByRecursion IsLater (n ∷ own a ns) = rw (own_here a n ns e) at h in k.1)
+    | inl e ↦ (let k : AllByRecursion IsLater (n ∷ noted_by a ns) = rw (own_here a n ns e) at h in k.1)
     | inr ne ↦ rw (own_else a n ns ne) at h
   ]
 
-  pub later_all : (ns : List (Noted I)) → ((a : ℕ) → AllByRecursion IsLater (own a ns)) → AllByRecursion IsLater ns
+  pub later_all : (ns : List (Noted I)) → ((a : ℕ) → AllByRecursion IsLater (noted_by a ns)) → AllByRecursion IsLater ns
   later_all [] h = tt
   later_all (n ∷ ns) h = ((rw (own_here n.deed.entry.actor n ns refl) at (h n.deed.entry.actor)).0, later_all ns (λ a. later_rest a n ns (h a)))
 
@@ -95,10 +88,10 @@ module _ {I : Type 0} where
   abbrev took_off : Noted I → ℕ → ℕ → List (Stamped I)
   took_off n a b = if b == n.deed.entry.actor then gets a n else []
 
-  sent_split : (a b : ℕ) (n : Noted I) (ns : List (Noted I)) → sent_to b (own a (n ∷ ns)) ≡ put_on n a b ++ sent_to b (own a ns)
+  sent_split : (a b : ℕ) (n : Noted I) (ns : List (Noted I)) → sent_to b (noted_by a (n ∷ ns)) ≡ put_on n a b ++ sent_to b (noted_by a ns)
   sent_split a b n ns = grind (arith, nat_tests)
 
-  taken_split : (a b : ℕ) (n : Noted I) (ns : List (Noted I)) → taken_from a (own b (n ∷ ns)) ≡ took_off n a b ++ taken_from a (own b ns)
+  taken_split : (a b : ℕ) (n : Noted I) (ns : List (Noted I)) → taken_from a (noted_by b (n ∷ ns)) ≡ took_off n a b ++ taken_from a (noted_by b ns)
   taken_split a b n ns = grind (arith, nat_tests)
 
   abbrev chans : (ℕ → ℕ → List (Stamped I)) → ℕ → ℕ → List I
@@ -144,16 +137,16 @@ module _ {I : Type 0} where
   some_head n f x e = grind (arith, nat_tests)
 
   take_off : (n : Noted I) (ns : List (Noted I)) (c d : ℕ → ℕ → List (Stamped I)) → AreSorted (entries_of (n ∷ ns)) → AllByRecursion IsLater (n ∷ ns)
-      → ((a b : ℕ) → c a b ++ sent_to b (own a (n ∷ ns)) ≡ taken_from a (own b (n ∷ ns)) ++ d a b) → TakenOff n c
+      → ((a b : ℕ) → c a b ++ sent_to b (noted_by a (n ∷ ns)) ≡ taken_from a (noted_by b (n ∷ ns)) ++ d a b) → TakenOff n c
   take_off n ns c d sorted later carries = by_case n.deed.taken refl
     where
       by_case : (t : Option (ℕ × I)) → n.deed.taken ≡ t → TakenOff n c
       by_case None e = taken_none n c e
       by_case (Some (f, x)) e =
           let me : ℕ = n.deed.entry.actor in
-          let h : (rest : List (Stamped I)) × (c f me ≡ record { stamp = record { 0 = n.stamp }; item = x } ∷ rest) = head_there (c f me) (d f me) (taken_from f (own me ns)) (sent_to me (own f (n ∷ ns))) (record { stamp = record { 0 = n.stamp }; item = x }) n.deed.entry.clock (later.0 (f, x) e)
+          let h : (rest : List (Stamped I)) × (c f me ≡ record { stamp = record { 0 = n.stamp }; item = x } ∷ rest) = head_there (c f me) (d f me) (taken_from f (noted_by me ns)) (sent_to me (noted_by f (n ∷ ns))) (record { stamp = record { 0 = n.stamp }; item = x }) n.deed.entry.clock (later.0 (f, x) e)
           (sent_above n.deed.entry.clock f me (n ∷ ns) (omega arith, low_all n ns sorted.0))
-          (carries f me ∙ ap (λ y. y ++ d f me) (taken_split f me n ns ∙ ap (λ y. y ++ taken_from f (own me ns)) (some_head n f x e))) in
+          (carries f me ∙ ap (λ y. y ++ d f me) (taken_split f me n ns ∙ ap (λ y. y ++ taken_from f (noted_by me ns)) (some_head n f x e))) in
           taken_some n c f x (h.0) e (h.1)
 
 module _ {P I : Type 0} (makes : Makes P I) where
@@ -178,22 +171,22 @@ module _ {P I : Type 0} (makes : Makes P I) where
     sends = λ a b. sends_at n t.left a b;
   }
 
-  replayed : (n : Noted I) (ns : List (Noted I)) (p q : ℕ → P) (m : P) (a : ℕ) → Replay makes n.deed.entry.actor m (deeds (own n.deed.entry.actor ns)) (q n.deed.entry.actor) → Replay makes a (p a) (deeds (own a (n ∷ ns))) (q a) → Replay makes a (at p n.deed.entry.actor m a) (deeds (own a ns)) (q a)
+  replayed : (n : Noted I) (ns : List (Noted I)) (p q : ℕ → P) (m : P) (a : ℕ) → Replay makes n.deed.entry.actor m (deeds (noted_by n.deed.entry.actor ns)) (q n.deed.entry.actor) → Replay makes a (p a) (deeds (noted_by a (n ∷ ns))) (q a) → Replay makes a (at p n.deed.entry.actor m a) (deeds (noted_by a ns)) (q a)
   replayed n ns p q m a mine other = elim (equal_or_not a n.deed.entry.actor) [
-    | inl e ↦ subst (λ x. Replay makes x (at p n.deed.entry.actor m x) (deeds (own x ns)) (q x)) (sym e) (rw (at-here p n.deed.entry.actor m) mine)
+    | inl e ↦ subst (λ x. Replay makes x (at p n.deed.entry.actor m x) (deeds (noted_by x ns)) (q x)) (sym e) (rw (at-here p n.deed.entry.actor m) mine)
     | inr ne ↦ rw (at-else p n.deed.entry.actor m a ne) (rw (own_else a n ns (λ e. ne (sym e))) at other)
   ]
 
-  carried_on : (n : Noted I) (ns : List (Noted I)) (c d : ℕ → ℕ → List (Stamped I)) (t : TakenOff n c) (a b : ℕ) → c a b ++ sent_to b (own a (n ∷ ns)) ≡ taken_from a (own b (n ∷ ns)) ++ d a b
-      → (t.left a b ++ put_on n a b) ++ sent_to b (own a ns) ≡ taken_from a (own b ns) ++ d a b
-  carried_on n ns c d t a b e = carried (took_off n a b) (t.left a b) (c a b) (put_on n a b) (sent_to b (own a ns)) (taken_from a (own b ns)) (d a b) (t.off a b)
+  carried_on : (n : Noted I) (ns : List (Noted I)) (c d : ℕ → ℕ → List (Stamped I)) (t : TakenOff n c) (a b : ℕ) → c a b ++ sent_to b (noted_by a (n ∷ ns)) ≡ taken_from a (noted_by b (n ∷ ns)) ++ d a b
+      → (t.left a b ++ put_on n a b) ++ sent_to b (noted_by a ns) ≡ taken_from a (noted_by b ns) ++ d a b
+  carried_on n ns c d t a b e = carried (took_off n a b) (t.left a b) (c a b) (put_on n a b) (sent_to b (noted_by a ns)) (taken_from a (noted_by b ns)) (d a b) (t.off a b)
       (ap (λ x. c a b ++ x) (sym (sent_split a b n ns)) ∙ e ∙ ap (λ x. x ++ d a b) (taken_split a b n ns))
 
   -- each note stands where its actor can make it
   pub ends : (ns : List (Noted I)) (w : World P I) (q : ℕ → P) (c d : ℕ → ℕ → List (Stamped I)) → AreSorted (entries_of ns) → AllByRecursion IsLater ns
       → ((a b : ℕ) → w.channel a b ≡ map (λ (x : Stamped I). x.item) (c a b))
-      → ((a : ℕ) → Replay makes a (w.part a) (deeds (own a ns)) (q a))
-      → ((a b : ℕ) → c a b ++ sent_to b (own a ns) ≡ taken_from a (own b ns) ++ d a b)
+      → ((a : ℕ) → Replay makes a (w.part a) (deeds (noted_by a ns)) (q a))
+      → ((a b : ℕ) → c a b ++ sent_to b (noted_by a ns) ≡ taken_from a (noted_by b ns) ++ d a b)
       → Ends w ns q d
   ends [] w q c d sorted later channels replays carries = record {
     last = w;
@@ -203,7 +196,7 @@ module _ {P I : Type 0} (makes : Makes P I) where
   }
   ends (n ∷ ns) w q c d sorted later channels replays carries =
       let me : ℕ = n.deed.entry.actor in
-      let mine : Replay makes me (w.part me) (deeds (n ∷ own me ns)) (q me) = rw (own_here me n ns refl) at (replays me) in
+      let mine : Replay makes me (w.part me) (deeds (n ∷ noted_by me ns)) (q me) = rw (own_here me n ns refl) at (replays me) in
       let t : TakenOff n c = take_off n ns c d sorted later carries in
       let o : Ends (next w n t.left (mine.0)) ns q d = ends ns (next w n t.left (mine.0)) q (λ a b. t.left a b ++ put_on n a b) d sorted.1 later.1 (λ a b. refl)
       (λ a. replayed n ns w.part q (mine.0) a (mine.2) (replays a)) (λ a b. carried_on n ns c d t a b (carries a b)) in
@@ -234,7 +227,7 @@ module _ {I : Type 0} where
   pub record Lift (j : ℕ → List (Noted I)) (es : List JournalEntry) : Type 0 where
     pub notes : List (Noted I)
     pub same : entries_of notes ≡ es
-    pub all : (a : ℕ) → own a notes ≡ j a
+    pub all : (a : ℕ) → noted_by a notes ≡ j a
 
   no_notes : (ns : List (Noted I)) → [] ≡ entries_of ns → [] ≡ ns
   no_notes [] h = refl
@@ -246,7 +239,7 @@ module _ {I : Type 0} where
     | inr ne ↦ sym (by_else a e es (λ s. ne (sym s))) ∙ other ∙ ap (λ xs. entries_of xs) (sym (at-else j e.actor rest a ne))
   ]
 
-  own_again : (a : ℕ) (n : Noted I) (rest ns : List (Noted I)) (j : ℕ → List (Noted I)) (e : JournalEntry) → n.deed.entry ≡ e → j e.actor ≡ n ∷ rest → own a ns ≡ at j e.actor rest a → own a (n ∷ ns) ≡ j a
+  own_again : (a : ℕ) (n : Noted I) (rest ns : List (Noted I)) (j : ℕ → List (Noted I)) (e : JournalEntry) → n.deed.entry ≡ e → j e.actor ≡ n ∷ rest → noted_by a ns ≡ at j e.actor rest a → noted_by a (n ∷ ns) ≡ j a
   own_again a n rest ns j e is head all = elim (equal_or_not a e.actor) [
     | inl s ↦ own_here a n ns (ap (λ (x : JournalEntry). x.actor) is ∙ sym s) ∙ ap (λ xs. n ∷ xs) (all ∙ ap (λ x. at j e.actor rest x) s ∙ at-here j e.actor rest) ∙ sym head ∙ ap j (sym s)
     | inr ne ↦ own_else a n ns (λ s. ne (sym s ∙ ap (λ (x : JournalEntry). x.actor) is)) ∙ all ∙ at-else j e.actor rest a ne
@@ -265,16 +258,3 @@ module _ {I : Type 0} where
     where
       both : {A : Type 0} {x y : A} {xs ys : List A} → x ≡ y → xs ≡ ys → x ∷ xs ≡ y ∷ ys
       both e f = cc
-
-  deeds_more : (k : ℕ) (n : Noted I) (ns : List (Noted I)) (t : Bool) → deeds_by k (deeds ns) ≡ deeds (own k ns) → (if t then n.deed ∷ deeds_by k (deeds ns) else deeds_by k (deeds ns)) ≡ deeds (if t then n ∷ own k ns else own k ns)
-  deeds_more k n ns true h = ap (λ xs. n.deed ∷ xs) h
-  deeds_more k n ns false h = h
-
-  -- the deeds of one actor are those of its notes
-  pub deeds_own : (k : ℕ) (ns : List (Noted I)) → deeds_by k (deeds ns) ≡ deeds (own k ns)
-  deeds_own k [] = refl
-  deeds_own k (n ∷ ns) = deeds_more k n ns (n.deed.entry.actor == k) (deeds_own k ns)
-
-  pub entries_deeds : (ns : List (Noted I)) → map (λ (d : Deed I). d.entry) (deeds ns) ≡ entries_of ns
-  entries_deeds [] = refl
-  entries_deeds (n ∷ ns) = ap (λ xs. n.deed.entry ∷ xs) (entries_deeds ns)

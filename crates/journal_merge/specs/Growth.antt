@@ -1,14 +1,28 @@
 -- What a net did between two moments at which all of it was in one thread, however many phases, levels and calls at a mark lie between.
-use Rattle.std.specs.Prelude.{ℕ, ◌≡◌, ◌≤◌, ◌<◌, ◌==◌, Bool, true, false, List, [], ◌++◌, length, map, filter, slice_index_or}
+use Rattle.std.specs.Prelude.{ℕ, ◌≡◌, ◌≤◌, ◌<◌, ◌==◌, true, false, List, [], ◌∷◌, ◌++◌, length, map, filter, slice_index_or}
 use Rattle.std.specs.List.{AllByRecursion}
 use Rattle.ring_net.specs.declared.entry.JournalEntry.{JournalEntry}
-use Rattle.ring_net.specs.Deeds.{Deed, Noted, Makes, Replay, IsOwn, IsLater, Rising, deeds, entries_of, sent_to, taken_from}
-use Rattle.ring_net.specs.Phases.{View}
+use Rattle.ring_net.specs.Deeds.{Noted, Makes, Replay, IsOwn, Clocked, deeds, entries_of, sent_to, taken_from}
+use Rattle.ring_net.specs.Phases.{View, IsGreatest}
 use Rattle.journal_merge.specs.Worlds.{World, Run}
 
 -- the events of one actor, in their order
-abbrev pub deeds_by : {I : Type 0} → ℕ → List (Deed I) → List (Deed I)
-deeds_by k ds = filter (λ d. d.entry.actor == k) ds
+abbrev pub noted_by : {I : Type 0} → ℕ → List (Noted I) → List (Noted I)
+noted_by k ns = filter (λ n. n.deed.entry.actor == k) ns
+
+module _ {I : Type 0} where
+  -- Up to a level, at this clock, the clocks of n actors are counted by their first events. It is the greatest of them. The rest of the events come after it.
+  pub record UpToLevel (n : ℕ) (before : ℕ → ℕ) (level : ℕ) (notes rest : ℕ → List (Noted I)) : Type 0 where
+    pub first : ℕ → List (Noted I)
+    pub after : ℕ → ℕ
+    pub split : (k : ℕ) → notes k ≡ first k ++ rest k
+    pub clocked : (k : ℕ) → k < n → Clocked (before k) (first k) (after k)
+    pub greatest : IsGreatest n after level
+
+  -- The clocks of n actors over their events: up to the first level, from there, where each clock is the level's, up to the next one, and so on.
+  abbrev pub ClockedOver : (n : ℕ) (before : ℕ → ℕ) (levels : List ℕ) (notes : ℕ → List (Noted I)) (after : ℕ → ℕ) → Type 0
+  ClockedOver n before [] notes after = (k : ℕ) → k < n → Clocked (before k) (notes k) (after k)
+  ClockedOver n before (level ∷ levels) notes after = (rest : ℕ → List (Noted I)) × UpToLevel n before level notes rest × ClockedOver n (λ k. level) levels rest after
 
 module _ {A P I : Type 0} (part : A → P) where
   -- the actors are the parts, and the channels of the edges have the items
@@ -17,27 +31,29 @@ module _ {A P I : Type 0} (part : A → P) where
     pub channels : (a b : ℕ) → v.edge a b ≡ true → w.channel a b ≡ map (λ x. x.item) (v.channel a b)
 
 module _ {A P I : Type 0} (part : A → P) (makes : Makes P I) where
-  -- Each actor is the replay of its events, which its journal has more; their clocks rise, above the stamps of what they
-  -- take; and what a channel held and was sent is what was taken from it and what it holds, in order.
-  pub record Grew (u v : View A I) (notes : ℕ → List (Noted I)) : Type 0 where
+  -- Each actor is the replay of its events, which its journal has more; their clocks are exact, with levels at these clocks
+  -- in between; and what a channel held and was sent is what was taken from it and what it holds, in order.
+  pub record Grew (u v : View A I) (levels : List ℕ) (notes : ℕ → List (Noted I)) : Type 0 where
     pub size : length v.actors ≡ length u.actors
     pub replays : (k : ℕ) (d : A) → k < length u.actors → Replay makes k (part (slice_index_or u.actors k d)) (deeds (notes k)) (part (slice_index_or v.actors k d))
     pub none : (k : ℕ) → length u.actors ≤ k → notes k ≡ []
     pub own : (k : ℕ) → AllByRecursion (IsOwn k) (deeds (notes k))
-    pub later : (k : ℕ) → AllByRecursion IsLater (notes k)
-    pub rising : (k : ℕ) → k < length u.actors → Rising (u.clock k) (deeds (notes k)) (v.clock k)
+    pub clocks : ClockedOver (length u.actors) u.clock levels notes v.clock
     pub journals : (k : ℕ) → v.journal k ≡ u.journal k ++ entries_of (notes k)
     pub edges : (a b : ℕ) → v.edge a b ≡ u.edge a b
     pub carries : (a b : ℕ) → u.edge a b ≡ true → u.channel a b ++ sent_to b (notes a) ≡ taken_from a (notes b) ++ v.channel a b
     pub apart : (a b : ℕ) → u.edge a b ≡ false → taken_from a (notes b) ≡ []
 
-  -- A run of events with these entries from a world to one of a view. Each actor's events are its own, in order. Where no
-  -- edge leads, the model's channel grows by what was sent there, which the net drops.
-  pub record RunsTo (w : World P I) (notes : ℕ → List (Noted I)) (entries : List JournalEntry) (edge : ℕ → ℕ → Bool) (v : View A I) : Type 0 where
-    pub events : List (Deed I)
-    pub same : map (λ d. d.entry) events ≡ entries
-    pub each : (k : ℕ) → deeds_by k events ≡ deeds (notes k)
+  -- A run of events with these entries, from a world of one view to one of another. Each actor's events are its own, in order,
+  -- and their clocks are exact: what an event takes from a channel has the clock of the event that sent it as its stamp. Where
+  -- no edge leads, the model's channel grows by what was sent there, which the net drops.
+  pub record RunsTo (u : View A I) (w : World P I) (levels : List ℕ) (notes : ℕ → List (Noted I)) (entries : List JournalEntry) (v : View A I) : Type 0 where
+    pub events : List (Noted I)
+    pub same : entries_of events ≡ entries
+    pub each : (k : ℕ) → noted_by k events ≡ notes k
+    pub clocks : ClockedOver (length u.actors) u.clock levels (λ k. noted_by k events) v.clock
+    pub stamps : (a b : ℕ) → u.edge a b ≡ true → u.channel a b ++ sent_to b (noted_by a events) ≡ taken_from a (noted_by b events) ++ v.channel a b
     pub last : World P I
-    pub run : Run makes w events last
+    pub run : Run makes w (deeds events) last
     pub is : IsWorldOf part v last
-    pub dropped : (a b : ℕ) → edge a b ≡ false → last.channel a b ≡ w.channel a b ++ map (λ x. x.item) (sent_to b (notes a))
+    pub dropped : (a b : ℕ) → u.edge a b ≡ false → last.channel a b ≡ w.channel a b ++ map (λ x. x.item) (sent_to b (noted_by a events))

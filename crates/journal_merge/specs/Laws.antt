@@ -1,7 +1,7 @@
 -- The laws of merged journals.
-use Rattle.std.specs.Prelude.{ℕ, ◌≡◌, ◌==◌, ◌<◌, if◌then◌else◌, ◌↔◌, Bool, List, [], ◌++◌, length, map, take, slice_index_or}
+use Rattle.std.specs.Prelude.{ℕ, ◌≡◌, ◌==◌, ◌<◌, if◌then◌else◌, ◌↔◌, Bool, List, [], ◌∷◌, ◌++◌, length, take, slice_index_or}
 use Rattle.ring_net.specs.declared.entry.JournalEntry.{JournalEntry}
-use Rattle.ring_net.specs.Deeds.{Deed, Noted, Makes, entries_of}
+use Rattle.ring_net.specs.Deeds.{Deed, Noted, Makes, noted, entries_of}
 use Rattle.ring_net.specs.Journals.{AreJournals}
 use Rattle.ring_net.specs.Phases.{View, Phase, Between, Levelled, AllAt, InOrder}
 use Rattle.journal_merge.specs.Merges.{IsMerged, Interleaves, upto, IsCut}
@@ -30,27 +30,27 @@ RunsJoin {P} {I} makes = (w m v : World P I) (ds es : List (Deed I)) → Run mak
 module _ {A P I : Type 0} (part : A → P) (makes : Makes P I) where
   -- from where all clocks are level on, the merge of what the journals get stands behind the merge of what they had
   abbrev pub CutsAtLevel : Type 0
-  CutsAtLevel = (u v : View A I) (notes : ℕ → List (Noted I)) (clock : ℕ) (merged : List JournalEntry) → InOrder u → AllAt u clock → Grew part makes u v notes
+  CutsAtLevel = (u v : View A I) (levels : List ℕ) (notes : ℕ → List (Noted I)) (clock : ℕ) (merged : List JournalEntry) → InOrder u → AllAt u clock → Grew part makes u v levels notes
       → Interleaves v.journal merged → IsCut u.journal (λ k. entries_of (notes k)) merged
 
   -- the merge of what the journals got is a run
   abbrev pub MergeRuns : Type 0
-  MergeRuns = (u v : View A I) (notes : ℕ → List (Noted I)) (merged : List JournalEntry) (w : World P I) → Grew part makes u v notes → Interleaves (λ k. entries_of (notes k)) merged
-      → IsWorldOf part u w → RunsTo part makes w notes merged u.edge v
+  MergeRuns = (u v : View A I) (levels : List ℕ) (notes : ℕ → List (Noted I)) (merged : List JournalEntry) (w : World P I) → Grew part makes u v levels notes → Interleaves (λ k. entries_of (notes k)) merged
+      → IsWorldOf part u w → RunsTo part makes u w levels notes merged v
 
   -- one piece after another
   abbrev pub GrowsOn : Type 0
-  GrowsOn = (u v t : View A I) (first second : ℕ → List (Noted I)) → Grew part makes u v first → Grew part makes v t second → Grew part makes u t (λ k. first k ++ second k)
+  GrowsOn = (u v t : View A I) (ls ms : List ℕ) (first second : ℕ → List (Noted I)) → Grew part makes u v ls first → Grew part makes v t ms second → Grew part makes u t (ls ++ ms) (λ k. first k ++ second k)
 
   abbrev pub LevelGrows : Type 0
-  LevelGrows = (u v : View A I) → Levelled u v → Grew part makes u v (λ k. [])
+  LevelGrows = (u v : View A I) (level : Levelled u v) → Grew part makes u v (level.clock ∷ []) (λ k. [])
 
   abbrev pub PhaseGrows : (took : A → ℕ → I → List (Deed I) → A → Type 0) (turned : A → List (Deed I) → A → Type 0) → Type 0
-  PhaseGrows took turned = (u v : View A I) (phase : Phase part makes took turned u v) → Grew part makes u v phase.notes
+  PhaseGrows took turned = (u v : View A I) (phase : Phase part makes took turned u v) → Grew part makes u v [] phase.notes
 
   -- the events at a mark take nothing, so their stamps are 0
   abbrev pub at_mark : ℕ → List (Deed I) → ℕ → List (Noted I)
-  at_mark k ds n = if n == k then map (λ d. record { deed = d; stamp = 0 }) ds else []
+  at_mark k ds n = if n == k then noted 0 ds else []
 
   abbrev pub BetweenGrows : (paused : A → List (Deed I) → A → Type 0) → Type 0
-  BetweenGrows paused = (u v : View A I) (k : ℕ) (answer : Bool) → k < length u.actors → (did : Between part makes paused k u v answer) → Grew part makes u v (at_mark k did.deeds)
+  BetweenGrows paused = (u v : View A I) (k : ℕ) (answer : Bool) → k < length u.actors → (did : Between part makes paused k u v answer) → Grew part makes u v (did.from ∷ did.to ∷ []) (at_mark k did.deeds)

@@ -1,5 +1,5 @@
 -- What the merge of journals is.
-use Rattle.std.specs.Prelude.{ℕ, ◌≡◌, ◌<◌, ◌-◌, ◌==◌, if◌then◌else◌, ◌⊎◌, Bool, List, [], ◌∷◌, ◌++◌, filter, flat_map, IsPermutation}
+use Rattle.std.specs.Prelude.{ℕ, ◌≡◌, ◌<◌, ◌-◌, ◌==◌, if◌then◌else◌, ◌⊎◌, Bool, false, List, [], ◌∷◌, ◌++◌, filter, flat_map, IsPermutation}
 use Rattle.std.specs.List.{AllByRecursion}
 use Rattle.std.specs.Ordering.{is_lt, nat_cmp, ordering_then}
 use Rattle.ring_net.specs.declared.entry.JournalEntry.{JournalEntry}
@@ -16,6 +16,15 @@ by_clock e f = is_lt (ordering_then (nat_cmp e.clock f.clock) (nat_cmp e.actor f
 abbrev pub AreSorted : List JournalEntry → Type 0
 AreSorted [] = Unit {0}
 AreSorted (e ∷ es) = AllByRecursion (IsBefore e) es × AreSorted es
+
+-- no entry stands behind one that it is before
+abbrev pub NoneBefore : List JournalEntry → Type 0
+NoneBefore [] = Unit {0}
+NoneBefore (e ∷ es) = AllByRecursion (λ f. by_clock f e ≡ false) es × NoneBefore es
+
+-- the same of each list
+abbrev pub AllOrdered : List (List JournalEntry) → Type 0
+AllOrdered runs = AllByRecursion NoneBefore runs
 
 -- The merge of journals: all their entries, each as often as there, by clock and actor.
 pub record IsMerged (journals : List (List JournalEntry)) (merged : List JournalEntry) : Type 0 where

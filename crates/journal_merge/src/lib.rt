@@ -9,6 +9,3 @@ pub use laws::{
     phases_grow, pieces_grow, runs_join, the_merge_is_a_run,
 };
 pub use merging::merge;
-
-#[cfg(test)]
-mod tests;

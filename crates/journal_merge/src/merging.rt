@@ -1,49 +1,69 @@
 //! The merge of journals.
 
-ghost use Rattle.std.specs.Prelude.{◌≡◌, [], flat_map, slice_index_or, IfOk};
+ghost use Rattle.std.specs.Prelude.{◌≡◌, ◌++◌, [], flat_map, slice_index_or, IfOk};
 ghost use Rattle.std.specs.Prelude.{IsPermutation};
-ghost use Rattle.std.specs.List.Sorted.{IsSortedBy};
-ghost use Rattle.journal_merge.specs.Merges.{IsMerged, Interleaves, by_clock};
+ghost use Rattle.journal_merge.specs.Merges.{IsMerged, Interleaves, NoneBefore, AllOrdered, by_clock};
 
 use graft_edge::{Items, NoMemory};
 use ring_net::{Journal, JournalEntry, Journals};
 use std::alloc::Global;
+use std::collections::VecDeque;
 
-/// How many entries there are. The count stands still at its type's end.
-fn total(journals: &[Journal]) -> usize {
-    let mut count = 0usize;
-    for journal in journals {
-        count = count.saturating_add(journal.len());
-    }
-    count
-}
-
-/// The entries of the journals, one journal after another. Each journal is dropped once it is there.
-fn join(alloc: Global, journals: Items<Journal>) -> Result<Vec<JournalEntry>, NoMemory>
-    ensures { IfOk result (λ entries. entries.items ≡ flat_map (λ journal. journal) journals) }
+/// Whether an entry stands before another: by clock, and at one clock by actor.
+fn is_before(first: &JournalEntry, second: &JournalEntry) -> bool
+    ensures { result ≡ by_clock first.now second.now }
 {
-    let mut entries = Vec::with_capacity(alloc, total(journals.as_slice()))?;
-    for journal in journals.into_vec() {
-        entries.extend_from_slice(journal.as_slice())?;
-    }
-    Ok(entries)
+    first.clock < second.clock || first.clock == second.clock && first.actor < second.actor
 }
 
-/// Sorts entries by clock, and at one clock by actor.
-fn sort(entries: &mut Vec<JournalEntry>)
-    ensures all { IsPermutation entries.old.items entries.new.items }
-    ensures order { IsSortedBy by_clock entries.new.items }
+/// The entries of two sorted lists as one sorted list.
+fn merge_two(
+    alloc: Global,
+    first: &[JournalEntry],
+    second: &[JournalEntry],
+) -> Result<Journal, NoMemory>
+    requires first { NoneBefore first.now }
+    requires second { NoneBefore second.now }
+    ensures all { IfOk result (IsPermutation (first.now ++ second.now)) }
+    ensures order { IfOk result NoneBefore }
 {
-    entries.sort_unstable_by_key(|entry| (entry.clock, entry.actor));
+    let mut merged = Vec::with_capacity(alloc, first.len().saturating_add(second.len()))?;
+    let mut i = 0;
+    let mut j = 0;
+    while i < first.len() && j < second.len() {
+        if is_before(&second[j], &first[i]) {
+            merged.push(second[j])?;
+            j += 1;
+        } else {
+            merged.push(first[i])?;
+            i += 1;
+        }
+    }
+    merged.extend_from_slice(&first[i..])?;
+    merged.extend_from_slice(&second[j..])?;
+    Ok(Items::from_vec(merged))
 }
 
-/// All entries by clock, and at one clock by actor. Beside the journals it holds the entries once more,
-/// and its time grows with their number times its logarithm.
+/// The entries of sorted lists as one sorted list. Two lists at a time are merged, in turn.
+fn merge_all(alloc: Global, mut runs: VecDeque<Journal>) -> Result<Journal, NoMemory>
+    requires { AllOrdered runs.items }
+    ensures all { IfOk result (IsPermutation (flat_map (λ run. run) runs.items)) }
+    ensures order { IfOk result NoneBefore }
+{
+    while let Some(first) = runs.pop_front() {
+        let Some(second) = runs.pop_front() else {
+            return Ok(first);
+        };
+        runs.push_back(merge_two(alloc, first.as_slice(), second.as_slice())?)?;
+    }
+    Ok(Items::new(alloc))
+}
+
+/// All entries by clock, and at one clock by actor. Its time grows with their number times the
+/// logarithm of the number of journals, and it holds at most all entries twice.
 pub fn merge(alloc: Global, journals: Journals) -> Result<Journal, NoMemory>
     ensures merged { IfOk result (IsMerged journals) }
     ensures each { IfOk result (Interleaves (λ k. slice_index_or journals k [])) }
 {
-    let mut entries = join(alloc, journals.into_items())?;
-    sort(&mut entries);
-    Ok(Items::from_vec(entries))
+    merge_all(alloc, VecDeque::from_vec(journals.into_items().into_vec()))
 }

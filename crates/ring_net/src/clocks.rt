@@ -1,6 +1,6 @@
 //! Clocks that are levelled, and what an actor does at a mark.
 
-ghost use Rattle.std.specs.Prelude.{◌≡◌, ◌≢◌, ◌≤◌, ◌<◌, ◌+◌, ℕ, length, map, slice_index_or, slice_set, OnOk, IfOk};
+ghost use Rattle.std.specs.Prelude.{◌≡◌, ◌≢◌, ◌≤◌, ◌<◌, ◌+◌, ℕ, List, length, map, slice_index_or, slice_set, OnOk, IfOk};
 ghost use Rattle.ring_net.specs.Posts.{clock_of, SameEdges, Pauses};
 ghost use Rattle.ring_net.specs.Cells.{with_clock};
 ghost use Rattle.ring_net.specs.Clocks.{LevelsAll, PausesAt, PausesCell, KeepsEnds};
@@ -51,31 +51,23 @@ fn pause_at<A: Actor>(cells: &mut [Cell<A>], k: usize) -> Result<bool, NoMemory>
 }
 
 /// Sets every clock of a net's cells to the greatest one.
-pub(crate) fn level_all<A: Actor>(cells: &mut [Cell<A>], edges: &[(u16, u16)])
-    requires some { 0 < length cells.old }
-    requires net { IsNet cells.old edges.now }
-    ensures net { IsNet cells.new edges.now }
-    ensures order { InOrder (view_of cells.old edges.now) → InOrder (view_of cells.new edges.now) }
-    ensures level { Levelled (view_of cells.old edges.now) (view_of cells.new edges.now) }
+pub(crate) fn level_all<A: Actor>(cells: &mut [Cell<A>])
+    requires { 0 < length cells.old }
+    ensures net { (edges : List (ℕ × ℕ)) → IsNet cells.old edges → IsNet cells.new edges }
+    ensures order { (edges : List (ℕ × ℕ)) → InOrder (view_of cells.old edges) → InOrder (view_of cells.new edges) }
+    ensures level { (edges : List (ℕ × ℕ)) → Levelled (view_of cells.old edges) (view_of cells.new edges) }
 {
-    let _edges = edges;
     level_clocks(cells);
 }
 
 /// Levels the clocks of a net's cells, lets the actor of this number do what it does at a mark, and
 /// levels the clocks again.
-pub(crate) fn pause_all<A: Actor>(
-    cells: &mut [Cell<A>],
-    edges: &[(u16, u16)],
-    k: usize,
-) -> Result<bool, NoMemory>
-    requires within { k < length cells.old }
-    requires net { IsNet cells.old edges.now }
-    ensures net { IsNet cells.new edges.now }
-    ensures order { OnOk result (InOrder (view_of cells.old edges.now) → InOrder (view_of cells.new edges.now)) }
-    ensures pauses { IfOk result (Between A.part A.makes A.paused k (view_of cells.old edges.now) (view_of cells.new edges.now)) }
+pub(crate) fn pause_all<A: Actor>(cells: &mut [Cell<A>], k: usize) -> Result<bool, NoMemory>
+    requires { k < length cells.old }
+    ensures net { (edges : List (ℕ × ℕ)) → IsNet cells.old edges → IsNet cells.new edges }
+    ensures order { OnOk result ((edges : List (ℕ × ℕ)) → IsNet cells.old edges → InOrder (view_of cells.old edges) → InOrder (view_of cells.new edges)) }
+    ensures pauses { IfOk result (λ answer. (edges : List (ℕ × ℕ)) → IsNet cells.old edges → Between A.part A.makes A.paused k (view_of cells.old edges) (view_of cells.new edges) answer) }
 {
-    let _edges = edges;
     let answer = pause_at(cells, k)?;
     Ok(answer)
 }

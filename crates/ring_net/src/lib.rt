@@ -22,6 +22,3 @@ pub use laws::{clocks_rise, two_phases_drain};
 pub use net::Net;
 pub use parts::{Actors, Journal, Journals, Left, Lefts, Mark, Marks, Parts};
 pub use post::Post;
-
-#[cfg(test)]
-mod tests;

@@ -15,15 +15,15 @@ use rtrb::Consumer;
 use std::alloc::Global;
 use std::collections::VecDeque;
 
-/// The length of each journal.
+/// The length of each journal. The list is made at its size.
 pub(crate) fn lengths<A: Actor>(alloc: Global, cells: &[Cell<A>]) -> Result<Mark, NoMemory>
     ensures { IfOk result (λ mark. mark ≡ map (λ c. length (entries_in c.post)) cells.now) }
 {
-    let mut mark = Items::new(alloc);
+    let mut mark = Vec::with_capacity(alloc, cells.len())?;
     for cell in cells {
         mark.push(cell.post.entries().len() as u64)?;
     }
-    Ok(mark)
+    Ok(Items::from_vec(mark))
 }
 
 /// How many entries there are. The count stands still at its type's end.

@@ -106,8 +106,9 @@ impl<A: Actor> Net<A> {
     ghost use Rattle.ring_net.specs.Left.{HasJournals, left_of};
 
     /// The net of these actors, numbered from 0, with an edge for each pair of a sender and a receiver.
-    /// Its memory grows with the square of the number of actors. The marks begin with one in which
-    /// every length is 0.
+    /// There is at least one actor and at most 65,536. Each edge joins two different actors of these,
+    /// and no edge stands twice. The net's memory grows with the square of the number of actors. The
+    /// marks begin with one in which every length is 0.
     pub fn build(alloc: Global, actors: Actors<A>, edges: &[(u16, u16)]) -> Result<Net<A>, NoMemory>
         requires count { (1 ≤ length actors) × (length actors ≤ 65536) }
         requires edges { AreEdges (length actors) edges.now }
@@ -127,11 +128,12 @@ impl<A: Actor> Net<A> {
         })
     }
 
-    /// Each actor takes what is in the rings that lead to it, at most 256 items of each, by rising
-    /// number of the sender, and then makes one turn, which may push into the rings that lead from it.
-    /// Chunks of as many actors as there are, over `workers`, rounded up, are handed to threads. The
-    /// gate is passed once at the start of each actor's part. Where memory is wanting, nothing more is
-    /// said of the actors, and every later phase answers it too.
+    /// Each actor takes what is in the rings that lead to it, at most 256 items from each, in ascending
+    /// order of the senders' numbers, and then makes one turn, which may push into the rings that lead
+    /// from it. There are 1 to 8 workers: each is a thread that owns a chunk of the actors, as many as
+    /// there are actors over workers, rounded up. The gate is passed once at the start of each actor's
+    /// part. If memory runs out, nothing more is said of the actors, and every later phase answers
+    /// `NoMemory` too.
     pub fn phase<R: Threads + Sync, G: Gate>(
         &mut self,
         rt: &R,
@@ -162,7 +164,7 @@ impl<A: Actor> Net<A> {
         turned
     }
 
-    /// Appends the length of each journal to the marks.
+    /// Appends the length of each journal to the marks. If memory runs out, the marks stay as they are.
     pub fn mark(&mut self) -> Result<(), NoMemory>
         ensures marks { OnOk result (Marked (view self.old) (marks self.old) (marks self.new)) }
         ensures err { OnErr result (marks self.new ≡ marks self.old) }
@@ -180,11 +182,11 @@ impl<A: Actor> Net<A> {
         ensures marks { marks self.new ≡ marks self.old }
         ensures same { (edge_list self.new ≡ edge_list self.old) × (has_failed self.new ≡ has_failed self.old) }
     {
-        level_all(self.cells.as_mut_slice(), self.edges.as_slice());
+        level_all(self.cells.as_mut_slice());
     }
 
-    /// Levels the clocks, lets the actor of this number do what it does at a mark, and levels the
-    /// clocks again. It answers whether the actor made an event.
+    /// Levels the clocks, lets the actor of number `k` do what it does at a mark, and levels the clocks
+    /// again. It answers whether the actor made an event. `k` is below the number of actors.
     pub fn between(&mut self, k: usize) -> Result<bool, NoMemory>
         requires { k < length (view self.old).actors }
         ensures between { IfOk result (Between A.part A.makes A.paused k (view self.old) (view self.new)) }
@@ -194,7 +196,7 @@ impl<A: Actor> Net<A> {
         ensures same { edge_list self.new ≡ edge_list self.old }
         ensures stays { OnOk result (has_failed self.new ≡ has_failed self.old) }
     {
-        match pause_all(self.cells.as_mut_slice(), self.edges.as_slice(), k) {
+        match pause_all(self.cells.as_mut_slice(), k) {
             Ok(answer) => Ok(answer),
             Err(NoMemory) => {
                 self.has_failed = true;
@@ -217,7 +219,7 @@ impl<A: Actor> Net<A> {
         entry_count(self.cells.as_slice())
     }
 
-    /// The actor of this number.
+    /// The actor of number `k`, which is below the number of actors.
     pub fn actor(&self, k: usize) -> &A
         requires { k < length (view self.now).actors }
         ensures { slice_get (view self.now).actors k ≡ Some result.now }
@@ -226,8 +228,8 @@ impl<A: Actor> Net<A> {
     }
 
     /// What the net leaves: the actors, their journals and the marks, and for each edge the items that
-    /// are left in its channel, those of the ring first. A net that has failed answers want of memory.
-    /// After want of memory the net is gone.
+    /// are left in its channel, those of the ring first. A net that has failed answers `NoMemory`. If
+    /// memory runs out, the net is gone.
     pub fn finish(self) -> Result<Parts<A>, NoMemory>
         ensures actors { IfOk result (λ parts. parts.actors ≡ (view self).actors) }
         ensures journals { IfOk result (λ parts. HasJournals (view self) parts.journals) }

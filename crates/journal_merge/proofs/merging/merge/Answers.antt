@@ -1,20 +1,27 @@
-use Rattle.std.proofs.Common.{◌≡◌, ◌∙◌, List, ap, flat_map, subst, sym}
-use Rattle.std.specs.Prelude.{IsPermutation}
+use Rattle.std.proofs.Common.{◌≡◌, ◌∙◌, List, Result, Ok, Err, sym, subst}
+use Rattle.std.specs.Prelude.{IfOk, IsPermutation, slice_index_or, []}
 use Rattle.ring_net.specs.declared.entry.JournalEntry.{JournalEntry}
-use Rattle.journal_merge.specs.Merges.{IsMerged}
-use Rattle.journal_merge.proofs.Joined.{is_merged, merged_each}
+use Rattle.journal_merge.specs.Merges.{AllOrdered, IsMerged, Interleaves, NoneBefore}
+use Rattle.journal_merge.proofs.Joined.{joined, is_merged, merged_each}
+use Rattle.journal_merge.proofs.TwoRuns.{journals_ordered}
 use Rattle.journal_merge.proofs.merging.merge.Goals as goal
-use Rattle.journal_merge.proofs.merging.merge.Goals.{After-from_vec}
+use Rattle.journal_merge.proofs.merging.merge.Goals.{After-merge_all, After-from_vec}
 
-joined : (c : After-from_vec) → c.in_ok-entries.entries.items ≡ flat_map (λ (entries : List JournalEntry). entries) c.args.journals
-joined c = c.in_ok-entries.ensures ∙ ap (λ (journals : List (List JournalEntry)). flat_map (λ entries. entries) journals) c.into_items.ensures.value
+both : {T E : Type 0} (P Q R : T → Type 0) (r : Result T E) → ((x : T) → P x → Q x → R x) → IfOk r P → IfOk r Q → IfOk r R
+both P Q R (Ok x) f p q = f x p q
+both P Q R (Err e) f p q = tt
 
-merged : (c : After-from_vec) → IsMerged c.args.journals c.from_vec.result
-merged c = subst (λ es. IsMerged c.args.journals es) (sym c.from_vec.ensures)
-    (is_merged c.args.journals c.sort.new.entries.items c.into_items.ensures.journals (subst (λ es. IsPermutation es c.sort.new.entries.items) (joined c) c.sort.ensures.all) c.sort.ensures.order)
+pub merge_all-requires : goal.merge_all-requires
+merge_all-requires c = subst (λ zs. AllOrdered zs) (sym (c.from_vec.ensures.items ∙ c.into_vec.ensures ∙ c.into_items.ensures.value)) (journals_ordered c.args.journals c.into_items.ensures.journals)
+
+merged : (c : After-merge_all) → IfOk c.merge_all.result (IsMerged c.args.journals)
+merged c = both (IsPermutation (joined c.from_vec.result.items)) NoneBefore (IsMerged c.args.journals) c.merge_all.result
+    (λ es all order. is_merged c.args.journals es c.into_items.ensures.journals (subst (λ zs. IsPermutation (joined zs) es) (c.from_vec.ensures.items ∙ c.into_vec.ensures ∙ c.into_items.ensures.value) all) order)
+    c.merge_all.ensures.all c.merge_all.ensures.order
 
 pub returns-clause-merged : goal.returns-clause-merged
 returns-clause-merged c = merged c
 
 pub returns-clause-each : goal.returns-clause-each
-returns-clause-each c = merged_each c.args.journals c.from_vec.result c.into_items.ensures.journals (merged c)
+returns-clause-each c = both (IsMerged c.args.journals) (IsMerged c.args.journals) (Interleaves (λ k. slice_index_or c.args.journals k [])) c.merge_all.result
+    (λ es h _. merged_each c.args.journals es c.into_items.ensures.journals h) (merged c) (merged c)

@@ -5,4 +5,4 @@ use Rattle.ring_net.proofs.looks.lengths.Given as goal
 
 -- the lengths so far
 abbrev pub invariant-loop-cell : goal.invariant-loop-cell
-invariant-loop-cell g l = l.mark ≡ map (λ (c : Cell _ _). length (entries_in c.post)) (take l.cell-index l.cells)
+invariant-loop-cell g l = l.mark.items ≡ map (λ (c : Cell _ _). length (entries_in c.post)) (take l.cell-index l.cells)
