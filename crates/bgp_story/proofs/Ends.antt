@@ -17,7 +17,7 @@ use Rattle.bgp_story.specs.Laws.{HasCause}
 use Rattle.bgp_story.specs.Legal.{Peering, Allowed, opened, got, updated, passed, IsGot, reply_to, reply_at, hold_expired, is_up, expected_next, hold, silence}
 use Rattle.bgp_story.specs.States.{is_type, with_keepalive_got, after_got, after, state_of, Begins}
 use Rattle.bgp_story.proofs.HeaderKinds.{read_of, read_type, notice_sound}
-use Rattle.bgp_story.proofs.Splits.{Cut, behind, ahead, cut_of}
+use Rattle.bgp_story.proofs.Splits.{Cut, behind, ahead, cut_of, some_left}
 use Rattle.bgp_story.proofs.StoryLaws.{after_is, state_is}
 
 -- a step has one answer at most, and is not closed before its answer
@@ -64,10 +64,6 @@ passed_short : (h c round : ℕ) (state : SessionState) (answer : List Line) (ne
 passed_short h c round state answer next up r = of_reply state (Tick round) _ answer next r (round_brief (eqb c h) (eqb (round % (h / 3)) 0) state round (up_open state up))
 
 -- ---- nothing follows Closed
-
-some_left : (mid : List Line) (y : Line) (ys : List Line) → ◌≡◌ {A = List Line} [] (mid ++ y ∷ ys) → ⊥
-some_left [] y ys e = cc
-some_left (m ∷ mid) y ys e = cc
 
 answered : (state : SessionState) (line : Line) (answer : List Line) (m y : Line) (ys : List Line) → Brief state line answer → line ∷ answer ≡ m ∷ y ∷ ys → after state m ≢ Closed
 answered state line _ m y ys no_answer g = absurd cc

@@ -19,3 +19,8 @@ cut_of (x ∷ xs) ys (y ∷ before) step e = cut_more x y xs ys before step (cc)
 pub all_append : {A : Type 0} (P : A → Type 0) (xs ys : List A) → AllByRecursion P xs → AllByRecursion P ys → AllByRecursion P (xs ++ ys)
 all_append P [] ys f g = g
 all_append P (x ∷ xs) ys f g = (f.0, all_append P xs ys f.1 g)
+
+-- a list with something in it isn't empty
+pub some_left : {A : Type 0} (mid : List A) (y : A) (ys : List A) → ◌≡◌ {A = List A} [] (mid ++ y ∷ ys) → ⊥
+some_left [] y ys e = cc
+some_left (m ∷ mid) y ys e = cc

@@ -24,7 +24,7 @@ use Rattle.bgp_story.specs.Readings.{Routes, IsLegal, ChangesTold, announce, app
 use Rattle.bgp_story.specs.States.{state_of, after}
 use Rattle.bgp_story.proofs.Grows.{PutsNoUpdate, answer_no_update, told_grows}
 use Rattle.bgp_story.proofs.Shapes.{IsAnswer, all_weaken, got_answers, passed_answers, allowed_of}
-use Rattle.bgp_story.proofs.Splits.{Cut, behind, ahead, cut_of}
+use Rattle.bgp_story.proofs.Splits.{Cut, behind, ahead, cut_of, some_left}
 use Rattle.bgp_story.proofs.StoryLaws.{state_is}
 use Rattle.std.proofs.lemmas.List.Sums.{fold-append}
 
@@ -53,17 +53,13 @@ other_step p u xs ys before step none ih e = by_cut (cut_of xs (Put (UpdateMsg u
 this_update : (p : Peering) (u v : Update) (xs before : List Line) → before ≡ xs → v ≡ u → PutUpdate p before v → PutUpdate p xs u
 this_update p u v xs before e f k = subst (λ (x : List Line). PutUpdate p x u) e (subst (PutUpdate p before) f k)
 
-not_empty : (mid : List Line) (y : Line) (ys : List Line) → ◌≡◌ {A = List Line} [] (mid ++ y ∷ ys) → ⊥
-not_empty [] y ys e = cc
-not_empty (m ∷ mid) y ys e = cc
-
 update_step : (p : Peering) (u v : Update) (xs ys before : List Line) → PutUpdate p before v
     → ((xs' ys' : List Line) → before ≡ xs' ++ Put (UpdateMsg u) ∷ ys' → PutUpdate p xs' u)
     → xs ++ Put (UpdateMsg u) ∷ ys ≡ before ++ Put (UpdateMsg v) ∷ [] → PutUpdate p xs u
 update_step p u v xs ys before k ih e = by_cut (cut_of xs (Put (UpdateMsg u) ∷ ys) before (Put (UpdateMsg v) ∷ []) e) where
   by_cut : Cut xs (Put (UpdateMsg u) ∷ ys) before (Put (UpdateMsg v) ∷ []) → PutUpdate p xs u
   by_cut (behind [] f g) = let same : v ≡ u = cc in this_update p u v xs before (sym (append-nil before) ∙ sym f) same k
-  by_cut (behind (m ∷ mid) f g) = let h : ◌≡◌ {A = List Line} [] (mid ++ Put (UpdateMsg u) ∷ ys) = cc in absurd (not_empty mid _ ys h)
+  by_cut (behind (m ∷ mid) f g) = let h : ◌≡◌ {A = List Line} [] (mid ++ Put (UpdateMsg u) ∷ ys) = cc in absurd (some_left mid _ ys h)
   by_cut (ahead [] f g) = let same : v ≡ u = cc in this_update p u v xs before (f ∙ append-nil xs) same k
   by_cut (ahead (m ∷ mid) f g) = let same : m ≡ Put (UpdateMsg u) = cc in ih xs mid (f ∙ ap (λ (x : Line). xs ++ x ∷ mid) same)
 

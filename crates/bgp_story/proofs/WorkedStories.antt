@@ -6,7 +6,6 @@ use Rattle.std.specs.Ordering.{eq_by_cmp}
 use Rattle.std.specs.FinMap as map
 use Rattle.std.proofs.lemmas.List.Elements.{All-from_recursion, All-cons, All-nil}
 use Rattle.bgp_types.specs.declared.attrs.Attrs.{Attrs}
-use Rattle.bgp_types.specs.declared.attrs.Origin.TheVariants as origins
 use Rattle.bgp_types.specs.declared.message.Message.TheVariants.{OpenMsg, NoticeMsg, KeepaliveMsg}
 use Rattle.bgp_types.specs.declared.message.SessionState.{SessionState}
 use Rattle.bgp_types.specs.declared.message.SessionState.TheVariants.{OpenSent, OpenConfirm, Established, Closed}
@@ -29,9 +28,9 @@ use Rattle.bgp_types.specs.Writable.{IsPart, IsOther, IsWritableAttrs, IsWritabl
 use Rattle.bgp_types.proofs.TableLaws.{prefix_total}
 use Rattle.bgp_story.specs.declared.line.Line.{Line}
 use Rattle.bgp_story.specs.declared.line.Line.TheVariants.{Put, Got, Tick}
-use Rattle.bgp_story.specs.Legal.{IsPeering, IsOneWay, opened, got, updated, passed, IsEarlier, hold_expired}
+use Rattle.bgp_story.specs.Legal.{IsPeering, IsOneWay, opened, got, updated, passed, IsEarlier, hold_expired, hold, is_wide}
 use Rattle.bgp_story.specs.Readings.{Routes, IsLegal, put_bytes, apply, told, heard}
-use Rattle.bgp_story.specs.WorkedSessions.{worked_peering, open_bytes, keepalive_bytes, update_bytes, cease_bytes, sent_lines, confirmed_lines, joined_lines, heard_lines, ten, attrs_over, announcement_over, withdrawal, told_lines, withdrawn_lines, expired_lines, wide_home, wide_peering, wide_open_bytes, wide_lines, wide_put_bytes}
+use Rattle.bgp_story.specs.WorkedSessions.{worked_peering, open_bytes, keepalive_bytes, update_bytes, cease_bytes, sent_lines, confirmed_lines, joined_lines, heard_lines, ten, attrs_over, announcement_over, withdrawal, told_lines, withdrawn_lines, expired_lines, wide_home, wide_peering, wide_open_bytes, wide_lines, wide_put_bytes, heard_attrs, beaten_lines, offering_peering, offering_lines}
 use Rattle.bgp_story.specs.States.{Begins}
 use Rattle.bgp_story.proofs.Shapes.{allowed_of}
 
@@ -64,7 +63,7 @@ unfolding message_of header_fault frame_at body_of open_of update_of fields_of p
 heard_all hold is = got (joined_lines hold) Established update_bytes [] Established (heard_lines hold) (joined hold is) not_established (inl refl) refl refl
 
 -- what was heard
-pub heard_routes : (hold : ℕ) → heard (worked_peering hold) (heard_lines hold) ≡ map.insert map.empty (record { address = 0x0A000000; len = 8 }) (record { origin = origins.Igp; path = parts.Sequence (65001 ∷ []) ∷ []; next_hop = 0xC0000201; med = None; atomic = false; aggregator = None; unknown = [] })
+pub heard_routes : (hold : ℕ) → heard (worked_peering hold) (heard_lines hold) ≡ map.insert map.empty ten heard_attrs
 unfolding message_of header_fault frame_at body_of open_of update_of fields_of prefixes_of prefix_at many many_within attrs_in attrs_fault own_fault origin_in path_in next_hop_in med_in atomic_in aggregator_in other_in found_in all_known part_at attr_at cap_at caps_of params_of merged_path
 heard_routes hold = refl
 
@@ -85,9 +84,9 @@ wide_is = record {
 -- ---- rounds
 
 -- with hold time 90, a KEEPALIVE is put in round 30
-pub beaten : IsLegal (worked_peering 90) (confirmed_lines 90 ++ Tick 30 ∷ Put KeepaliveMsg ∷ []) OpenConfirm
+pub beaten : IsLegal (worked_peering 90) beaten_lines OpenConfirm
 unfolding message_of header_fault frame_at body_of open_of many many_within cap_at caps_of params_of
-beaten = passed (confirmed_lines 90) OpenConfirm 30 (Put KeepaliveMsg ∷ []) OpenConfirm (confirmed_lines 90 ++ Tick 30 ∷ Put KeepaliveMsg ∷ []) (confirmed 90 (peering_is 90 (lit< tt) refl)) refl (lit< tt) (All-from_recursion (IsEarlier 30) (confirmed_lines 90) (tt, (tt, (tt, tt)))) refl refl
+beaten = passed (confirmed_lines 90) OpenConfirm 30 (Put KeepaliveMsg ∷ []) OpenConfirm beaten_lines (confirmed 90 (peering_is 90 (lit< tt) refl)) refl (lit< tt) (All-from_recursion (IsEarlier 30) (confirmed_lines 90) (tt, (tt, (tt, tt)))) refl refl
 
 one_round : List Line
 one_round = confirmed_lines 3 ++ Tick 1 ∷ Put KeepaliveMsg ∷ []
@@ -189,6 +188,20 @@ pub wide_puts : put_bytes wide_peering wide_lines ≡ wide_put_bytes
 unfolding message_of header_fault frame_at body_of open_of many many_within cap_at caps_of params_of spell spell_attrs attrs_written path_octets
 wide_puts = refl
 
+-- ---- what both OPENs say
+
+pub lesser_hold : hold (worked_peering 240) (confirmed_lines 240) ≡ 180
+unfolding message_of header_fault frame_at body_of open_of many many_within cap_at caps_of params_of
+lesser_hold = refl
+
+pub stays_narrow : is_wide offering_peering offering_lines ≡ false
+unfolding message_of header_fault frame_at body_of open_of many many_within cap_at caps_of params_of
+stays_narrow = refl
+
+pub offered_in_vain : IsLegal offering_peering offering_lines OpenConfirm
+unfolding message_of header_fault frame_at body_of open_of many many_within cap_at caps_of params_of
+offered_in_vain = got (Put (OpenMsg wide_home) ∷ []) OpenSent open_bytes (Put KeepaliveMsg ∷ []) OpenConfirm offering_lines (opened _ (record { home = wide_is.home; remote_as = record { some = lit≤ tt; fits = lit< tt } }) refl) not_sent (inl refl) refl refl
+
 -- ---- what was told
 
 pub told_routes : told (told_lines 0) ≡ one_route (attrs_over (65000 ∷ []))
@@ -231,4 +244,4 @@ pub may_tick : Begins 65001 (confirmed_lines 90 ++ Tick 30 ∷ [])
 may_tick = begins 90 (confirmed_lines 90 ++ Tick 30 ∷ []) (Put KeepaliveMsg ∷ []) OpenConfirm beaten
 
 pub may_beat : Begins 65001 (confirmed_lines 90 ++ Tick 30 ∷ Put KeepaliveMsg ∷ [])
-may_beat = begins 90 (confirmed_lines 90 ++ Tick 30 ∷ Put KeepaliveMsg ∷ []) [] OpenConfirm beaten
+may_beat = begins 90 beaten_lines [] OpenConfirm beaten

@@ -47,6 +47,10 @@ joined_lines hold = Put (OpenMsg (home hold)) ∷ Got open_bytes ∷ Put Keepali
 abbrev pub heard_lines : ℕ → List Line
 heard_lines hold = Put (OpenMsg (home hold)) ∷ Got open_bytes ∷ Put KeepaliveMsg ∷ Got keepalive_bytes ∷ Got update_bytes ∷ []
 
+-- the attributes that are heard with 10.0.0.0/8
+abbrev pub heard_attrs : Attrs
+heard_attrs = record { origin = Igp; path = Sequence (65001 ∷ []) ∷ []; next_hop = 0xC0000201; med = None; atomic = false; aggregator = None; unknown = [] }
+
 -- ---- routes that home tells
 
 -- 10.0.0.0/8
@@ -69,6 +73,11 @@ told_lines hold = joined_lines hold ++ Put (UpdateMsg (announcement_over (65000 
 
 abbrev pub withdrawn_lines : ℕ → List Line
 withdrawn_lines hold = told_lines hold ++ Put (UpdateMsg withdrawal) ∷ []
+
+-- ---- with hold time 90, a KEEPALIVE is put in round 30
+
+abbrev pub beaten_lines : List Line
+beaten_lines = confirmed_lines 90 ++ Tick 30 ∷ Put KeepaliveMsg ∷ []
 
 -- ---- a hold time of 3 seconds that runs out: a KEEPALIVE in rounds 1 and 2, and then the NOTIFICATION 4/0
 
@@ -96,3 +105,10 @@ abbrev pub wide_put_bytes : List ℕ
 wide_put_bytes = framed 1 (0x04 ∷ 0x5B ∷ 0xA0 ∷ 0x00 ∷ 0x00 ∷ 0x0A ∷ 0xFF ∷ 0x00 ∷ 0x01 ∷ 0x08 ∷ 0x02 ∷ 0x06 ∷ 0x41 ∷ 0x04 ∷ 0xFA ∷ 0x56 ∷ 0xEA ∷ 0x00 ∷ [])
     ++ keepalive_bytes
     ++ framed 2 (0x00 ∷ 0x00 ∷ 0x00 ∷ 0x14 ∷ 0x40 ∷ 0x01 ∷ 0x01 ∷ 0x00 ∷ 0x40 ∷ 0x02 ∷ 0x06 ∷ 0x02 ∷ 0x01 ∷ 0xFA ∷ 0x56 ∷ 0xEA ∷ 0x00 ∷ 0x40 ∷ 0x03 ∷ 0x04 ∷ 0xC0 ∷ 0x00 ∷ 0x02 ∷ 0x02 ∷ 0x08 ∷ 0x0A ∷ [])
+
+-- Home alone offers AS numbers of four octets, to the remote of AS 65001.
+abbrev pub offering_peering : Peering
+offering_peering = record { first = wide_home; remote_as = 65001 }
+
+abbrev pub offering_lines : List Line
+offering_lines = Put (OpenMsg wide_home) ∷ Got open_bytes ∷ Put KeepaliveMsg ∷ []

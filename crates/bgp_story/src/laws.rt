@@ -1,12 +1,12 @@
 //! What holds of legal stories.
 
-ghost use Rattle.std.specs.Prelude.{◌≡◌, ◌≢◌, ℕ, ◌*◌, ◌^◌, ◌<◌, ◌≤◌, ◌⊎◌, List, [], ◌∷◌, ◌++◌, Contains, Some, None, IsSome, true, fold};
+ghost use Rattle.std.specs.Prelude.{◌≡◌, ◌≢◌, ℕ, ◌*◌, ◌^◌, ◌<◌, ◌≤◌, ◌⊎◌, List, [], ◌∷◌, ◌++◌, Contains, Some, None, IsSome, true, false, fold};
 ghost use Rattle.std.specs.FinMap as map;
 ghost use Rattle.std.specs.List.{AllByRecursion, flat_map};
 ghost use Rattle.bgp_types.specs.declared.message.Message.TheVariants.{NoticeMsg, UpdateMsg};
 ghost use Rattle.bgp_types.specs.declared.message.Notice.{Notice};
 ghost use Rattle.bgp_types.specs.declared.message.SessionState.{SessionState};
-ghost use Rattle.bgp_types.specs.declared.message.SessionState.TheVariants.{Closed, Established};
+ghost use Rattle.bgp_types.specs.declared.message.SessionState.TheVariants.{Closed, OpenConfirm, Established};
 ghost use Rattle.bgp_types.specs.declared.message.Update.{Update};
 ghost use Rattle.bgp_types.specs.OpenBody.{as_said};
 ghost use Rattle.bgp_types.specs.PathOctets.{narrow_as};
@@ -104,15 +104,22 @@ pub fn tables_grow()
     ensures none_heard { (p : Peering) (lines : List Line) → state_of lines ≡ Closed → heard p lines ≡ map.empty }
 {}
 
-/// Worked stories are legal: a route is heard, a route is told and withdrawn, a hold time of 3 seconds
-/// runs out, and a session has AS numbers of four octets.
+/// Worked stories are legal: a route is heard, a route is told and withdrawn, a KEEPALIVE is put at a third
+/// of the hold time, a hold time of 3 seconds runs out, and a session has AS numbers of four octets. The
+/// hold time is the smaller one that the OPENs say, and AS numbers have two octets where home alone
+/// offers four (RFC 4271, sections 4.2, 4.4 and 6.5; RFC 6793, section 4.1).
 pub fn worked_stories_are_legal()
     ensures heard { IsLegal (worked.worked_peering 0) (worked.heard_lines 0) Established }
+    ensures heard_routes { heard (worked.worked_peering 0) (worked.heard_lines 0) ≡ map.insert map.empty worked.ten worked.heard_attrs }
     ensures told { IsLegal (worked.worked_peering 0) (worked.told_lines 0) Established }
     ensures told_routes { told (worked.told_lines 0) ≡ map.insert map.empty worked.ten (worked.attrs_over (65000 ∷ [])) }
     ensures withdrawn { IsLegal (worked.worked_peering 0) (worked.withdrawn_lines 0) Established }
     ensures none_told { (prefix : PrefixValue) → map.get (told (worked.withdrawn_lines 0)) prefix ≡ None }
+    ensures beaten { IsLegal (worked.worked_peering 90) worked.beaten_lines OpenConfirm }
     ensures expired { IsLegal (worked.worked_peering 3) worked.expired_lines Closed }
     ensures wide { IsLegal worked.wide_peering worked.wide_lines Established }
     ensures wide_octets { put_bytes worked.wide_peering worked.wide_lines ≡ worked.wide_put_bytes }
+    ensures offered { IsLegal worked.offering_peering worked.offering_lines OpenConfirm }
+    ensures narrow { is_wide worked.offering_peering worked.offering_lines ≡ false }
+    ensures hold { hold (worked.worked_peering 240) (worked.confirmed_lines 240) ≡ 180 }
 {}

@@ -112,7 +112,7 @@ impl Story {
         ensures back { IfErr result (λ back. back ≡ bytes) }
         ensures err { OnErr result (self.new ≡ self.old) }
     {
-        let state = after_got(self.state, bytes.as_slice());
+        let state = after_got(self.state, &bytes);
         match add(&mut self.lines, Line::Got(bytes)) {
             Ok(()) => {
                 self.state = state;
@@ -148,7 +148,7 @@ impl Story {
         ensures lines { result.now ≡ self.now.lines }
         ensures legal { Begins self.now.remote_as self.now.lines }
     {
-        self.lines.as_slice()
+        &self.lines
     }
 
     /// The AS of the remote.
