@@ -62,12 +62,26 @@ module _ {T : Type 0} where
       → ((k : ℕ) → k < place → get_or ps k 0 < peer) → place ≤ length ps → (place < length ps → peer < get_or ps place 0) → ListsFrom xs n ps → ListsFrom ys n (insert ps place peer)
   lists_insert xs ys n [] zero peer len in_ys low f below within rest h = (low, (in_ys, (λ k l m. f k (omega (arith, m)) (h k l), λ k l. f k (omega (arith, l)) (h k (omega (arith, l, low))))))
   lists_insert xs ys n [] (suc j) peer len in_ys low f below within rest h = absurd (omega arith)
-  lists_insert xs ys n (p ∷ ps) zero peer len in_ys low f below within rest h = let over : peer < p = rest (omega arith) in
-      (low, (in_ys, (λ k l m. f k (omega (arith, m)) (h.1.1.0 k l (omega (arith, m, over))),
-        (omega (arith, over), (omega (arith, h.1.0, len), (λ k l m. f k (omega (arith, l)) (h.1.1.0 k (omega (arith, l, low)) m), lists_kept xs ys (p + 1) ps len (λ k l. f k (omega (arith, l, over))) h.1.1.1))))))
-  lists_insert xs ys n (p ∷ ps) (suc j) peer len in_ys low f below within rest h = let first : p < peer = below 0 (omega arith) in
-      (h.0, (omega (arith, h.1.0, len), (λ k l m. f k (omega (arith, m, first)) (h.1.1.0 k l m),
-        lists_insert xs ys (p + 1) ps j peer len in_ys (omega (arith, first)) f (λ k l. below (suc k) (omega arith)) (omega (arith, within)) (λ l. rest (omega arith)) h.1.1.1)))
+  lists_insert xs ys n (p ∷ ps) zero peer len in_ys low f below within rest h = let over : peer < p = rest (omega arith) in (
+    low,
+    (
+      in_ys,
+      (
+        λ k l m. f k (omega (arith, m)) (h.1.1.0 k l (omega (arith, m, over))),
+        (omega (arith, over), (omega (arith, h.1.0, len), (λ k l m. f k (omega (arith, l)) (h.1.1.0 k (omega (arith, l, low)) m), lists_kept xs ys (p + 1) ps len (λ k l. f k (omega (arith, l, over))) h.1.1.1))),
+      ),
+    ),
+  )
+  lists_insert xs ys n (p ∷ ps) (suc j) peer len in_ys low f below within rest h = let first : p < peer = below 0 (omega arith) in (
+    h.0,
+    (
+      omega (arith, h.1.0, len),
+      (
+        λ k l m. f k (omega (arith, m, first)) (h.1.1.0 k l m),
+        lists_insert xs ys (p + 1) ps j peer len in_ys (omega (arith, first)) f (λ k l. below (suc k) (omega arith)) (omega (arith, within)) (λ l. rest (omega arith)) h.1.1.1,
+      ),
+    ),
+  )
 
   lists_low : (xs : List (Option T)) (n : ℕ) (ps : List ℕ) (j : ℕ) → j < length ps → ListsFrom xs n ps → n ≤ get_or ps j 0
   lists_low xs n [] j l h = absurd (omega arith)

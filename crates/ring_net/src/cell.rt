@@ -201,12 +201,7 @@ fn act<A: Actor>(
     ensures edges { SameEdges post.old post.new }
     ensures acts { OnOk result (Acts A.part A.makes A.took A.turned actor.old post.old ins.old.slots.items actor.new post.new ins.new.slots.items) }
 {
-    take_each(
-        actor,
-        ins.peers.as_slice(),
-        ins.slots.as_mut_slice(),
-        post,
-    )?;
+    take_each(actor, ins.peers.as_slice(), ins.slots.as_mut_slice(), post)?;
     actor.turn(post)
 }
 

@@ -1,10 +1,11 @@
-//! Toy actors in nets.
+//! Toy actors in nets, and merged journals.
 
-ghost use Rattle.std.specs.Prelude.{ℕ, ◌≡◌, ◌+◌, ◌∷◌, [], Option, OnOk};
+ghost use Rattle.std.specs.Prelude.{ℕ, ◌≡◌, ◌+◌, ◌∷◌, [], Option, OnOk, IfOk};
 ghost use Rattle.ring_net.specs.Posts.{actor_of, clock_of, Wrote, SameEdges};
 
-use crate::{Actor, Net, Parts, Post, Stamp};
 use graft_edge::{FreeGate, Gate, Items, NoMemory};
+use journal_merge::merge;
+use ring_net::{Actor, Journal, JournalEntry, Journals, Net, Parts, Post, Stamp};
 use std::alloc::Global;
 use std::sync::atomic::{AtomicU64, Ordering};
 use std::test::Fail;
@@ -230,5 +231,46 @@ fn a_net_leaves_its_parts(rt: HostRuntime) -> Result<(), Fail> {
         }
     }
     assert_eq!(rt; next, 300);
+    Ok(())
+}
+
+fn entry(clock: u64, actor: u16) -> JournalEntry
+    ensures { result ≡ record { clock = clock; actor = actor; kind = 1; a = 0; b = 0; c = 0 } }
+{
+    JournalEntry {
+        clock,
+        actor,
+        kind: 1,
+        a: 0,
+        b: 0,
+        c: 0,
+    }
+}
+
+/// A journal of two entries.
+fn two(alloc: Global, first: JournalEntry, second: JournalEntry) -> Result<Journal, NoMemory>
+    ensures { IfOk result (λ journal. journal ≡ first ∷ second ∷ []) }
+{
+    let mut journal = Items::one(alloc, first)?;
+    journal.push(second)?;
+    Ok(journal)
+}
+
+/// The journals of three actors, of which the second has no entry.
+fn three(alloc: Global) -> Result<Journals, NoMemory> {
+    let first = two(alloc, entry(2, 0), entry(5, 0))?;
+    let third = two(alloc, entry(1, 2), entry(2, 2))?;
+    let mut list = Items::one(alloc, first)?;
+    list.push(Items::new(alloc))?;
+    list.push(third)?;
+    Ok(Journals::from_items(list))
+}
+
+/// The entries stand by clock, and two of one clock by their actors.
+#[test]
+fn entries_stand_by_clock_and_actor(rt: HostRuntime) -> Result<(), Fail> {
+    let merged = merge(rt.alloc(), three(rt.alloc())?)?;
+    let expected = [entry(1, 2), entry(2, 0), entry(2, 2), entry(5, 0)];
+    assert_eq!(rt; merged.as_slice(), expected.as_slice());
     Ok(())
 }

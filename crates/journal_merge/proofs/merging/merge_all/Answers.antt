@@ -19,6 +19,6 @@ loop-first-preserved c =
     let pushed : c.push_back.new.self.items ≡ rest ++ m ∷ [] = c.in_ok-push_back.ensures.items in
     record {
       all = IsPermutation-trans (joined c.args.runs.items) (joined c.loop-first.runs.items) (joined c.push_back.new.self.items) c.loop-first.invariant.all
-      (subst (λ zs. IsPermutation (joined zs) (joined c.push_back.new.self.items)) (sym runs) (subst (λ zs. IsPermutation (joined (x ∷ y ∷ rest)) (joined zs)) (sym pushed) (joined_more x y m rest both)));
+          (subst (λ zs. IsPermutation (joined zs) (joined c.push_back.new.self.items)) (sym runs) (subst (λ zs. IsPermutation (joined (x ∷ y ∷ rest)) (joined zs)) (sym pushed) (joined_more x y m rest both)));
       order = subst (λ zs. AllOrdered zs) (sym pushed) (ordered_more rest m order.1.1 c.in_ok-merge_two.ensures.order);
     }

@@ -15,7 +15,7 @@ invariant_of-ins g c =
     let back : take old.slots.len (c.take_each.new.ins ++ drop (length c.take_each.new.ins) old.slots.items) ≡ c.take_each.new.ins = written_back old.slots.len c.take_each.new.ins old.slots.items old.slots.ok.0 len in
     record {
       listed = rw back (lists_ins old.slots.items c.take_each.new.ins old.peers.items len
-      (λ k. subst (λ xs. SameIn (get_or xs k None) (get_or c.take_each.new.ins k None)) c.as_mut_slice.ensures.value (c.take_each.ensures.rings k)) old.listed);
+          (λ k. subst (λ xs. SameIn (get_or xs k None) (get_or c.take_each.new.ins k None)) c.as_mut_slice.ensures.value (c.take_each.ensures.rings k)) old.listed);
     }
 
 pub returns-clause-acts : goal.returns-clause-acts

@@ -12,5 +12,5 @@ invariant_of-rings g c =
     let back : take old.slots.len (c.flush_each.new.rings ++ drop (length c.flush_each.new.rings) old.slots.items) ≡ c.flush_each.new.rings = written_back old.slots.len c.flush_each.new.rings old.slots.items old.slots.ok.0 len in
     record {
       listed = rw back (lists_outs old.slots.items c.flush_each.new.rings old.peers.items len
-      (λ k. subst (λ xs. SameOut (get_or xs k None) (get_or c.flush_each.new.rings k None)) c.as_mut_slice.ensures.value (c.flush_each.ensures k).same) old.listed);
+          (λ k. subst (λ xs. SameOut (get_or xs k None) (get_or c.flush_each.new.rings k None)) c.as_mut_slice.ensures.value (c.flush_each.ensures k).same) old.listed);
     }

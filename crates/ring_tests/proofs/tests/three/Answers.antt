@@ -1,7 +1,7 @@
 use Rattle.std.proofs.Common.{◌≡◌, ◌<◌, ℕ, zero, suc, List, [], ◌∷◌, ap, arith, subst, sym}
 use Rattle.ring_net.specs.declared.entry.JournalEntry.{JournalEntry}
 use Rattle.ring_net.specs.Journals.{IsJournal, AreJournals}
-use Rattle.journal_merge.proofs.tests.three.Goals as goal
+use Rattle.ring_tests.proofs.tests.three.Goals as goal
 
 none : (k : ℕ) (es : List JournalEntry) → es ≡ [] → IsJournal k es
 none k es is = subst (λ (xs : List JournalEntry). IsJournal k xs) (sym is) (record { own = tt; rising = tt })

@@ -1,6 +1,6 @@
 use Rattle.std.proofs.Common.{[], refl}
 use Rattle.ring_net.proofs.PostLaws.{wrote_none}
-use Rattle.ring_net.proofs.tests.ToyActor.between.Goals as goal
+use Rattle.ring_tests.proofs.tests.ToyActor.between.Goals as goal
 
 pub returns-clause-paused : goal.returns-clause-paused
 returns-clause-paused c = record {

@@ -1,5 +1,5 @@
 use Rattle.std.proofs.Common.{Some, refl}
-use Rattle.ring_net.proofs.tests.ToyActor.take.Goals as goal
+use Rattle.ring_tests.proofs.tests.ToyActor.take.Goals as goal
 
 pub returns-clause-took : goal.returns-clause-took
 returns-clause-took c = record {

@@ -3,7 +3,7 @@ use Rattle.ring_net.specs.Deeds.{Deed, Replay, TakesNone}
 use Rattle.ring_net.proofs.Replays.{all-append}
 use Rattle.ring_net.proofs.PostLaws.{wrote_none, wrote_then}
 use Rattle.ring_net.proofs.TakesEach.{same_edges_self, same_edges_then}
-use Rattle.ring_net.proofs.tests.ToyActor.turn.Goals as goal
+use Rattle.ring_tests.proofs.tests.ToyActor.turn.Goals as goal
 
 any : (k : ℕ) (ds : List (Deed ℕ)) → Replay {P = Unit {0}} (λ _ _ _ _ _ _. Unit {0}) k tt ds tt
 any k [] = refl
