@@ -11,7 +11,6 @@ use Rattle.bgp_types.specs.Prefixes.{PrefixValue}
 use Rattle.decision_core.specs.Choice.{Rule, is_own, has_higher_preference, has_shorter_path, has_lower_origin, has_lower_med, is_external, has_lower_cost, has_lower_identifier, has_lower_address, nine_rules, keep, left_of, choice}
 use Rattle.route_policy.specs.Candidates.{SessionRoute, candidates}
 use Rattle.route_policy.specs.Rules.{holds_as}
-use Rattle.route_policy.specs.declared.best.Best.{Best}
 use Rattle.pipe_model.specs.declared.pipe.Pipe.{Pipe}
 use Rattle.pipe_model.specs.Worlds.{Session}
 use Rattle.route_policy.specs.Telling.{tell_out}

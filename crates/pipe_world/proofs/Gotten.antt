@@ -20,7 +20,7 @@ use Rattle.bgp_story.proofs.HeaderKinds.{read_of}
 use Rattle.bgp_story.proofs.Shapes.{allowed_of}
 use Rattle.prefix_trie.specs.Table.{TableValue}
 use Rattle.pipe_model.specs.declared.pipe.Pipe.{Pipe}
-use Rattle.pipe_model.specs.Pipes.{IsSound, session_of}
+use Rattle.pipe_model.specs.Pipes.{session_of}
 use Rattle.pipe_model.specs.Worlds.{Prefixes}
 use Rattle.pipe_model.specs.Rows.{Gets, Marks, due_then}
 use Rattle.pipe_model.proofs.Gets.{state_next, got_then}
