@@ -1,43 +1,60 @@
--- The endpoint of a connection over whole numbers: places of streams in place of numbers that go round, and which places
--- arrived in place of buffers (RFC 9293, sections 3.4, 3.8 and 3.10.7.4, with this project's window, flight,
--- payload and turn that emits again).
-use Rattle.std.specs.Prelude.{ℕ, ◌≡◌, ◌⊎◌, ◌↔◌, ◌<◌, ◌≤◌, ◌+◌, ◌-◌, ◌^◌, ◌==◌, ◌||◌, nat_lt, min, max, if◌then◌else◌, Bool, true, false, List, [], ◌∷◌, ◌++◌, length, take, drop, Contains}
-use Rattle.std.specs.List.Sorted.{IsStrictlyIncreasing}
+-- The endpoint of a connection over whole numbers: places of streams in place of numbers that wrap around, and the byte that each
+-- place of the other stream got first in place of buffers (RFC 9293, sections 3.4, 3.8 and 3.10.7.4, with this
+-- project's window, flight, payload and turn that emits again).
+use Rattle.std.specs.Prelude.{ℕ, ◌≡◌, ◌⊎◌, ◌<◌, ◌≤◌, ◌+◌, ◌-◌, ◌^◌, ◌==◌, ◌||◌, ◌&&◌, nat_lt, nat_le, min, max, if◌then◌else◌, Bool, true, false, List, [], ◌∷◌, ◌++◌, length, take, drop, Option, None, IsSome, slice_get}
+use Rattle.std.specs.Option.{option_or}
+use Rattle.std.specs.Ordering.{nat_cmp}
+use Rattle.std.specs.FinMap as map
 use Rattle.tcp_seq.specs.declared.rules.AckKind.TheVariants.{Beyond}
-use Rattle.tcp_seq.specs.Rules.{AcceptablePlace, IsPlaceAck, IsPlaceInWindow}
+use Rattle.tcp_seq.specs.Rules.{AcceptablePlace, IsPlaceAck, IsInStream}
 
--- the stream that it sends, how much of it was emitted and acknowledged, the places of the other stream that arrived (each
--- once, in rising order), how much of the other stream was read, and whether an answer is owed
+-- bytes by their places in a stream
+abbrev pub Bytes : Type 0
+Bytes = map.FinMap nat_cmp ℕ
+
+-- the stream that it sends, how much of it was emitted and acknowledged, the bytes of the other stream that arrived, how many of
+-- them were read, and whether an answer is owed
 pub record Endpoint : Type 0 where
   pub stream : List ℕ
   pub emitted : ℕ
   pub acked : ℕ
-  pub arrived : List ℕ
+  pub arrived : Bytes
   pub read : ℕ
   pub owed : Bool
 
--- a place, the slice of the stream there, and an acknowledged length
+-- a place, the bytes from there on, and an acknowledged length
 pub record PlacedSegment : Type 0 where
   pub place : ℕ
   pub bytes : List ℕ
   pub ack : ℕ
 
--- the greatest n such that all places below n arrived
-pub record IsReceived (arrived : List ℕ) (n : ℕ) : Type 0 where
-  pub all : (k : ℕ) → k < n → Contains arrived k
-  pub greatest : (m : ℕ) → ((k : ℕ) → k < m → Contains arrived k) → m ≤ n
+-- nothing sent and nothing received
+abbrev pub fresh_endpoint : Endpoint
+fresh_endpoint = record { stream = []; emitted = 0; acked = 0; arrived = map.empty; read = 0; owed = false }
 
--- how far a rising list goes on from n without a gap
-abbrev pub run_end : ℕ → List ℕ → ℕ
-run_end n [] = n
-run_end n (k ∷ ks) = if k == n then run_end (n + 1) ks else n
+-- the greatest n such that all places below n have a byte
+pub record IsReceived (arrived : Bytes) (n : ℕ) : Type 0 where
+  pub all : (k : ℕ) → k < n → IsSome (map.get arrived k)
+  pub greatest : (m : ℕ) → ((k : ℕ) → k < m → IsSome (map.get arrived k)) → m ≤ n
 
--- the received length, of a rising list of places
-abbrev pub received_of : List ℕ → ℕ
-received_of arrived = run_end 0 arrived
+-- the bytes of entries in rising order of place, as far as the places go on from n without a gap
+abbrev pub run_from : ℕ → List (ℕ × ℕ) → List ℕ
+run_from n [] = []
+run_from n (e ∷ es) = if e.0 == n then e.1 ∷ run_from (n + 1) es else []
+
+-- the bytes that stand from place 0 on without a gap
+abbrev pub bytes_in_order : Bytes → List ℕ
+bytes_in_order arrived = run_from 0 (map.entries arrived)
+
+-- the received bytes, the received length, and what is ready to be read: the received bytes behind those that were read
+abbrev pub received_bytes : Endpoint → List ℕ
+received_bytes e = bytes_in_order e.arrived
 
 abbrev pub received : Endpoint → ℕ
-received e = received_of e.arrived
+received e = length (received_bytes e)
+
+abbrev pub ready_bytes : Endpoint → List ℕ
+ready_bytes e = drop e.read (received_bytes e)
 
 -- the segment with so many bytes of the stream from a place on, and the received length of this moment
 abbrev pub slice_at : Endpoint → ℕ → ℕ → PlacedSegment
@@ -52,7 +69,7 @@ abbrev pub again_length : Endpoint → ℕ
 again_length e = min 1024 (e.emitted - e.acked)
 
 -- Bytes are sent: they stand at the stream's end, which has at most 1 MiB.
-pub record Sends (before : Endpoint) (bytes : List ℕ) (after : Endpoint) : Type 0 where
+pub record SendsBytes (before : Endpoint) (bytes : List ℕ) (after : Endpoint) : Type 0 where
   pub fits : length before.stream + length bytes ≤ 2 ^ 20
   pub sent : after ≡ record before { stream = before.stream ++ bytes }
 
@@ -68,14 +85,30 @@ pub record EmitsAgain (before : Endpoint) (segment : PlacedSegment) (after : End
   pub slice : segment ≡ slice_at before before.acked (again_length before)
   pub stays : after ≡ before
 
--- An owed answer is given: an empty segment at the place that is emitted next.
-pub record Answers (before : Endpoint) (segment : PlacedSegment) (after : Endpoint) : Type 0 where
-  pub owed : before.owed ≡ true
+-- A segment without bytes is emitted, at the place that is emitted next. No answer is owed then.
+pub record EmitsEmpty (before : Endpoint) (segment : PlacedSegment) (after : Endpoint) : Type 0 where
   pub empty : segment ≡ slice_at before before.emitted 0
   pub given : after ≡ record before { owed = false }
 
--- Bytes that were received are read.
-pub record Reads (before : Endpoint) (n : ℕ) (after : Endpoint) : Type 0 where
+-- An owed answer is given.
+pub record EmitsAnswer (before : Endpoint) (segment : PlacedSegment) (after : Endpoint) : Type 0 where
+  pub owed : before.owed ≡ true
+  pub answer : EmitsEmpty before segment after
+
+-- Any slice is emitted that begins from the acknowledged to the emitted place, has some and at most 1,024 bytes, and ends in
+-- the stream and in the flight of 15,360 from the acknowledged place on.
+pub record EmitsSlice (before : Endpoint) (segment : PlacedSegment) (after : Endpoint) : Type 0 where
+  pub from : before.acked ≤ segment.place
+  pub to : segment.place ≤ before.emitted
+  pub some : 0 < length segment.bytes
+  pub short : length segment.bytes ≤ 1024
+  pub within : segment.place + length segment.bytes ≤ length before.stream
+  pub flight : segment.place + length segment.bytes ≤ before.acked + 15360
+  pub slice : segment ≡ slice_at before segment.place (length segment.bytes)
+  pub rises : after ≡ record before { emitted = max before.emitted (segment.place + length segment.bytes) }
+
+-- Bytes that are ready are read.
+pub record ReadsBytes (before : Endpoint) (n : ℕ) (after : Endpoint) : Type 0 where
   pub there : before.read + n ≤ received before
   pub read : after ≡ record before { read = before.read + n }
 
@@ -86,33 +119,37 @@ IsAcceptable e segment = AcceptablePlace (received e) 16384 segment.place (lengt
 abbrev pub IsBeyond : Endpoint → PlacedSegment → Type 0
 IsBeyond e segment = IsPlaceAck Beyond e.acked e.emitted segment.ack
 
--- the places that a segment brings: those of its bytes from the one expected next up to, and not with, the window's end
-abbrev pub Brings : Endpoint → PlacedSegment → ℕ → Type 0
-Brings e segment place =
-    (segment.place ≤ place) × (place < segment.place + length segment.bytes) × IsPlaceInWindow (received e) 16384 place
+-- the byte at a place, of bytes that stand from a place on
+abbrev pub byte_from : ℕ → List ℕ → ℕ → Option ℕ
+byte_from place bytes k = if nat_lt k place then None else slice_get bytes (k - place)
 
--- the places that are in a list or are brought, each once, in rising order
-pub record Gathers (before : List ℕ) (Brought : ℕ → Type 0) (after : List ℕ) : Type 0 where
-  pub rising : IsStrictlyIncreasing after
-  pub places : (place : ℕ) → Contains after place ↔ (Contains before place ⊎ Brought place)
+-- the byte that a segment brings to a place: the one that it has there, if the place stands in the window
+abbrev pub byte_brought : Endpoint → PlacedSegment → ℕ → Option ℕ
+byte_brought e segment place =
+    if nat_le (received e) place && nat_lt place (received e + 16384) then byte_from segment.place segment.bytes place else None
 
 -- A segment is dropped that isn't acceptable, or that acknowledges what wasn't emitted. An answer is owed.
-pub record Drops (before : Endpoint) (segment : PlacedSegment) (after : Endpoint) : Type 0 where
+pub record DropsSegment (before : Endpoint) (segment : PlacedSegment) (after : Endpoint) : Type 0 where
   pub cause : (¬ IsAcceptable before segment) ⊎ IsBeyond before segment
   pub stays : after ≡ record before { owed = true }
 
--- Any other segment is taken in: the acknowledged length rises to its own where that is above, the places that it brings have
--- arrived, and an answer is owed where it has bytes.
-pub record TakesIn (before : Endpoint) (segment : PlacedSegment) (after : Endpoint) : Type 0 where
+-- Any other segment is accepted: the acknowledged length rises to its own where that is above, each place keeps its byte or else gets
+-- the one that is brought to it, and an answer is owed where the segment has bytes.
+pub record AcceptsSegment (before : Endpoint) (segment : PlacedSegment) (after : Endpoint) : Type 0 where
   pub acceptable : IsAcceptable before segment
   pub within : ¬ IsBeyond before segment
-  pub arrived : Gathers before.arrived (Brings before segment) after.arrived
+  pub arrived : (place : ℕ) → map.get after.arrived place ≡ option_or (map.get before.arrived place) (byte_brought before segment place)
   pub changed : after ≡ record before {
     acked = max before.acked segment.ack;
     arrived = after.arrived;
     owed = before.owed || nat_lt 0 (length segment.bytes);
   }
 
--- A segment arrives.
-abbrev pub Takes : Endpoint → PlacedSegment → Endpoint → Type 0
-Takes before segment after = Drops before segment after ⊎ TakesIn before segment after
+-- A segment arrives, whoever made it and whatever bytes it has.
+abbrev pub TakesSegment : Endpoint → PlacedSegment → Endpoint → Type 0
+TakesSegment before segment after = DropsSegment before segment after ⊎ AcceptsSegment before segment after
+
+-- A segment's places, and the length that it acknowledges, are those of streams of at most 1 MiB or of a window at their end.
+pub record IsInStreams (segment : PlacedSegment) : Type 0 where
+  pub end : IsInStream (segment.place + length segment.bytes)
+  pub ack : IsInStream segment.ack

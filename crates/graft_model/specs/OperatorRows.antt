@@ -1,0 +1,67 @@
+-- The events of the operator: steps are ordered, and outcomes of grafts are noted. That the next group begins is an event of the world.
+use Rattle.std.specs.Prelude.{◌≡◌, ◌≢◌, ℕ, ◌<◌, ◌==◌, ◌&&◌, List, [], ◌∷◌, Option, Some, None, option_map, unwrap_or, filter, Bool, true, false, slice_get}
+use Rattle.std.specs.List.{last}
+use Rattle.graft_steps.specs.declared.refusal.Outcome.{Outcome}
+use Rattle.graft_steps.specs.declared.refusal.Outcome.TheVariants.{Accepted, Refused}
+use Rattle.graft_model.specs.Points.{at}
+use Rattle.graft_model.specs.Setups.{Setup, ScriptStep, Say, Graft, Settle, GraftStep, group_of, grafts_in, graft_number}
+use Rattle.graft_model.specs.Parts.{OperatorPart, GraftOrder, Report}
+
+pub data OperatorTakes : Type 0 where
+  TakesNothing : OperatorTakes
+  FromRouter : (router : ℕ) → Report → OperatorTakes
+
+pub data OperatorSends : Type 0 where
+  ToRouter : (router : ℕ) → GraftOrder → OperatorSends
+  ToFar : (peering step : ℕ) → OperatorSends
+
+-- ---- the log
+
+abbrev pub is_accepted : Option Outcome → Bool
+is_accepted None = false
+is_accepted (Some Accepted) = true
+is_accepted (Some (Refused refusal)) = false
+
+-- Where a peering's session belongs by the log: at the target of its last accepted graft, else where it starts.
+abbrev pub placement : Setup → OperatorPart → ℕ → ℕ
+placement setup part p = unwrap_or
+    (option_map (λ g. g.target) (last (filter (λ g. (g.peering == p) && is_accepted (part.outcome g.graft)) (grafts_in setup))))
+    (unwrap_or (option_map (λ peering. peering.start) (slice_get setup.peerings p)) 0)
+
+-- ---- ordering
+
+-- A step of the group that is at work and wasn't issued.
+pub record IsNext (setup : Setup) (part : OperatorPart) (step : ℕ) : Type 0 where
+  pub group : group_of setup step ≡ part.group
+  pub unissued : part.issued step ≡ false
+
+-- A remote is to say something: what it is to say before in this group was ordered.
+pub record OrdersSay (setup : Setup) (step : ℕ) (before : OperatorPart) (taken : OperatorTakes) (sent : List OperatorSends) (after : OperatorPart) : Type 0 where
+  pub next : IsNext setup before step
+  pub peering : ℕ
+  pub bytes : List ℕ
+  pub is : slice_get setup.steps step ≡ Some (Say peering bytes)
+  pub earlier : (m : ℕ) (other : List ℕ) → m < step → group_of setup m ≡ before.group → slice_get setup.steps m ≡ Some (Say peering other) → before.issued m ≡ true
+  pub takes : taken ≡ TakesNothing
+  pub sends : sent ≡ ToFar peering step ∷ []
+  pub effect : after ≡ record before { issued = at before.issued step true }
+
+-- A graft is ordered where the session belongs by the log: the earlier grafts of its peering have their outcomes.
+pub record OrdersGraft (setup : Setup) (step : ℕ) (before : OperatorPart) (taken : OperatorTakes) (sent : List OperatorSends) (after : OperatorPart) : Type 0 where
+  pub next : IsNext setup before step
+  pub peering : ℕ
+  pub target : ℕ
+  pub is : slice_get setup.steps step ≡ Some (Graft peering target)
+  pub earlier : (m other : ℕ) → m < step → slice_get setup.steps m ≡ Some (Graft peering other) → before.outcome (graft_number setup m) ≢ None
+  pub takes : taken ≡ TakesNothing
+  pub sends : sent ≡ ToRouter (placement setup before peering) (record { graft = graft_number setup step; peering = peering; target = target }) ∷ []
+  pub effect : after ≡ record before { issued = at before.issued step true; source = at before.source (graft_number setup step) (Some (placement setup before peering)) }
+
+-- The outcome of a graft that was ordered and has none is noted.
+pub record Notes (router : ℕ) (before : OperatorPart) (taken : OperatorTakes) (sent : List OperatorSends) (after : OperatorPart) : Type 0 where
+  pub report : Report
+  pub takes : taken ≡ FromRouter router report
+  pub sends : sent ≡ []
+  pub ordered : before.source report.graft ≢ None
+  pub open : before.outcome report.graft ≡ None
+  pub effect : after ≡ record before { outcome = at before.outcome report.graft (Some report.outcome) }

@@ -1,0 +1,129 @@
+-- What a laboratory is given: the home network, the peerings, and the script of the operator.
+use Rattle.std.specs.Prelude.{ℕ, ◌==◌, ◌+◌, Bool, true, false, List, [], ◌∷◌, length, take, filter, Option, Some, None, option_map, unwrap_or, is_none, slice_get}
+use Rattle.std.specs.List.{list_any, find, range_with_len}
+use Rattle.std.specs.Str.{bytes_eq}
+use Rattle.bgp_types.specs.Prefixes.{PrefixValue, same_prefix}
+use Rattle.route_policy.specs.declared.rule.Rule.{Rule}
+use Rattle.session_value.specs.declared.config.SessionConfig.{SessionConfig}
+
+-- a policy by its name
+pub record NamedRules : Type 0 where
+  pub name : List ℕ
+  pub rules : List Rule
+
+-- a home router: its BGP Identifier, for how many sessions it has room, the interior cost to each router by number, the
+-- networks of its own, and its policies
+pub record RouterSetup : Type 0 where
+  pub identifier : ℕ
+  pub room : ℕ
+  pub costs : List ℕ
+  pub networks : List PrefixValue
+  pub policies : List NamedRules
+
+-- a peering: the router at which its session starts, what the session begins with, the bytes that its remote says first, and
+-- after how many rounds the remote says a KEEPALIVE again, 0 where it doesn't
+pub record PeeringSetup : Type 0 where
+  pub start : ℕ
+  pub config : SessionConfig
+  pub opening : List ℕ
+  pub beat : ℕ
+
+-- a step of the script: a remote says bytes, a graft of a peering to a target, or the end of a group
+pub data ScriptStep : Type 0 where
+  Say : (peering : ℕ) → List ℕ → ScriptStep
+  Graft : (peering : ℕ) → (target : ℕ) → ScriptStep
+  Settle : ScriptStep
+
+pub record Setup : Type 0 where
+  pub home_as : ℕ
+  pub routers : List RouterSetup
+  pub peerings : List PeeringSetup
+  pub steps : List ScriptStep
+
+-- ---- by number
+
+abbrev pub routers_in : Setup → ℕ
+routers_in setup = length setup.routers
+
+abbrev pub peerings_in : Setup → ℕ
+peerings_in setup = length setup.peerings
+
+-- the numbers of the routers, and of the peerings
+abbrev pub router_numbers : Setup → List ℕ
+router_numbers setup = range_with_len 0 (routers_in setup)
+
+abbrev pub peering_numbers : Setup → List ℕ
+peering_numbers setup = range_with_len 0 (peerings_in setup)
+
+abbrev pub of_router : {A : Type 0} → (RouterSetup → A) → A → Setup → ℕ → A
+of_router field none setup r = unwrap_or (option_map field (slice_get setup.routers r)) none
+
+abbrev pub identifier_of : Setup → ℕ → ℕ
+identifier_of setup r = of_router (λ router. router.identifier) 0 setup r
+
+abbrev pub room_of : Setup → ℕ → ℕ
+room_of setup r = of_router (λ router. router.room) 0 setup r
+
+-- the interior cost from one router to another
+abbrev pub cost_between : Setup → ℕ → ℕ → ℕ
+cost_between setup r q = unwrap_or (slice_get (of_router (λ router. router.costs) [] setup r) q) 0
+
+-- whether a network is a router's own
+abbrev pub is_own : Setup → ℕ → PrefixValue → Bool
+is_own setup r prefix = list_any (same_prefix prefix) (of_router (λ router. router.networks) [] setup r)
+
+-- the rules of a router's policy of this name, if it has one
+abbrev pub rules_named : Setup → ℕ → List ℕ → Option (List Rule)
+rules_named setup r name = option_map (λ policy. policy.rules) (find (λ policy. bytes_eq name policy.name) (of_router (λ router. router.policies) [] setup r))
+
+-- the rules that a router has for a session's name; none where the session names no policy
+abbrev pub rules_for : Setup → ℕ → Option (List ℕ) → Option (List Rule)
+rules_for setup r None = None
+rules_for setup r (Some name) = rules_named setup r name
+
+-- a name for which the router has no policy
+abbrev pub unknown : Setup → ℕ → Option (List ℕ) → Option (List ℕ)
+unknown setup r None = None
+unknown setup r (Some name) = if is_none (rules_named setup r name) then Some name else None
+
+abbrev pub first_of : Option (List ℕ) → Option (List ℕ) → Option (List ℕ)
+first_of None other = other
+first_of (Some name) other = Some name
+
+-- the first policy that a session names and a router doesn't have: the import policy before the export policy
+abbrev pub missing_policy : Setup → ℕ → SessionConfig → Option (List ℕ)
+missing_policy setup r config = first_of (unknown setup r config.import) (unknown setup r config.export)
+
+-- ---- the script
+
+abbrev pub is_settle : ScriptStep → Bool
+is_settle (Say peering bytes) = false
+is_settle (Graft peering target) = false
+is_settle Settle = true
+
+-- the group of a step, from 0: as many groups were ended before it
+abbrev pub group_of : Setup → ℕ → ℕ
+group_of setup step = length (filter is_settle (take step setup.steps))
+
+abbrev pub groups_in : Setup → ℕ
+groups_in setup = length (filter is_settle setup.steps)
+
+-- a graft of the script: its number, counted from 1 over the whole script, its peering and its target
+pub record GraftStep : Type 0 where
+  pub graft : ℕ
+  pub peering : ℕ
+  pub target : ℕ
+
+-- the grafts of steps, numbered from one above this number on
+abbrev pub grafts_after : ℕ → List ScriptStep → List GraftStep
+grafts_after k [] = []
+grafts_after k (Say peering bytes ∷ steps) = grafts_after k steps
+grafts_after k (Settle ∷ steps) = grafts_after k steps
+grafts_after k (Graft peering target ∷ steps) = record { graft = k + 1; peering = peering; target = target } ∷ grafts_after (k + 1) steps
+
+abbrev pub grafts_in : Setup → List GraftStep
+grafts_in setup = grafts_after 0 setup.steps
+
+-- the number that the graft at a step has, or would have
+abbrev pub graft_number : Setup → ℕ → ℕ
+graft_number setup step = length (grafts_after 0 (take step setup.steps)) + 1

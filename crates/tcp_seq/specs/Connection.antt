@@ -1,0 +1,90 @@
+-- A connection: two endpoints that are joined by nothing but the segments that each ever emitted, which may arrive in any order,
+-- any number of times or never.
+use Rattle.std.specs.Prelude.{ℕ, ◌≡◌, ◌⊎◌, ◌<◌, ◌≤◌, ◌+◌, ◌^◌, List, [], ◌∷◌, ◌++◌, length, take, drop, Contains, Some, slice_get}
+use Rattle.std.specs.FinMap as map
+use Rattle.tcp_seq.specs.Endpoint.{Endpoint, PlacedSegment, SendsBytes, EmitsSlice, EmitsEmpty, ReadsBytes, TakesSegment, fresh_endpoint, received, received_bytes}
+
+-- an endpoint, and every segment that it ever emitted
+pub record Side : Type 0 where
+  pub end : Endpoint
+  pub emitted : List PlacedSegment
+
+pub record Connection : Type 0 where
+  pub near : Side
+  pub far : Side
+
+-- nothing sent and nothing received
+abbrev pub fresh_side : Side
+fresh_side = record { end = fresh_endpoint; emitted = [] }
+
+abbrev pub fresh_connection : Connection
+fresh_connection = record { near = fresh_side; far = fresh_side }
+
+-- The steps of a side
+
+abbrev pub SideSends : Side → Side → Type 0
+SideSends before after = (bytes : List ℕ) × SendsBytes before.end bytes after.end × (after.emitted ≡ before.emitted)
+
+-- any slice, or the empty one
+abbrev pub SideEmits : Side → Side → Type 0
+SideEmits before after =
+    (segment : PlacedSegment) × (EmitsSlice before.end segment after.end ⊎ EmitsEmpty before.end segment after.end)
+    × (after.emitted ≡ before.emitted ++ segment ∷ [])
+
+abbrev pub SideReads : Side → Side → Type 0
+SideReads before after = (n : ℕ) × ReadsBytes before.end n after.end × (after.emitted ≡ before.emitted)
+
+-- any segment that the other side ever emitted
+abbrev pub SideTakes : List PlacedSegment → Side → Side → Type 0
+SideTakes theirs before after =
+    (segment : PlacedSegment) × Contains theirs segment × TakesSegment before.end segment after.end × (after.emitted ≡ before.emitted)
+
+-- one side makes a step, to which the other one emitted these segments
+abbrev pub SideSteps : List PlacedSegment → Side → Side → Type 0
+SideSteps theirs before after = SideSends before after ⊎ SideEmits before after ⊎ SideReads before after ⊎ SideTakes theirs before after
+
+abbrev pub ConnectionStep : Connection → Connection → Type 0
+ConnectionStep before after =
+    (SideSteps before.far.emitted before.near after.near × (after.far ≡ before.far))
+    ⊎ (SideSteps before.near.emitted before.far after.far × (after.near ≡ before.near))
+
+-- steps from one connection over a list of others to the last
+abbrev pub ConnectionRun : Connection → List Connection → Connection → Type 0
+ConnectionRun before [] after = after ≡ before
+ConnectionRun before (next ∷ rest) after = ConnectionStep before next × ConnectionRun next rest after
+
+-- What each segment is that an endpoint emitted: a slice of its stream, which ends at or below what it emitted, has at most 1,024 bytes
+-- and acknowledges at most what it received.
+pub record IsEmittedBy (e : Endpoint) (segment : PlacedSegment) : Type 0 where
+  pub within : segment.place + length segment.bytes ≤ e.emitted
+  pub short : length segment.bytes ≤ 1024
+  pub bytes : segment.bytes ≡ take (length segment.bytes) (drop segment.place e.stream)
+  pub ack : segment.ack ≤ received e
+
+-- one of the segments has this place
+pub record IsAmong (segments : List PlacedSegment) (place : ℕ) : Type 0 where
+  pub segment : PlacedSegment
+  pub there : Contains segments segment
+  pub from : segment.place ≤ place
+  pub below : place < segment.place + length segment.bytes
+
+-- What one side has of the stream that the other sends.
+pub record IsCarried (from to : Side) : Type 0 where
+  -- the acknowledged length is at most the received one, that at most the emitted one, that at most the stream's
+  pub acked : from.end.acked ≤ received to.end
+  pub within : received to.end ≤ from.end.emitted
+  pub emitted : from.end.emitted ≤ length from.end.stream
+  pub stream : length from.end.stream ≤ 2 ^ 20
+  pub flight : from.end.emitted ≤ from.end.acked + 15360
+  pub read : to.end.read ≤ received to.end
+  -- the received bytes are the first ones of the stream, and each byte that arrived is the one that the stream has at its place
+  pub bytes : received_bytes to.end ≡ take (received to.end) from.end.stream
+  pub arrived : (place byte : ℕ) → map.get to.end.arrived place ≡ Some byte → (place < from.end.emitted) × (slice_get from.end.stream place ≡ Some byte)
+  -- the segments that were emitted, of which one has each place below the emitted length
+  pub segments : (segment : PlacedSegment) → Contains from.emitted segment → IsEmittedBy from.end segment
+  pub all : (place : ℕ) → place < from.end.emitted → IsAmong from.emitted place
+
+-- what a connection keeps, in both directions
+pub record IsConnection (c : Connection) : Type 0 where
+  pub there : IsCarried c.near c.far
+  pub back : IsCarried c.far c.near
