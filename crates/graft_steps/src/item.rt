@@ -1,0 +1,54 @@
+//! What actors send one another.
+
+use crate::refusal::{Outcome, Refusal};
+use bgp_types::{Prefix, Route};
+use graft_edge::{PeeringId, RouterId};
+use tcp_seq::Segment;
+
+/// An item on the way from one actor to another. `C` is what carries a session that moves, its
+/// capsule. `graft` is the number of a graft.
+#[derive(Debug, Drop)]
+pub enum Item<C> {
+    /// A segment of a peering's connection, between the router that holds its session and its far side.
+    Seg(Segment),
+    /// From a router to a far side: the session has landed here, so send its segments here.
+    PointAt {
+        graft: u32,
+    },
+    /// From a router to another: my route to this prefix, or that I have none for you.
+    Told {
+        prefix: Prefix,
+        route: Option<Route>,
+    },
+    /// From the source to the target: the session itself.
+    Moved {
+        graft: u32,
+        capsule: C,
+    },
+    /// From the target to the source: the session again, which it didn't take.
+    Back {
+        graft: u32,
+        capsule: C,
+        refusal: Refusal,
+    },
+    /// From the target to the source: it holds the session now.
+    Done {
+        graft: u32,
+        peering: PeeringId,
+    },
+    /// From the operator to the router that holds the session: move it to the target.
+    GraftOrder {
+        graft: u32,
+        peering: PeeringId,
+        target: RouterId,
+    },
+    /// From the source to the operator: how the graft ended.
+    Report {
+        graft: u32,
+        outcome: Outcome,
+    },
+    /// From the operator to a far side: say the bytes of this step of the script, counted from 0.
+    SayOrder {
+        step: u32,
+    },
+}

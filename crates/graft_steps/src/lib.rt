@@ -1,0 +1,24 @@
+//! The steps of a graft: the move of a live BGP session from the home router that holds it, the
+//! source, to another one, the target. The operator orders it, the source refuses it or freezes the
+//! session and sends it away, the target takes it or sends it back, and the source reports how it
+//! ended. Here are these steps with their refusals, the items that routers, far sides and the
+//! operator send one another, the operator's log, and what an actor still has to do.
+//!
+//! No call takes memory but `copy`.
+#![tactic(auto)]
+
+mod admission;
+mod item;
+mod laws;
+mod log;
+mod order;
+mod refusal;
+mod rest;
+
+pub use admission::admit;
+pub use item::Item;
+pub use laws::{source_refusals, target_refusals};
+pub use log::{GraftEntry, GraftLog, GraftStage};
+pub use order::{Away, Frozen, GraftIds, Ordered};
+pub use refusal::{Outcome, Refusal};
+pub use rest::{FarRest, OperatorRest, Pending, RouterRest, pending_order};

@@ -1,0 +1,51 @@
+//! The operator's log.
+
+use crate::refusal::Outcome;
+use graft_edge::{Items, NoMemory, PeeringId, RouterId, TryCopy};
+
+/// The grafts of a script, in the order of their numbers.
+pub type GraftLog = Items<GraftEntry>;
+
+/// A graft in the log: its number, which counts the graft steps of the script from 1, its peering, the
+/// router that it was ordered at, which is none until then, its target, and how far it is.
+#[derive(Debug, Drop)]
+pub struct GraftEntry {
+    pub graft: u32,
+    pub peering: PeeringId,
+    pub source: Option<RouterId>,
+    pub target: RouterId,
+    pub stage: GraftStage,
+}
+
+/// How far a graft is, as the operator knows.
+#[derive(Debug, Drop)]
+pub enum GraftStage {
+    /// It wasn't ordered yet.
+    Waiting,
+    /// It was ordered, and the source hasn't reported.
+    Issued,
+    /// The source reported how it ended.
+    Ended(Outcome),
+}
+
+impl TryCopy for GraftEntry {
+    fn copy(&self) -> Result<GraftEntry, NoMemory> {
+        Ok(GraftEntry {
+            graft: self.graft,
+            peering: self.peering,
+            source: self.source,
+            target: self.target,
+            stage: self.stage.copy()?,
+        })
+    }
+}
+
+impl TryCopy for GraftStage {
+    fn copy(&self) -> Result<GraftStage, NoMemory> {
+        match self {
+            GraftStage::Waiting => Ok(GraftStage::Waiting),
+            GraftStage::Issued => Ok(GraftStage::Issued),
+            GraftStage::Ended(outcome) => Ok(GraftStage::Ended(outcome.copy()?)),
+        }
+    }
+}

@@ -1,0 +1,144 @@
+//! A graft at its source, step by step: ordered, frozen, away. Each step is a type of its own, which
+//! only the step before it makes and the next one uses up, so no step is skipped and none is made twice.
+
+ghost use Rattle.std.specs.Prelude.{◌≡◌, IfOk};
+ghost use Rattle.std.specs.Result.{result_err};
+ghost use Rattle.graft_steps.specs.Refusals.{freeze_refusal};
+
+use crate::refusal::{Outcome, Refusal};
+use bgp_types::SessionState;
+use graft_edge::{PeeringId, RouterId};
+use std::marker::Model;
+
+/// Which graft it is: its number, which counts the graft steps of the script from 1, the peering
+/// whose session moves, the router that holds the session, and the one that is to take it.
+#[derive(Clone, Copy, Debug, PartialEq, Eq, Hash)]
+pub struct GraftIds {
+    pub graft: u32,
+    pub peering: PeeringId,
+    pub source: RouterId,
+    pub target: RouterId,
+}
+
+/// A graft that the source was ordered to make and hasn't begun.
+#[derive(Debug, Drop)]
+pub struct Ordered {
+    ids: GraftIds,
+}
+
+/// A graft whose session is frozen at the source: it takes nothing in and gives nothing out until it
+/// is sent away.
+#[derive(Debug, Drop)]
+pub struct Frozen {
+    ids: GraftIds,
+}
+
+/// A graft whose session was sent to the target, and of which the source waits to hear.
+#[derive(Debug, Drop)]
+pub struct Away {
+    ids: GraftIds,
+}
+
+impl Model for Ordered {
+    ghost use Rattle.graft_steps.specs.declared.order.GraftIds.{GraftIds};
+
+    ghost Value = { GraftIds };
+
+    ghost view = { λ step. step.ids };
+}
+
+impl Model for Frozen {
+    ghost use Rattle.graft_steps.specs.declared.order.GraftIds.{GraftIds};
+
+    ghost Value = { GraftIds };
+
+    ghost view = { λ step. step.ids };
+}
+
+impl Model for Away {
+    ghost use Rattle.graft_steps.specs.declared.order.GraftIds.{GraftIds};
+
+    ghost Value = { GraftIds };
+
+    ghost view = { λ step. step.ids };
+}
+
+impl Ordered {
+    pub fn new(graft: u32, peering: PeeringId, source: RouterId, target: RouterId) -> Ordered
+        ensures { result ≡ record { graft = graft; peering = peering; source = source; target = target } }
+    {
+        Ordered {
+            ids: GraftIds {
+                graft,
+                peering,
+                source,
+                target,
+            },
+        }
+    }
+
+    pub fn ids(&self) -> GraftIds
+        ensures { result ≡ self.now }
+    {
+        self.ids
+    }
+
+    /// Freezes the session, which is in this state and has this hold time in seconds, 0 where it has
+    /// no hold timer. `SameRouter` comes exactly where the target is the source, else
+    /// `NotEstablished` exactly where the session isn't established, else `HoldTooShort` exactly where
+    /// its hold time is 1 to 29. A refusal ends the graft: look at its `ids` before, to report it.
+    pub fn freeze(self, state: SessionState, hold: u32) -> Result<Frozen, Refusal>
+        ensures refusal { result_err result ≡ freeze_refusal self.source self.target state hold }
+        ensures frozen { IfOk result (λ frozen. frozen ≡ self) }
+    {
+        let Ordered { ids } = self;
+        if ids.target == ids.source {
+            return Err(Refusal::SameRouter);
+        }
+        if state != SessionState::Established {
+            return Err(Refusal::NotEstablished(state));
+        }
+        if hold > 0 && hold < 30 {
+            return Err(Refusal::HoldTooShort(hold));
+        }
+        Ok(Frozen { ids })
+    }
+}
+
+impl Frozen {
+    pub fn ids(&self) -> GraftIds
+        ensures { result ≡ self.now }
+    {
+        self.ids
+    }
+
+    /// The session leaves for the target.
+    pub fn leave(self) -> Away
+        ensures { result ≡ self }
+    {
+        Away { ids: self.ids }
+    }
+}
+
+impl Away {
+    pub fn ids(&self) -> GraftIds
+        ensures { result ≡ self.now }
+    {
+        self.ids
+    }
+
+    /// The target took the session, so the source keeps nothing of it: the graft is accepted.
+    pub fn cleared(self) -> Outcome
+        ensures { result ≡ Outcome.Accepted }
+    {
+        Outcome::Accepted
+    }
+
+    /// The target sent the session back, so the source holds it again: the graft is refused, for the
+    /// reason that the target gave.
+    pub fn turned_back(self, refusal: Refusal) -> Outcome
+        ensures { result ≡ Outcome.Refused refusal }
+    {
+        Outcome::Refused(refusal)
+    }
+}

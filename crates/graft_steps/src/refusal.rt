@@ -1,0 +1,53 @@
+//! How a graft ends.
+
+use bgp_types::SessionState;
+use graft_edge::{Name, NoMemory, TryCopy};
+
+/// Why a graft is refused. The source refuses for one of the first three reasons, and the target for
+/// one of the last two; where several hold, the first in this order is given. A refused graft leaves
+/// the session at its source as it was.
+#[derive(Debug, Drop)]
+pub enum Refusal {
+    /// The target is the source.
+    SameRouter,
+    /// The session is in this state, and so isn't established.
+    NotEstablished(SessionState),
+    /// The session has this hold time, of 1 to 29 seconds, which could run out while it moves.
+    HoldTooShort(u32),
+    /// The target's places for sessions, of which it has so many, are taken. A session that it sent
+    /// away in a graft that hasn't ended takes its place too.
+    RouterFull(u32),
+    /// The target has no policy of this name. Where it has neither of the peering's two policies,
+    /// this is the name of the import policy.
+    PolicyMissing(Name),
+}
+
+/// How a graft ended.
+#[derive(Debug, Drop)]
+pub enum Outcome {
+    /// The target holds the session.
+    Accepted,
+    /// The source holds the session still, or again.
+    Refused(Refusal),
+}
+
+impl TryCopy for Refusal {
+    fn copy(&self) -> Result<Refusal, NoMemory> {
+        match self {
+            Refusal::SameRouter => Ok(Refusal::SameRouter),
+            Refusal::NotEstablished(state) => Ok(Refusal::NotEstablished(*state)),
+            Refusal::HoldTooShort(hold) => Ok(Refusal::HoldTooShort(*hold)),
+            Refusal::RouterFull(room) => Ok(Refusal::RouterFull(*room)),
+            Refusal::PolicyMissing(name) => Ok(Refusal::PolicyMissing(name.copy()?)),
+        }
+    }
+}
+
+impl TryCopy for Outcome {
+    fn copy(&self) -> Result<Outcome, NoMemory> {
+        match self {
+            Outcome::Accepted => Ok(Outcome::Accepted),
+            Outcome::Refused(refusal) => Ok(Outcome::Refused(refusal.copy()?)),
+        }
+    }
+}

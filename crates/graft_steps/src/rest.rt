@@ -1,0 +1,77 @@
+//! What is left to do before nothing moves any more.
+
+ghost use Rattle.std.specs.Prelude.{◌≡◌};
+ghost use Rattle.std.specs.Cmp.{IsTotalOrder};
+ghost use Rattle.std.specs.FinMap.{IsAntisymmetric};
+ghost use Rattle.graft_steps.specs.Pendings.{pending_cmp};
+
+use graft_edge::{PeeringId, RouterId};
+
+/// A thing that is still to be done. They are ordered by kind, in the order of the kinds here, and
+/// within a kind by their numbers; the first in this order is the one that a report names.
+#[derive(Clone, Copy, Debug, PartialEq, Eq, PartialOrd, Ord, Hash)]
+pub enum Pending {
+    /// A step of the script's present group isn't issued.
+    Script,
+    /// The graft of this number hasn't ended.
+    Graft(u32),
+    /// An item is on its way from the first actor to the second.
+    Channel(u16, u16),
+    /// A segment is on the link of this peering.
+    Bag(PeeringId),
+    /// Bytes of this peering's session aren't acknowledged, or a message of it isn't read.
+    Stream(PeeringId),
+    /// This router has a prefix to decide.
+    Dirty(RouterId),
+    /// The first router has a route to tell the second.
+    DueIn(RouterId, RouterId),
+    /// A route is to be told on the session of this peering.
+    DueOut(PeeringId),
+}
+
+/// What a router still has to do: of each kind the lowest number, where there is any.
+#[derive(Clone, Copy, Debug, PartialEq, Eq, Hash)]
+pub struct RouterRest {
+    /// Which router it is.
+    pub number: RouterId,
+    /// Whether a prefix is to be decided.
+    pub dirty: bool,
+    /// A router to which a route is to be told.
+    pub due_in: Option<RouterId>,
+    /// A peering on whose session a route is to be told.
+    pub due_out: Option<PeeringId>,
+    /// A graft that is ordered here, or whose session is frozen here, or was sent away from here and
+    /// hasn't ended.
+    pub graft: Option<u32>,
+    /// A peering whose session is held here and has put bytes that aren't acknowledged, or isn't
+    /// closed and has unread bytes that begin with a whole message or a faulty header.
+    pub stream: Option<PeeringId>,
+}
+
+/// What a far side still has to do.
+#[derive(Clone, Copy, Debug, PartialEq, Eq, Hash)]
+pub struct FarRest {
+    /// Whose far side it is.
+    pub peering: PeeringId,
+    /// How many segments are on the link, both ways.
+    pub bag: usize,
+    /// Whether bytes that the remote said aren't acknowledged.
+    pub unacked: bool,
+}
+
+/// What the operator still has to do.
+#[derive(Clone, Copy, Debug, PartialEq, Eq, Hash)]
+pub struct OperatorRest {
+    /// Whether a step of the present group isn't issued.
+    pub unissued: bool,
+    /// The lowest number of a graft that was issued and hasn't ended.
+    pub graft: Option<u32>,
+}
+
+/// Pending things are ordered by kind and then by their numbers. Of two of them one is before the
+/// other, unless they are the same.
+pub fn pending_order()
+    ensures derived { (p : Pending) (q : Pending) → ⟦<Pending as Ord>⟧.cmp p q ≡ pending_cmp p q }
+    ensures total { IsTotalOrder pending_cmp }
+    ensures exact { IsAntisymmetric pending_cmp }
+{}
