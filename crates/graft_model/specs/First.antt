@@ -1,7 +1,6 @@
 -- The world that a laboratory begins with.
-use Rattle.std.specs.Prelude.{ℕ, ◌==◌, List, [], false, Option, Some, None, if◌then◌else◌, slice_get}
+use Rattle.std.specs.Prelude.{ℕ, ◌==◌, List, [], false, Option, Some, None, if◌then◌else◌, fold, slice_get}
 use Rattle.std.specs.FinMap as map
-use Rattle.std.specs.List.{fold_insert}
 use Rattle.tcp_seq.specs.Endpoint.{fresh_endpoint}
 use Rattle.session_value.specs.Sessions.{begun}
 use Rattle.graft_model.specs.Setups.{Setup, PeeringSetup, of_router}

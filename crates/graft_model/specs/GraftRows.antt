@@ -32,7 +32,7 @@ pub record Refuses (r k : ℕ) (before : RouterPart) (taken : RouterTakes) (sent
   pub session : SessionValue
   pub live : IsLive before peering session (Some (record { graft = k; target = target }))
   pub refusal : Refusal
-  pub cause : freeze_refusal r target (state session) (hold_time session) ≡ Some refusal
+  pub cause : freeze_refusal (record { 0 = r }) (record { 0 = target }) (state session) (hold_time session) ≡ Some refusal
   pub takes : taken ≡ TakesNothing
   pub sends : sent ≡ ToOperator (record { graft = k; outcome = Refused refusal }) ∷ []
   pub effect : after ≡ record before { places = at before.places peering (Live session None) }
@@ -44,7 +44,7 @@ pub record Freezes (r k : ℕ) (before : RouterPart) (taken : RouterTakes) (sent
   pub target : ℕ
   pub session : SessionValue
   pub live : IsLive before peering session (Some (record { graft = k; target = target }))
-  pub no_cause : freeze_refusal r target (state session) (hold_time session) ≡ None
+  pub no_cause : freeze_refusal (record { 0 = r }) (record { 0 = target }) (state session) (hold_time session) ≡ None
   pub effect : after ≡ record before { places = at before.places peering (Frozen session (record { graft = k; target = target })) }
 
 -- The frozen session leaves for the target. Its routes stay as a shadow, and nothing is due on the peering.

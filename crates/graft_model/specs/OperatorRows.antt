@@ -1,10 +1,10 @@
 -- The events of the operator: steps are ordered, and outcomes of grafts are noted. That the next group begins is an event of the world.
-use Rattle.std.specs.Prelude.{◌≡◌, ◌≢◌, ℕ, ◌<◌, ◌==◌, ◌&&◌, List, [], ◌∷◌, Option, Some, None, option_map, unwrap_or, filter, Bool, true, false, slice_get}
-use Rattle.std.specs.List.{last}
+use Rattle.std.specs.Prelude.{◌≡◌, ◌≢◌, ℕ, ◌<◌, ◌==◌, ◌&&◌, List, [], ◌∷◌, Option, Some, None, filter, map, unwrap_or, Bool, true, false, slice_get}
+use Rattle.std.specs.List.{last_or}
 use Rattle.graft_steps.specs.declared.refusal.Outcome.{Outcome}
 use Rattle.graft_steps.specs.declared.refusal.Outcome.TheVariants.{Accepted, Refused}
 use Rattle.graft_model.specs.Points.{at}
-use Rattle.graft_model.specs.Setups.{Setup, ScriptStep, Say, Graft, Settle, GraftStep, group_of, grafts_in, graft_number}
+use Rattle.graft_model.specs.Setups.{Setup, ScriptStep, Say, Graft, Settle, GraftStep, start_of, group_of, grafts_in, graft_number}
 use Rattle.graft_model.specs.Parts.{OperatorPart, GraftOrder, Report}
 
 pub data OperatorTakes : Type 0 where
@@ -24,9 +24,7 @@ is_accepted (Some (Refused refusal)) = false
 
 -- Where a peering's session belongs by the log: at the target of its last accepted graft, else where it starts.
 abbrev pub placement : Setup → OperatorPart → ℕ → ℕ
-placement setup part p = unwrap_or
-    (option_map (λ g. g.target) (last (filter (λ g. (g.peering == p) && is_accepted (part.outcome g.graft)) (grafts_in setup))))
-    (unwrap_or (option_map (λ peering. peering.start) (slice_get setup.peerings p)) 0)
+placement setup part p = unwrap_or (last_or None (map (λ g. g.target) (filter (λ g. (g.peering == p) && is_accepted (part.outcome g.graft)) (grafts_in setup)))) (start_of setup p)
 
 -- ---- ordering
 
@@ -63,5 +61,5 @@ pub record Notes (router : ℕ) (before : OperatorPart) (taken : OperatorTakes) 
   pub takes : taken ≡ FromRouter router report
   pub sends : sent ≡ []
   pub ordered : before.source report.graft ≢ None
-  pub open : before.outcome report.graft ≡ None
+  pub unended : before.outcome report.graft ≡ None
   pub effect : after ≡ record before { outcome = at before.outcome report.graft (Some report.outcome) }

@@ -1,5 +1,5 @@
 -- What a laboratory is given: the home network, the peerings, and the script of the operator.
-use Rattle.std.specs.Prelude.{ℕ, ◌==◌, ◌+◌, Bool, true, false, List, [], ◌∷◌, length, take, filter, Option, Some, None, option_map, unwrap_or, is_none, slice_get}
+use Rattle.std.specs.Prelude.{ℕ, ◌==◌, ◌+◌, Bool, true, false, List, [], ◌∷◌, length, take, filter, Option, Some, None, option_map, unwrap_or, is_none, if◌then◌else◌, slice_get}
 use Rattle.std.specs.List.{list_any, find, range_with_len}
 use Rattle.std.specs.Str.{bytes_eq}
 use Rattle.bgp_types.specs.Prefixes.{PrefixValue, same_prefix}
@@ -93,6 +93,10 @@ first_of (Some name) other = Some name
 -- the first policy that a session names and a router doesn't have: the import policy before the export policy
 abbrev pub missing_policy : Setup → ℕ → SessionConfig → Option (List ℕ)
 missing_policy setup r config = first_of (unknown setup r config.import) (unknown setup r config.export)
+
+-- the router at which a peering's session starts
+abbrev pub start_of : Setup → ℕ → ℕ
+start_of setup p = unwrap_or (option_map (λ peering. peering.start) (slice_get setup.peerings p)) 0
 
 -- ---- the script
 

@@ -1,5 +1,5 @@
 -- Events of the world: an actor's row, with what it takes from the heads of channels and sends to their ends; and runs of events.
-use Rattle.std.specs.Prelude.{ℕ, ◌≡◌, ◌<◌, ◌+◌, List, [], ◌∷◌, ◌++◌, Bool}
+use Rattle.std.specs.Prelude.{ℕ, zero, suc, fold, ◌≡◌, ◌<◌, ◌+◌, List, [], ◌∷◌, ◌++◌, Bool}
 use Rattle.bgp_types.specs.Prefixes.{PrefixValue}
 use Rattle.tcp_seq.specs.Endpoint.{PlacedSegment}
 use Rattle.graft_model.specs.Points.{at, at2}

@@ -1,1 +1,5 @@
+pub mod Lookups
+pub mod ByteFrom
 pub mod Received
+pub mod Arriving
+pub mod Carried

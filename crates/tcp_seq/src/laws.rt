@@ -1,11 +1,13 @@
-//! What 32-bit numbers say of places in a stream.
+//! What 32-bit numbers say of places in a stream, what an endpoint keeps of what arrives, and what the two endpoints of a
+//! connection receive.
 
-ghost use Rattle.std.specs.Prelude.{ℕ, ◌≡◌, ◌↔◌, ◌≤◌, ◌<◌, ◌+◌, ◌^◌, List};
-ghost use Rattle.std.specs.List.Sorted.{IsStrictlyIncreasing};
+ghost use Rattle.std.specs.Prelude.{ℕ, ◌≡◌, ◌↔◌, ◌≤◌, ◌<◌, ◌+◌, ◌^◌, List, length, take, Some, slice_get};
+ghost use Rattle.std.specs.FinMap as map;
 ghost use Rattle.tcp_seq.specs.declared.rules.AckKind.{AckKind};
 ghost use Rattle.tcp_seq.specs.Numbers.{number, plus, offset_from};
 ghost use Rattle.tcp_seq.specs.Rules.{Acceptable, IsAck, AcceptablePlace, IsPlaceAck, IsInStream};
-ghost use Rattle.tcp_seq.specs.Endpoint.{received_of, IsReceived};
+ghost use Rattle.tcp_seq.specs.Endpoint.{Endpoint, PlacedSegment, Bytes, bytes_in_order, IsReceived, received, received_bytes, TakesSegment, EmitsNext, EmitsAgain, EmitsSlice};
+ghost use Rattle.tcp_seq.specs.Connection.{Connection, fresh_connection, ConnectionStep, ConnectionRun, IsConnection};
 
 /// Going on from a place's number is going on from the place, and the offset of a later place's number
 /// is the distance of the places.
@@ -26,7 +28,35 @@ pub fn acknowledgement_by_places()
         → IsAck kind (number first acked) (number first emitted) (number first ack) ↔ IsPlaceAck kind acked emitted ack }
 {}
 
-/// The received length is the greatest n such that all places below n arrived.
+/// The received length is the greatest n such that all places below n have a byte, and the received bytes are theirs.
 pub fn received_is_greatest()
-    ensures { (arrived : List ℕ) → IsStrictlyIncreasing arrived → IsReceived arrived (received_of arrived) }
+    ensures length { (arrived : Bytes) → IsReceived arrived (length (bytes_in_order arrived)) }
+    ensures bytes { (arrived : Bytes) (k : ℕ) → k < length (bytes_in_order arrived) → slice_get (bytes_in_order arrived) k ≡ map.get arrived k }
+{}
+
+/// Whatever segment arrives, a place that has a byte keeps it, and what was received stays the first part of what is. Which endpoint it
+/// leaves is determined by the one before.
+pub fn a_place_keeps_its_byte()
+    ensures byte { (before after : Endpoint) (segment : PlacedSegment) (place byte : ℕ)
+        → TakesSegment before segment after → map.get before.arrived place ≡ Some byte → map.get after.arrived place ≡ Some byte }
+    ensures received { (before after : Endpoint) (segment : PlacedSegment)
+        → TakesSegment before segment after → received_bytes before ≡ take (received before) (received_bytes after) }
+    ensures one { (before a b : Endpoint) (segment : PlacedSegment) → TakesSegment before segment a → TakesSegment before segment b → a ≡ b }
+{}
+
+/// The next slice, and the one that a turn emits again, are slices that may be emitted.
+pub fn emitted_slices_may_be_emitted()
+    ensures next { (before after : Endpoint) (segment : PlacedSegment)
+        → before.acked ≤ before.emitted → EmitsNext before segment after → EmitsSlice before segment after }
+    ensures again { (before after : Endpoint) (segment : PlacedSegment) → before.emitted ≤ length before.stream
+        → before.emitted ≤ before.acked + 15360 → EmitsAgain before segment after → EmitsSlice before segment after }
+{}
+
+/// Two endpoints are joined by nothing but the segments that each of them ever emitted, and these arrive in any order, any number of
+/// times or never. In every connection that comes about from two fresh endpoints, what each received are the first bytes that the
+/// other sent, no more than the other emitted, and each acknowledged no more than the other received.
+pub fn connection_carries_streams()
+    ensures fresh { IsConnection fresh_connection }
+    ensures step { (before after : Connection) → IsConnection before → ConnectionStep before after → IsConnection after }
+    ensures run { (states : List Connection) (last : Connection) → ConnectionRun fresh_connection states last → IsConnection last }
 {}

@@ -8,11 +8,11 @@ mod rules;
 mod segment;
 mod seq;
 mod state;
-#[cfg(test)]
-mod tests;
 
 pub use laws::{
-    acceptance_by_places, acknowledgement_by_places, numbers_by_places, received_is_greatest,
+    a_place_keeps_its_byte, acceptance_by_places, acknowledgement_by_places,
+    connection_carries_streams, emitted_slices_may_be_emitted, numbers_by_places,
+    received_is_greatest,
 };
 pub use rules::{AckKind, acceptable, ack_kind};
 pub use segment::{Segment, Way};

@@ -1,0 +1,107 @@
+-- What a segment that arrives changes.
+use Rattle.std.proofs.Common.{◌≡◌, ◌≢◌, ℕ, zero, suc, ◌+◌, ◌<◌, ◌≤◌, max, List, length, take, Option, None, Some, cond, Bool, true, false, refl, sym, ap, subst, ◌∙◌, arith, inl, inr}
+use Rattle.std.specs.Prelude.{nat_lt, nat_le, is_some, ◌==◌, ◌||◌, ◌&&◌, if◌then◌else◌}
+use Rattle.std.specs.Option.{option_or}
+use Rattle.std.specs.Cmp.{nat_cmp_total, unsigned_tied}
+use Rattle.std.specs.FinMap as map
+use Rattle.std.proofs.lemmas.Bool.Decides.{nat_tests}
+use Rattle.std.proofs.lemmas.Bool.{cases_lt, cases_eq, lt-ltb, le-ltb}
+use Rattle.std.proofs.lemmas.List.{take_all}
+use Rattle.tcp_seq.specs.Endpoint.{Bytes, Endpoint, PlacedSegment, received, received_bytes, byte_from, byte_brought, DropsSegment, AcceptsSegment, TakesSegment}
+use Rattle.tcp_seq.proofs.Lookups.{or_none}
+use Rattle.tcp_seq.proofs.ByteFrom.{byte_past}
+use Rattle.tcp_seq.proofs.Received.{in_order_grows}
+
+-- A byte put at a place where there is none
+put_one : Option ℕ → ℕ → Bytes → Bytes
+put_one None k m = m
+put_one (Some byte) k m = if is_some (map.get m k) then m else map.insert m k byte
+
+put_here_by : (there : Option ℕ) (byte k : ℕ) (m : Bytes) → map.get m k ≡ there → map.get (if is_some there then m else map.insert m k byte) k ≡ option_or there (Some byte)
+put_here_by None byte k m is =
+    map.get-insert nat_cmp_total m k byte k
+    ∙ ap (λ (b : Bool). cond b (Some byte) (map.get m k)) (unsigned_tied k k ∙ (let t : (k == k) ≡ true = grind (arith, nat_tests) in t))
+put_here_by (Some x) byte k m is = is
+
+put_here : (o : Option ℕ) (k : ℕ) (m : Bytes) → map.get (put_one o k m) k ≡ option_or (map.get m k) o
+unfolding put_one
+put_here None k m = sym (or_none (map.get m k))
+put_here (Some byte) k m = put_here_by (map.get m k) byte k m refl
+
+put_other_by : (b : Bool) (byte k q : ℕ) (m : Bytes) → q ≢ k → map.get (if b then m else map.insert m k byte) q ≡ map.get m q
+put_other_by true byte k q m not = refl
+put_other_by false byte k q m not =
+    map.get-insert nat_cmp_total m k byte q
+    ∙ ap (λ (b : Bool). cond b (Some byte) (map.get m q)) (unsigned_tied q k ∙ (let t : (q == k) ≡ false = grind (arith, nat_tests) in t))
+
+put_other : (o : Option ℕ) (k q : ℕ) (m : Bytes) → q ≢ k → map.get (put_one o k m) q ≡ map.get m q
+unfolding put_one
+put_other None k q m not = refl
+put_other (Some byte) k q m not = put_other_by (is_some (map.get m k)) byte k q m not
+
+-- The same at all places below n
+put_below : (ℕ → Option ℕ) → ℕ → Bytes → Bytes
+put_below f zero m = m
+put_below f (suc n) m = put_one (f n) n (put_below f n m)
+
+below_test : (n q : ℕ) → q ≢ n → nat_lt q n ≡ nat_lt q (suc n)
+below_test n q not = elim (cases_lt q n) [
+  | inl below ↦ lt-ltb q n below ∙ sym (lt-ltb q (suc n) (omega (arith, below)))
+  | inr past ↦ le-ltb q n past ∙ sym (le-ltb q (suc n) (omega (arith, past, not)))
+]
+
+put_next : (f : ℕ → Option ℕ) (n : ℕ) (m more : Bytes) → ((q : ℕ) → map.get more q ≡ option_or (map.get m q) (if nat_lt q n then f q else None))
+    → (q : ℕ) → map.get (put_one (f n) n more) q ≡ option_or (map.get m q) (if nat_lt q (suc n) then f q else None)
+put_next f n m more rest q = elim (cases_eq q n) [
+  | inl is ↦ subst (λ (k : ℕ). map.get (put_one (f n) n more) k ≡ option_or (map.get m k) (if nat_lt k (suc n) then f k else None)) (sym is)
+      (put_here (f n) n more
+      ∙ ap (λ (o : Option ℕ). option_or o (f n)) (rest n ∙ ap (λ (b : Bool). option_or (map.get m n) (if b then f n else None)) (le-ltb n n (omega arith)) ∙ or_none (map.get m n))
+      ∙ sym (ap (λ (b : Bool). option_or (map.get m n) (if b then f n else None)) (lt-ltb n (suc n) (omega arith))))
+  | inr not ↦ put_other (f n) n q more not ∙ rest q ∙ ap (λ (b : Bool). option_or (map.get m q) (if b then f q else None)) (below_test n q not)
+]
+
+get-put_below : (f : ℕ → Option ℕ) (n : ℕ) (m : Bytes) (q : ℕ) → map.get (put_below f n m) q ≡ option_or (map.get m q) (if nat_lt q n then f q else None)
+unfolding put_below
+get-put_below f zero m q = sym (ap (λ (b : Bool). option_or (map.get m q) (if b then f q else None)) (le-ltb q 0 (omega arith)) ∙ or_none (map.get m q))
+get-put_below f (suc n) m q = put_next f n m (put_below f n m) (get-put_below f n m) q
+
+-- what has arrived after a segment was accepted
+pub accepted : Endpoint → PlacedSegment → Bytes
+accepted e p = put_below (byte_brought e p) (p.place + length p.bytes) e.arrived
+
+none_if : (b : Bool) (o : Option ℕ) → o ≡ None → (if b then o else None) ≡ None
+none_if true o is = is
+none_if false o is = refl
+
+pub get-accepted : (e : Endpoint) (p : PlacedSegment) (k : ℕ) → map.get (accepted e p) k ≡ option_or (map.get e.arrived k) (byte_brought e p k)
+unfolding accepted
+get-accepted e p k =
+    let n = p.place + length p.bytes in
+    get-put_below (byte_brought e p) n e.arrived k
+    ∙ ap (option_or (map.get e.arrived k)) (elim (cases_lt k n) as (λ _. (if nat_lt k n then byte_brought e p k else None) ≡ byte_brought e p k) [
+      | inl below ↦ ap (λ (b : Bool). if b then byte_brought e p k else None) (lt-ltb k n below)
+      | inr past ↦ ap (λ (b : Bool). if b then byte_brought e p k else None) (le-ltb k n past)
+          ∙ sym (none_if (nat_le (received e) k && nat_lt k (received e + 16384)) (byte_from p.place p.bytes k) (byte_past p.place p.bytes k past))
+    ])
+
+-- A place keeps its byte
+stays_or : (o more : Option ℕ) (byte : ℕ) → o ≡ Some byte → option_or o more ≡ Some byte
+stays_or o more byte is = ap (λ (p : Option ℕ). option_or p more) is
+
+pub byte_stays : (before after : Endpoint) (segment : PlacedSegment) (place byte : ℕ) → TakesSegment before segment after → map.get before.arrived place ≡ Some byte → map.get after.arrived place ≡ Some byte
+byte_stays before after segment place byte (inl drops) is = ap (λ (e : Endpoint). map.get e.arrived place) drops.stays ∙ is
+byte_stays before after segment place byte (inr accepts) is = accepts.arrived place ∙ stays_or (map.get before.arrived place) (byte_brought before segment place) byte is
+
+pub received_stays : (before after : Endpoint) (segment : PlacedSegment) → TakesSegment before segment after → received_bytes before ≡ take (received before) (received_bytes after)
+received_stays before after segment takes = in_order_grows before.arrived after.arrived (λ k byte is. byte_stays before after segment k byte takes is)
+
+-- One endpoint is left
+pub leaves_one : (before a b : Endpoint) (segment : PlacedSegment) → TakesSegment before segment a → TakesSegment before segment b → a ≡ b
+leaves_one before a b segment (inl drops) (inl drops') = drops.stays ∙ sym drops'.stays
+leaves_one before a b segment (inl drops) (inr accepts) = elim drops.cause [ inl not ↦ absurd (not accepts.acceptable) | inr beyond ↦ absurd (accepts.within beyond) ]
+leaves_one before a b segment (inr accepts) (inl drops) = elim drops.cause [ inl not ↦ absurd (not accepts.acceptable) | inr beyond ↦ absurd (accepts.within beyond) ]
+leaves_one before a b segment (inr accepts) (inr accepts') =
+    let same : a.arrived ≡ b.arrived = map.same_map nat_cmp_total map.nat_cmp-IsAntisymmetric a.arrived b.arrived (λ k. accepts.arrived k ∙ sym (accepts'.arrived k)) in
+    accepts.changed
+    ∙ ap (λ (m : Bytes). let e : Endpoint = record before { acked = max before.acked segment.ack; arrived = m; owed = before.owed || nat_lt 0 (length segment.bytes) } in e) same
+    ∙ sym accepts'.changed
