@@ -13,3 +13,5 @@ pub mod Quiet
 pub mod Steps
 pub mod First
 pub mod Claims
+pub mod Codes
+pub mod Laws
