@@ -9,6 +9,10 @@ use Rattle.bgp_types.proofs.FrameLaws.{IsFrame, front_frame, frame_is, frame_rea
 use Rattle.bgp_types.proofs.ManyLaws.{many_front}
 use Rattle.bgp_frame.specs.Streams.{Stream, Call, Feed, Ask, asked, called, all_called, begun, IsStream, IsStuck}
 
+-- the frame at the front of bytes is whole by itself
+pub front_is_whole : (bytes frame rest : List ℕ) → frame_at bytes ≡ Some (frame, rest) → frame_at frame ≡ Some (frame, [])
+front_is_whole bytes frame rest e = ap frame_at (sym (append-nil frame)) ∙ (front_frame bytes (frame, rest) e).1 []
+
 record Kept (s : Stream) : Type 0 where
   joined : flat_map (λ (frame : List ℕ). frame) s.given ++ s.held ≡ s.fed
   each : AllByRecursion IsFrame s.given

@@ -1,6 +1,6 @@
 //! Bytes in, messages out.
 
-ghost use Rattle.std.specs.Prelude.{◌≡◌, ◌++◌, [], OnOk, OnErr};
+ghost use Rattle.std.specs.Prelude.{◌≡◌, ◌++◌, [], Some, IfOk, IfSome, OnOk, OnErr};
 ghost use Rattle.bgp_types.specs.Header.{frame_at};
 ghost use Rattle.bgp_frame.specs.Next.{Next, has_next, begins};
 
@@ -100,8 +100,10 @@ impl Framer {
     /// Gives the next message, where it is whole; none where fewer octets are held than a header
     /// has, or than a sound header says. A faulty header is answered from then on. After it, and
     /// after `NoMemory`, the same bytes are held.
+    #[tactic(auto, using(crate::proofs::StreamLaws::front_is_whole))]
     pub fn next(&mut self) -> Result<Option<Frame>, FrameStop>
-        ensures { Next result self.old self.new }
+        ensures answer { Next result self.old self.new }
+        ensures whole { IfOk result (λ frame. IfSome frame (λ f. frame_at f.bytes ≡ Some (f.bytes, []))) }
     {
         let octets = self.held.as_slice();
         let len = match whole_at(octets) {

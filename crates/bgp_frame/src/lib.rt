@@ -9,5 +9,3 @@ pub use bgp_types::HeaderFault;
 pub use framer::{Frame, FrameStop, Framer};
 pub use laws::{any_pieces, fault_stays};
 
-#[cfg(test)]
-mod tests;

@@ -14,7 +14,7 @@ use Rattle.bgp_types.specs.FirstFault.{message_of}
 use Rattle.bgp_story.specs.declared.line.Line.{Line}
 use Rattle.bgp_story.specs.declared.line.Line.TheVariants.{Put, Got, Tick}
 use Rattle.bgp_story.specs.Laws.{HasCause}
-use Rattle.bgp_story.specs.Legal.{Peering, Allowed, opened, got, told, passed, IsGot, reply_to, reply_at, hold_expired, is_up, expected, hold, silence}
+use Rattle.bgp_story.specs.Legal.{Peering, Allowed, opened, got, updated, passed, IsGot, reply_to, reply_at, hold_expired, is_up, expected_next, hold, silence}
 use Rattle.bgp_story.specs.States.{is_type, with_keepalive_got, after_got, after, state_of, Begins}
 use Rattle.bgp_story.proofs.HeaderKinds.{read_of, read_type, notice_sound}
 use Rattle.bgp_story.proofs.Splits.{Cut, behind, ahead, cut_of}
@@ -57,8 +57,8 @@ up_open Closed e = absurd cc
 of_reply : (state : SessionState) (line : Line) (r : List Line × SessionState) (answer : List Line) (next : SessionState) → r ≡ (answer, next) → Brief state line r.0 → Brief state line answer
 of_reply state line r answer next e b = subst (λ (x : List Line × SessionState). Brief state line x.0) e b
 
-got_short : (p : Peering) (before : List Line) (state : SessionState) (bytes : List ℕ) (answer : List Line) (next : SessionState) → state ≢ Closed → IsGot bytes → reply_to (message_of (expected p before state) bytes) ≡ (answer, next) → Brief state (Got bytes) answer
-got_short p before state bytes answer next o w r = of_reply state (Got bytes) _ answer next r (got_brief (expected p before state) bytes o w (message_of (expected p before state) bytes) refl)
+got_short : (p : Peering) (before : List Line) (state : SessionState) (bytes : List ℕ) (answer : List Line) (next : SessionState) → state ≢ Closed → IsGot bytes → reply_to (message_of (expected_next p before state) bytes) ≡ (answer, next) → Brief state (Got bytes) answer
+got_short p before state bytes answer next o w r = of_reply state (Got bytes) _ answer next r (got_brief (expected_next p before state) bytes o w (message_of (expected_next p before state) bytes) refl)
 
 passed_short : (h c round : ℕ) (state : SessionState) (answer : List Line) (next : SessionState) → is_up state ≡ true → reply_at h c round state ≡ (answer, next) → Brief state (Tick round) answer
 passed_short h c round state answer next up r = of_reply state (Tick round) _ answer next r (round_brief (eqb c h) (eqb (round % (h / 3)) 0) state round (up_open state up))
@@ -94,10 +94,10 @@ first_line l [] y ys e = λ c. cc
 first_line l (x ∷ xs) y ys e = let h : ◌≡◌ {A = List Line} [] (xs ++ y ∷ ys) = cc in absurd (some_left xs y ys h)
 
 pub open_before : (p : Peering) (lines : List Line) (state : SessionState) → Allowed p lines state → (xs : List Line) (y : Line) (ys : List Line) → lines ≡ xs ++ y ∷ ys → state_of xs ≢ Closed
-open_before p _ _ (opened lines e) xs y ys f = first_line _ xs y ys (sym e ∙ f)
+open_before p _ _ (opened lines h e) xs y ys f = first_line _ xs y ys (sym e ∙ f)
 open_before p _ _ (got before state bytes answer next lines l o w r e) xs y ys f =
     closed_step xs y ys before state (Got bytes) answer (state_is p before state l) o (got_short p before state bytes answer next o w r) (open_before p before state l) (sym f ∙ e)
-open_before p _ _ (told before u lines l w c e) xs y ys f =
+open_before p _ _ (updated before u lines l w c e) xs y ys f =
     closed_step xs y ys before Established (Put (UpdateMsg u)) [] (state_is p before Established l) (λ g. cc) no_answer (open_before p before Established l) (sym f ∙ e)
 open_before p _ _ (passed before state round answer next lines l up h a r e) xs y ys f =
     closed_step xs y ys before state (Tick round) answer (state_is p before state l) (up_open state up) (passed_short (hold p before) (silence before + 1) round state answer next up r) (open_before p before state l) (sym f ∙ e)
@@ -151,13 +151,13 @@ first_cause p n o [] ys other e = absurd (other cc)
 first_cause p n o (x ∷ xs) ys other e = let h : ◌≡◌ {A = List Line} [] (xs ++ Put (NoticeMsg n) ∷ ys) = cc in absurd (some_left xs (Put (NoticeMsg n)) ys h)
 
 pub cause_of : (p : Peering) (lines : List Line) (state : SessionState) → Allowed p lines state → (n : Notice) (xs ys : List Line) → lines ≡ xs ++ Put (NoticeMsg n) ∷ ys → HasCause p xs n
-cause_of p _ _ (opened lines e) n xs ys f = first_cause p n (OpenMsg p.first) xs ys (λ g. cc) (sym e ∙ f)
+cause_of p _ _ (opened lines h e) n xs ys f = first_cause p n (OpenMsg p.first) xs ys (λ g. cc) (sym e ∙ f)
 cause_of p _ _ (got before state bytes answer next lines l o w r e) n xs ys f =
-    let m : Result Message Notice = message_of (expected p before state) bytes in
+    let m : Result Message Notice = message_of (expected_next p before state) bytes in
     cause_step p n xs ys before state (Got bytes) answer (λ g. cc) (got_short p before state bytes answer next o w r)
-    (λ h. inl (record { before = before; state = state; bytes = bytes; allowed = l; last = refl; fault = got_cause (expected p before state) bytes n ys answer next m refl r h }))
+    (λ h. inl (record { before = before; state = state; bytes = bytes; allowed = l; last = refl; fault = got_cause (expected_next p before state) bytes n ys answer next m refl r h }))
     (cause_of p before state l n) (sym f ∙ e)
-cause_of p _ _ (told before u lines l w c e) n xs ys f =
+cause_of p _ _ (updated before u lines l w c e) n xs ys f =
     cause_step p n xs ys before Established (Put (UpdateMsg u)) [] (λ g. cc) no_answer (λ h. absurd cc) (cause_of p before Established l n) (sym f ∙ e)
 cause_of p _ _ (passed before state round answer next lines l up h a r e) n xs ys f =
     cause_step p n xs ys before state (Tick round) answer (λ g. cc) (passed_short (hold p before) (silence before + 1) round state answer next up r)

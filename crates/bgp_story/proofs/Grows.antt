@@ -16,7 +16,7 @@ use Rattle.bgp_types.specs.FirstFault.{message_of}
 use Rattle.bgp_types.specs.Spelling.{spell}
 use Rattle.bgp_story.specs.declared.line.Line.{Line}
 use Rattle.bgp_story.specs.declared.line.Line.TheVariants.{Put, Got, Tick}
-use Rattle.bgp_story.specs.Legal.{Peering, Allowed, opened, got, told as told_step, passed, got_open, open_in, both_offer, smaller_hold, is_wide, hold, is_up, expected, reply_to}
+use Rattle.bgp_story.specs.Legal.{Peering, Allowed, opened, got, updated, passed, got_open, open_in, both_offer, smaller_hold, is_wide, hold, is_up, expected_next, reply_to}
 use Rattle.bgp_story.specs.Opens.{offers}
 use Rattle.bgp_story.specs.Readings.{Routes, put_in, put_bytes, got_in, got_bytes, tell, hear, unless_closed, told, heard}
 use Rattle.bgp_story.specs.States.{state_of}
@@ -31,7 +31,7 @@ PutsNoUpdate (Put KeepaliveMsg) = Unit {0}
 PutsNoUpdate (Got _) = Unit {0}
 PutsNoUpdate (Tick _) = Unit {0}
 
-answer_no_update : (line : Line) → IsAnswer line → PutsNoUpdate line
+pub answer_no_update : (line : Line) → IsAnswer line → PutsNoUpdate line
 answer_no_update (Put (OpenMsg _)) a = tt
 answer_no_update (Put (UpdateMsg _)) a = a
 answer_no_update (Put (NoticeMsg _)) a = tt
@@ -68,19 +68,19 @@ first_got p bytes answer next lines (Ok (NoticeMsg n)) g f a e =
 first_got p bytes answer next lines (Err n) g f a e =
     failed (subst (λ (x : List Line). AllByRecursion PutsNoUpdate x) (sym e) (tt, (tt, all_weaken IsAnswer PutsNoUpdate answer_no_update answer a))) (sym (ap (λ (x : List Line × SessionState). x.1) f))
 
-alone_got : (p : Peering) (before : List Line) (state : SessionState) (bytes : List ℕ) (answer : List Line) (next : SessionState) (lines : List Line) → before ≡ Put (OpenMsg p.first) ∷ [] → state ≡ OpenSent → reply_to (message_of (expected p before state) bytes) ≡ (answer, next) → lines ≡ before ++ Got bytes ∷ answer → Stage p lines next
+alone_got : (p : Peering) (before : List Line) (state : SessionState) (bytes : List ℕ) (answer : List Line) (next : SessionState) (lines : List Line) → before ≡ Put (OpenMsg p.first) ∷ [] → state ≡ OpenSent → reply_to (message_of (expected_next p before state) bytes) ≡ (answer, next) → lines ≡ before ++ Got bytes ∷ answer → Stage p lines next
 alone_got p before state bytes answer next lines f g r e =
-    let same : expected p before state ≡ first_expected p = ap (λ (x : List Line). expected p x state) f ∙ ap (λ (x : SessionState). expected p (Put (OpenMsg p.first) ∷ []) x) g in
+    let same : expected_next p before state ≡ first_expected p = ap (λ (x : List Line). expected_next p x state) f ∙ ap (λ (x : SessionState). expected_next p (Put (OpenMsg p.first) ∷ []) x) g in
     first_got p bytes answer next lines (message_of (first_expected p) bytes) refl (ap (λ (x : Expected). reply_to (message_of x bytes)) (sym same) ∙ r) (got_answers p before state bytes answer next r) (e ∙ ap (λ (x : List Line). x ++ Got bytes ∷ answer) f)
 
 stage : (p : Peering) (lines : List Line) (state : SessionState) → Allowed p lines state → Stage p lines state
-stage p _ _ (opened lines e) = alone e refl
+stage p _ _ (opened lines h e) = alone e refl
 stage p _ _ (got before state bytes answer next lines l o w r e) = by_stage (stage p before state l) where
   by_stage : Stage p before state → Stage p lines next
   by_stage (joined m f) = joined_more p before (Got bytes ∷ answer) lines next m e f
   by_stage (alone f g) = alone_got p before state bytes answer next lines f g r e
   by_stage (failed f g) = absurd (o g)
-stage p _ _ (told_step before u lines l w c e) = by_stage (stage p before Established l) where
+stage p _ _ (updated before u lines l w c e) = by_stage (stage p before Established l) where
   by_stage : Stage p before Established → Stage p lines Established
   by_stage (joined m f) = joined_more p before (Put (UpdateMsg u) ∷ []) lines Established m e f
   by_stage (alone f g) = absurd cc
@@ -134,7 +134,7 @@ got_grows lines more = flat_map-append got_in lines more
 
 -- ---- tables
 
-while_open : (state : SessionState) → state ≢ Closed → (routes : Routes) → unless_closed state routes ≡ routes
+pub while_open : (state : SessionState) → state ≢ Closed → (routes : Routes) → unless_closed state routes ≡ routes
 while_open OpenSent o routes = refl
 while_open OpenConfirm o routes = refl
 while_open Established o routes = refl
@@ -146,22 +146,22 @@ told_grows lines more o q =
     ∙ (fold-append tell map.empty lines more
     ∙ ap (λ (x : Routes). fold tell x more) (sym (while_open (state_of lines) o (fold tell map.empty lines))))
 
-heard_front : (p : Peering) (lines more : List Line) (state : SessionState) → Stage p lines state → state ≢ Closed → fold (hear (expected p (lines ++ more) Established)) map.empty lines ≡ fold (hear (expected p lines Established)) map.empty lines
+heard_front : (p : Peering) (lines more : List Line) (state : SessionState) → Stage p lines state → state ≢ Closed → fold (hear (expected_next p (lines ++ more) Established)) map.empty lines ≡ fold (hear (expected_next p lines Established)) map.empty lines
 heard_front p lines more state (joined o f) c = ap (λ (x : Option open_type.OpenMsg). fold (hear (record { state = Established; remote_as = p.remote_as; offered = offers p.first; wide = both_offer p.first x })) map.empty lines) (got_open-append p lines more o f ∙ sym f)
-heard_front p lines more state (alone f g) c = only_open (expected p (lines ++ more) Established) ∙ sym (only_open (expected p lines Established)) where
+heard_front p lines more state (alone f g) c = only_open (expected_next p (lines ++ more) Established) ∙ sym (only_open (expected_next p lines Established)) where
   only_open : (e : Expected) → fold (hear e) map.empty lines ≡ map.empty
   only_open e = ap (λ (x : List Line). fold (hear e) map.empty x) f
 heard_front p lines more state (failed f g) c = absurd (c g)
 
-pub heard_grows : (p : Peering) (lines more : List Line) (state : SessionState) → state_of lines ≡ state → Allowed p lines state → state ≢ Closed → state_of (lines ++ more) ≢ Closed → heard p (lines ++ more) ≡ fold (hear (expected p (lines ++ more) Established)) (heard p lines) more
+pub heard_grows : (p : Peering) (lines more : List Line) (state : SessionState) → state_of lines ≡ state → Allowed p lines state → state ≢ Closed → state_of (lines ++ more) ≢ Closed → heard p (lines ++ more) ≡ fold (hear (expected_next p (lines ++ more) Established)) (heard p lines) more
 heard_grows p lines more state s l o q =
-    let e : Expected = expected p (lines ++ more) Established in
+    let e : Expected = expected_next p (lines ++ more) Established in
     while_open (state_of (lines ++ more)) q (fold (hear e) map.empty (lines ++ more))
     ∙ (fold-append (hear e) map.empty lines more
-    ∙ ap (λ (x : Routes). fold (hear e) x more) (heard_front p lines more state (stage p lines state l) o ∙ sym (while_open (state_of lines) (λ c. o (sym s ∙ c)) (fold (hear (expected p lines Established)) map.empty lines))))
+    ∙ ap (λ (x : Routes). fold (hear e) x more) (heard_front p lines more state (stage p lines state l) o ∙ sym (while_open (state_of lines) (λ c. o (sym s ∙ c)) (fold (hear (expected_next p lines Established)) map.empty lines))))
 
 pub none_told : (lines : List Line) → state_of lines ≡ Closed → told lines ≡ map.empty
 none_told lines e = ap (λ (x : SessionState). unless_closed x (fold tell map.empty lines)) e
 
 pub none_heard : (p : Peering) (lines : List Line) → state_of lines ≡ Closed → heard p lines ≡ map.empty
-none_heard p lines e = ap (λ (x : SessionState). unless_closed x (fold (hear (expected p lines Established)) map.empty lines)) e
+none_heard p lines e = ap (λ (x : SessionState). unless_closed x (fold (hear (expected_next p lines Established)) map.empty lines)) e

@@ -4,4 +4,6 @@ pub mod StoryLaws
 pub mod Shapes
 pub mod Ends
 pub mod Grows
-pub mod StoryRow
+pub mod Updates
+pub mod Ranges
+pub mod WorkedStories

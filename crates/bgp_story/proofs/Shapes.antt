@@ -10,16 +10,16 @@ use Rattle.bgp_types.specs.FirstFault.{message_of}
 use Rattle.bgp_story.specs.declared.line.Line.{Line}
 use Rattle.bgp_story.specs.declared.line.Line.TheVariants.{Put, Got, Tick}
 use Rattle.bgp_story.specs.Laws.{PutsNoOpen, OpensOnce, IsGotLine}
-use Rattle.bgp_story.specs.Legal.{Peering, Allowed, opened, got, told, passed, reply_to, reply_at, hold_expired, expected, hold, silence}
+use Rattle.bgp_story.specs.Legal.{Peering, Allowed, opened, got, updated, passed, reply_to, reply_at, hold_expired, expected_next, hold, silence}
 use Rattle.bgp_story.specs.Readings.{IsLegal}
 use Rattle.bgp_story.proofs.Splits.{all_append}
 
 -- ---- legal is allowed
 
 pub allowed_of : (p : Peering) (lines : List Line) (state : SessionState) → IsLegal p lines state → Allowed p lines state
-allowed_of p _ _ (opened lines e) = opened lines e
+allowed_of p _ _ (opened lines h e) = opened lines h e
 allowed_of p _ _ (got before state bytes answer next lines l o w r e) = got before state bytes answer next lines (allowed_of p before state l) o w r e
-allowed_of p _ _ (told before u lines l w c e) = told before u lines (allowed_of p before Established l) w tt e
+allowed_of p _ _ (updated before u lines l w c e) = updated before u lines (allowed_of p before Established l) w tt e
 allowed_of p _ _ (passed before state round answer next lines l up h a r e) = passed before state round answer next lines (allowed_of p before state l) up h a r e
 
 -- ---- answers are short: a KEEPALIVE, a NOTIFICATION or none
@@ -49,8 +49,8 @@ round_answers false false state = tt
 of_reply : (r : List Line × SessionState) (answer : List Line) (next : SessionState) → r ≡ (answer, next) → AllByRecursion IsAnswer r.0 → AllByRecursion IsAnswer answer
 of_reply r answer next e a = subst (λ (x : List Line × SessionState). AllByRecursion IsAnswer x.0) e a
 
-pub got_answers : (p : Peering) (before : List Line) (state : SessionState) (bytes : List ℕ) (answer : List Line) (next : SessionState) → reply_to (message_of (expected p before state) bytes) ≡ (answer, next) → AllByRecursion IsAnswer answer
-got_answers p before state bytes answer next r = of_reply _ answer next r (reply_answers (message_of (expected p before state) bytes))
+pub got_answers : (p : Peering) (before : List Line) (state : SessionState) (bytes : List ℕ) (answer : List Line) (next : SessionState) → reply_to (message_of (expected_next p before state) bytes) ≡ (answer, next) → AllByRecursion IsAnswer answer
+got_answers p before state bytes answer next r = of_reply _ answer next r (reply_answers (message_of (expected_next p before state) bytes))
 
 pub passed_answers : (h c round : ℕ) (state : SessionState) (answer : List Line) (next : SessionState) → reply_at h c round state ≡ (answer, next) → AllByRecursion IsAnswer answer
 passed_answers h c round state answer next r = of_reply _ answer next r (round_answers (eqb c h) (eqb (round % (h / 3)) 0) state)
@@ -88,10 +88,10 @@ once_more p before step lines e a k = record {
 }
 
 pub opens_once_is : (p : Peering) (lines : List Line) (state : SessionState) → Allowed p lines state → OpensOnce p lines
-opens_once_is p _ _ (opened lines e) = record { rest = []; first = e; others = tt }
+opens_once_is p _ _ (opened lines h e) = record { rest = []; first = e; others = tt }
 opens_once_is p _ _ (got before state bytes answer next lines l o w r e) =
     once_more p before (Got bytes ∷ answer) lines e (tt, no_open answer (got_answers p before state bytes answer next r)) (opens_once_is p before state l)
-opens_once_is p _ _ (told before u lines l w c e) = once_more p before (Put (UpdateMsg u) ∷ []) lines e (tt, tt) (opens_once_is p before Established l)
+opens_once_is p _ _ (updated before u lines l w c e) = once_more p before (Put (UpdateMsg u) ∷ []) lines e (tt, tt) (opens_once_is p before Established l)
 opens_once_is p _ _ (passed before state round answer next lines l up h a r e) =
     once_more p before (Tick round ∷ answer) lines e (tt, no_open answer (passed_answers (hold p before) (silence before + 1) round state answer next r)) (opens_once_is p before state l)
 
@@ -101,9 +101,9 @@ frames_more : (before step lines : List Line) → lines ≡ before ++ step → A
 frames_more before step lines e a b = rw e (all_append IsGotLine before step b a)
 
 pub got_in_frames_is : (p : Peering) (lines : List Line) (state : SessionState) → Allowed p lines state → AllByRecursion IsGotLine lines
-got_in_frames_is p _ _ (opened lines e) = rw e (tt, tt)
+got_in_frames_is p _ _ (opened lines h e) = rw e (tt, tt)
 got_in_frames_is p _ _ (got before state bytes answer next lines l o w r e) =
     frames_more before (Got bytes ∷ answer) lines e (w, no_got answer (got_answers p before state bytes answer next r)) (got_in_frames_is p before state l)
-got_in_frames_is p _ _ (told before u lines l w c e) = frames_more before (Put (UpdateMsg u) ∷ []) lines e (tt, tt) (got_in_frames_is p before Established l)
+got_in_frames_is p _ _ (updated before u lines l w c e) = frames_more before (Put (UpdateMsg u) ∷ []) lines e (tt, tt) (got_in_frames_is p before Established l)
 got_in_frames_is p _ _ (passed before state round answer next lines l up h a r e) =
     frames_more before (Tick round ∷ answer) lines e (tt, no_got answer (passed_answers (hold p before) (silence before + 1) round state answer next r)) (got_in_frames_is p before state l)

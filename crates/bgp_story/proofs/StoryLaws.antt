@@ -11,7 +11,7 @@ use Rattle.bgp_types.specs.declared.message.SessionState.TheVariants.{OpenSent, 
 use Rattle.bgp_types.specs.FirstFault.{is_in_state, message_of}
 use Rattle.bgp_story.specs.declared.line.Line.{Line}
 use Rattle.bgp_story.specs.declared.line.Line.TheVariants.{Put, Got, Tick}
-use Rattle.bgp_story.specs.Legal.{Peering, Allowed, opened, got, told, passed, IsGot, reply_to, hold_expired, is_up, expected, hold, silence}
+use Rattle.bgp_story.specs.Legal.{Peering, Allowed, opened, got, updated, passed, IsGot, reply_to, hold_expired, is_up, expected_next, hold, silence}
 use Rattle.bgp_story.specs.States.{is_type, with_keepalive_put, with_keepalive_got, after_got, after, state_of}
 use Rattle.bgp_story.proofs.HeaderKinds.{read_of, read_type}
 
@@ -76,11 +76,11 @@ stepped : (before step lines : List Line) (state next : SessionState) → lines 
 stepped before step lines state next e f g = ap state_of e ∙ (fold-append after OpenSent before step ∙ (ap (λ (x : SessionState). fold after x step) f ∙ g))
 
 pub state_is : (p : Peering) (lines : List Line) (state : SessionState) → Allowed p lines state → state_of lines ≡ state
-state_is p _ _ (opened lines e) = ap state_of e
+state_is p _ _ (opened lines h e) = ap state_of e
 state_is p _ _ (got before state bytes answer next lines l o w r e) =
     stepped before (Got bytes ∷ answer) lines state next e (state_is p before state l)
-    (replied state (Got bytes) _ answer next r (got_step (expected p before state) bytes w (message_of (expected p before state) bytes) refl))
-state_is p _ _ (told before u lines l w c e) =
+    (replied state (Got bytes) _ answer next r (got_step (expected_next p before state) bytes w (message_of (expected_next p before state) bytes) refl))
+state_is p _ _ (updated before u lines l w c e) =
     stepped before (Put (UpdateMsg u) ∷ []) lines Established Established e (state_is p before Established l) refl
 state_is p _ _ (passed before state round answer next lines l up h a r e) =
     stepped before (Tick round ∷ answer) lines state next e (state_is p before state l)

@@ -8,7 +8,7 @@ use Rattle.bgp_types.specs.declared.message.SessionState.{SessionState}
 use Rattle.bgp_types.specs.FirstFault.{first_fault}
 use Rattle.bgp_story.specs.declared.line.Line.{Line}
 use Rattle.bgp_story.specs.declared.line.Line.TheVariants.{Put, Got, Tick}
-use Rattle.bgp_story.specs.Legal.{Peering, Allowed, IsGot, expected, silence, hold, hold_expired}
+use Rattle.bgp_story.specs.Legal.{Peering, Allowed, IsGot, expected_next, silence, hold, hold_expired}
 
 abbrev pub IsNoOpen : Message → Type 0
 IsNoOpen (OpenMsg _) = ⊥
@@ -39,7 +39,7 @@ pub record EndsInFault (p : Peering) (lines : List Line) (n : Notice) : Type 0 w
   pub bytes : List ℕ
   pub allowed : Allowed p before state
   pub last : lines ≡ before ++ Got bytes ∷ []
-  pub fault : first_fault bytes (expected p before state) ≡ Some n
+  pub fault : first_fault bytes (expected_next p before state) ≡ Some n
 
 -- the last of these lines is the round at which the hold time is over
 pub record EndsInSilence (p : Peering) (lines : List Line) (n : Notice) : Type 0 where

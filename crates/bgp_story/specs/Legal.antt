@@ -14,12 +14,17 @@ use Rattle.bgp_types.specs.Header.{frame_at, header_fault}
 use Rattle.bgp_types.specs.Writable.{IsWritable}
 use Rattle.bgp_story.specs.declared.line.Line.{Line}
 use Rattle.bgp_story.specs.declared.line.Line.TheVariants.{Put, Got, Tick}
-use Rattle.bgp_story.specs.Opens.{offers}
+use Rattle.bgp_story.specs.Opens.{offers, IsHomeOpen, IsAsNumber}
 
 -- What its stories depend on: the OPEN that the home side puts, and the AS of the remote.
 pub record Peering : Type 0 where
   pub first : open_type.OpenMsg
   pub remote_as : ℕ
+
+-- The OPEN is one that a home side puts, and the remote has an AS.
+pub record IsPeering (p : Peering) : Type 0 where
+  pub home : IsHomeOpen p.first
+  pub remote_as : IsAsNumber p.remote_as
 
 -- ---- what the lines so far say
 
@@ -53,9 +58,9 @@ smaller_hold first (Some o) = min first.hold o.hold
 abbrev pub hold : Peering → List Line → ℕ
 hold p lines = smaller_hold p.first (got_open p lines)
 
--- what is expected next
-abbrev pub expected : Peering → List Line → SessionState → Expected
-expected p lines state = record { state = state; remote_as = p.remote_as; offered = offers p.first; wide = is_wide p lines }
+-- what is expected_next next
+abbrev pub expected_next : Peering → List Line → SessionState → Expected
+expected_next p lines state = record { state = state; remote_as = p.remote_as; offered = offers p.first; wide = is_wide p lines }
 
 -- the rounds since something was got: as long as a session isn't closed, that was an OPEN, an UPDATE or a KEEPALIVE
 abbrev pub count_round : ℕ → Line → ℕ
@@ -111,15 +116,15 @@ reply_at hold count round state =
 
 -- A legal story, and the state of its session. Which UPDATEs change what was told is left to `Changes`.
 pub data Legal (Changes : List Line → Update → Type 0) (p : Peering) : List Line → SessionState → Type 0 where
-  -- the OPEN is put
-  opened : (lines : List Line) → lines ≡ Put (OpenMsg p.first) ∷ [] → Legal Changes p lines OpenSent
+  -- the OPEN of a home side is put
+  opened : (lines : List Line) → IsPeering p → lines ≡ Put (OpenMsg p.first) ∷ [] → Legal Changes p lines OpenSent
   -- in a state other than Closed something is got, and answered
   got : (before : List Line) (state : SessionState) (bytes : List ℕ) (answer : List Line) (next : SessionState) (lines : List Line) →
       Legal Changes p before state → state ≢ Closed → IsGot bytes →
-      reply_to (message_of (expected p before state) bytes) ≡ (answer, next) →
+      reply_to (message_of (expected_next p before state) bytes) ≡ (answer, next) →
       lines ≡ before ++ Got bytes ∷ answer → Legal Changes p lines next
   -- in Established an UPDATE is put
-  told : (before : List Line) (u : Update) (lines : List Line) →
+  updated : (before : List Line) (u : Update) (lines : List Line) →
       Legal Changes p before Established → IsOneWay u (is_wide p before) → Changes before u →
       lines ≡ before ++ Put (UpdateMsg u) ∷ [] → Legal Changes p lines Established
   -- in OpenConfirm and Established, with a hold time, a round passes, and is answered

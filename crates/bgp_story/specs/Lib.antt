@@ -3,4 +3,4 @@ pub mod Legal
 pub mod Laws
 pub mod States
 pub mod Readings
-pub mod Row
+pub mod WorkedSessions

@@ -17,7 +17,7 @@ use Rattle.bgp_types.specs.Spelling.{spell}
 use Rattle.bgp_types.specs.Tables.{prefix_cmp}
 use Rattle.bgp_story.specs.declared.line.Line.{Line}
 use Rattle.bgp_story.specs.declared.line.Line.TheVariants.{Put, Got, Tick}
-use Rattle.bgp_story.specs.Legal.{Peering, Legal, is_wide, expected}
+use Rattle.bgp_story.specs.Legal.{Peering, Legal, is_wide, expected_next}
 use Rattle.bgp_story.specs.States.{state_of}
 
 -- ---- octets
@@ -86,7 +86,7 @@ abbrev pub told : List Line → Routes
 told lines = unless_closed (state_of lines) (fold tell map.empty lines)
 
 abbrev pub heard : Peering → List Line → Routes
-heard p lines = unless_closed (state_of lines) (fold (hear (expected p lines Established)) map.empty lines)
+heard p lines = unless_closed (state_of lines) (fold (hear (expected_next p lines Established)) map.empty lines)
 
 -- ---- what is told is a change
 

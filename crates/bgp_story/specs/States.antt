@@ -9,7 +9,6 @@ use Rattle.bgp_types.specs.Header.{header_fault, kind_in}
 use Rattle.bgp_story.specs.declared.line.Line.{Line}
 use Rattle.bgp_story.specs.declared.line.Line.TheVariants.{Put, Got, Tick}
 use Rattle.bgp_story.specs.Legal.{Peering, Allowed}
-use Rattle.bgp_story.specs.Opens.{IsHomeOpen}
 
 -- a sound header of this type
 abbrev pub is_type : ℕ → List ℕ → Bool
@@ -51,7 +50,6 @@ state_of lines = fold after OpenSent lines
 pub record Begins (remote_as : ℕ) (lines : List Line) : Type 0 where
   pub peering : Peering
   pub remote : peering.remote_as ≡ remote_as
-  pub home : IsHomeOpen peering.first
   pub rest : List Line
   pub state : SessionState
   pub legal : Allowed peering (lines ++ rest) state

@@ -1,24 +1,42 @@
 //! What holds of legal stories.
 
-ghost use Rattle.std.specs.Prelude.{◌≡◌, ◌≢◌, ℕ, List, [], ◌∷◌, ◌++◌, true, fold};
+ghost use Rattle.std.specs.Prelude.{◌≡◌, ◌≢◌, ℕ, ◌*◌, ◌^◌, ◌<◌, ◌≤◌, ◌⊎◌, List, [], ◌∷◌, ◌++◌, Contains, Some, None, IsSome, true, fold};
 ghost use Rattle.std.specs.FinMap as map;
 ghost use Rattle.std.specs.List.{AllByRecursion, flat_map};
-ghost use Rattle.bgp_types.specs.declared.message.Message.TheVariants.{NoticeMsg};
+ghost use Rattle.bgp_types.specs.declared.message.Message.TheVariants.{NoticeMsg, UpdateMsg};
 ghost use Rattle.bgp_types.specs.declared.message.Notice.{Notice};
 ghost use Rattle.bgp_types.specs.declared.message.SessionState.{SessionState};
 ghost use Rattle.bgp_types.specs.declared.message.SessionState.TheVariants.{Closed, Established};
+ghost use Rattle.bgp_types.specs.declared.message.Update.{Update};
+ghost use Rattle.bgp_types.specs.OpenBody.{as_said};
+ghost use Rattle.bgp_types.specs.PathOctets.{narrow_as};
+ghost use Rattle.bgp_types.specs.Prefixes.{PrefixValue};
+ghost use Rattle.bgp_types.specs.Writable.{IsWritable};
 ghost use Rattle.bgp_story.specs.declared.line.Line.{Line};
 ghost use Rattle.bgp_story.specs.declared.line.Line.TheVariants.{Put};
 ghost use Rattle.bgp_story.specs.Laws.{OpensOnce, IsGotLine, HasCause};
-ghost use Rattle.bgp_story.specs.Legal.{Peering, Allowed, is_up, is_wide, hold, expected};
+ghost use Rattle.bgp_story.specs.Legal.{Peering, Allowed, is_up, is_wide, hold, expected_next};
 ghost use Rattle.bgp_story.specs.Opens.{IsHomeOpen};
 ghost use Rattle.bgp_story.specs.Readings.{IsLegal, put_bytes, put_in, got_bytes, told, heard, tell, hear};
 ghost use Rattle.bgp_story.specs.States.{Begins, state_of};
+ghost use Rattle.bgp_story.specs.WorkedSessions as worked;
 
 /// A legal story is of the form that the laws below speak of, and that the type `Story` keeps.
 pub fn legal_is_allowed()
     ensures allowed { (p : Peering) (lines : List Line) (state : SessionState) → IsLegal p lines state → Allowed p lines state }
-    ensures begins { (p : Peering) (lines more : List Line) (state : SessionState) → IsHomeOpen p.first → IsLegal p (lines ++ more) state → Begins p.remote_as lines }
+    ensures begins { (p : Peering) (lines more : List Line) (state : SessionState) → IsLegal p (lines ++ more) state → Begins p.remote_as lines }
+{}
+
+/// The OPEN of a legal story is one that a home side puts: its hold time is 0, or 3 seconds and more, its
+/// identifier is the address of a host, and the ASes of both sides are from 1 on (RFC 4271, section
+/// 4.2; RFC 6793, section 4.1; RFC 7607, section 2).
+pub fn open_is_in_range()
+    ensures home { (p : Peering) (lines : List Line) (state : SessionState) → Allowed p lines state → IsHomeOpen p.first }
+    ensures hold { (p : Peering) (lines : List Line) (state : SessionState) → Allowed p lines state → (p.first.hold ≡ 0) ⊎ ((3 ≤ p.first.hold) × (p.first.hold < 2 ^ 16)) }
+    ensures identifier { (p : Peering) (lines : List Line) (state : SessionState) → Allowed p lines state → (0 < p.first.identifier) × (p.first.identifier < 224 * 2 ^ 24) }
+    ensures home_as { (p : Peering) (lines : List Line) (state : SessionState) → Allowed p lines state → (0 < p.first.as_number) × (p.first.as_number < 2 ^ 16) }
+    ensures wide_as { (p : Peering) (lines : List Line) (state : SessionState) (as_number : ℕ) → Allowed p lines state → as_said p.first.caps ≡ Some as_number → (0 < as_number) × (as_number < 2 ^ 32) × (p.first.as_number ≡ narrow_as as_number) }
+    ensures remote_as { (p : Peering) (lines : List Line) (state : SessionState) → Allowed p lines state → (0 < p.remote_as) × (p.remote_as < 2 ^ 32) }
 {}
 
 /// The state of a legal story is what its lines tell.
@@ -47,6 +65,24 @@ pub fn notifications_have_causes()
     ensures { (p : Peering) (lines more : List Line) (n : Notice) (state : SessionState) → Allowed p (lines ++ Put (NoticeMsg n) ∷ more) state → HasCause p lines n }
 {}
 
+/// An UPDATE is put in Established. It withdraws or announces, and not both, and it can be written in the
+/// width of the session.
+pub fn updates_are_one_way()
+    ensures before { (p : Peering) (lines more : List Line) (u : Update) (state : SessionState) → IsLegal p (lines ++ Put (UpdateMsg u) ∷ more) state → IsLegal p lines Established }
+    ensures one_way { (p : Peering) (lines more : List Line) (u : Update) (state : SessionState) → IsLegal p (lines ++ Put (UpdateMsg u) ∷ more) state → ((u.withdrawn ≢ []) × (u.nlri ≡ [])) ⊎ ((u.withdrawn ≡ []) × (u.nlri ≢ [])) }
+    ensures writable { (p : Peering) (lines more : List Line) (u : Update) (state : SessionState) → IsLegal p (lines ++ Put (UpdateMsg u) ∷ more) state → IsWritable (UpdateMsg u) (is_wide p lines) }
+{}
+
+/// An UPDATE that is put changes what was told for each of its prefixes, and for no other one: after it an
+/// announced prefix has its attributes, and a withdrawn one has none (RFC 4271, section 3.1).
+pub fn updates_change_what_was_told()
+    ensures changed { (p : Peering) (lines more : List Line) (u : Update) (state : SessionState) (prefix : PrefixValue) → IsLegal p (lines ++ Put (UpdateMsg u) ∷ more) state → Contains (u.withdrawn ++ u.nlri) prefix → map.get (told (lines ++ Put (UpdateMsg u) ∷ [])) prefix ≢ map.get (told lines) prefix }
+    ensures announced { (p : Peering) (lines more : List Line) (u : Update) (state : SessionState) (prefix : PrefixValue) → IsLegal p (lines ++ Put (UpdateMsg u) ∷ more) state → Contains u.nlri prefix → map.get (told (lines ++ Put (UpdateMsg u) ∷ [])) prefix ≡ u.attrs }
+    ensures attributes { (p : Peering) (lines more : List Line) (u : Update) (state : SessionState) (prefix : PrefixValue) → IsLegal p (lines ++ Put (UpdateMsg u) ∷ more) state → Contains u.nlri prefix → IsSome u.attrs }
+    ensures withdrawn { (p : Peering) (lines more : List Line) (u : Update) (state : SessionState) (prefix : PrefixValue) → IsLegal p (lines ++ Put (UpdateMsg u) ∷ more) state → Contains u.withdrawn prefix → map.get (told (lines ++ Put (UpdateMsg u) ∷ [])) prefix ≡ None }
+    ensures others { (p : Peering) (lines more : List Line) (u : Update) (state : SessionState) (prefix : PrefixValue) → IsLegal p (lines ++ Put (UpdateMsg u) ∷ more) state → ¬ Contains (u.withdrawn ++ u.nlri) prefix → map.get (told (lines ++ Put (UpdateMsg u) ∷ [])) prefix ≡ map.get (told lines) prefix }
+{}
+
 /// Once the OPEN of the remote was taken, the width of AS numbers and the hold time stay.
 pub fn width_and_hold_stay()
     ensures width { (p : Peering) (lines more : List Line) (state : SessionState) → Allowed p lines state → is_up state ≡ true → is_wide p (lines ++ more) ≡ is_wide p lines }
@@ -63,7 +99,20 @@ pub fn octets_grow()
 /// empty.
 pub fn tables_grow()
     ensures told { (lines more : List Line) → state_of lines ≢ Closed → state_of (lines ++ more) ≢ Closed → told (lines ++ more) ≡ fold tell (told lines) more }
-    ensures heard { (p : Peering) (lines more : List Line) (state : SessionState) → Allowed p lines state → state ≢ Closed → state_of (lines ++ more) ≢ Closed → heard p (lines ++ more) ≡ fold (hear (expected p (lines ++ more) Established)) (heard p lines) more }
+    ensures heard { (p : Peering) (lines more : List Line) (state : SessionState) → Allowed p lines state → state ≢ Closed → state_of (lines ++ more) ≢ Closed → heard p (lines ++ more) ≡ fold (hear (expected_next p (lines ++ more) Established)) (heard p lines) more }
     ensures none_told { (lines : List Line) → state_of lines ≡ Closed → told lines ≡ map.empty }
     ensures none_heard { (p : Peering) (lines : List Line) → state_of lines ≡ Closed → heard p lines ≡ map.empty }
+{}
+
+/// Worked stories are legal: a route is heard, a route is told and withdrawn, a hold time of 3 seconds
+/// runs out, and a session has AS numbers of four octets.
+pub fn worked_stories_are_legal()
+    ensures heard { IsLegal (worked.worked_peering 0) (worked.heard_lines 0) Established }
+    ensures told { IsLegal (worked.worked_peering 0) (worked.told_lines 0) Established }
+    ensures told_routes { told (worked.told_lines 0) ≡ map.insert map.empty worked.ten (worked.attrs_over (65000 ∷ [])) }
+    ensures withdrawn { IsLegal (worked.worked_peering 0) (worked.withdrawn_lines 0) Established }
+    ensures none_told { (prefix : PrefixValue) → map.get (told (worked.withdrawn_lines 0)) prefix ≡ None }
+    ensures expired { IsLegal (worked.worked_peering 3) worked.expired_lines Closed }
+    ensures wide { IsLegal worked.wide_peering worked.wide_lines Established }
+    ensures wide_octets { put_bytes worked.wide_peering worked.wide_lines ≡ worked.wide_put_bytes }
 {}

@@ -9,10 +9,8 @@ mod story;
 
 pub use laws::{
     closed_is_the_end, got_in_frames, legal_is_allowed, notifications_have_causes, octets_grow,
-    opens_once, state_by_lines, tables_grow, width_and_hold_stay,
+    open_is_in_range, opens_once, state_by_lines, tables_grow, updates_are_one_way,
+    updates_change_what_was_told, width_and_hold_stay, worked_stories_are_legal,
 };
 pub use line::Line;
 pub use story::Story;
-
-#[cfg(test)]
-mod tests;

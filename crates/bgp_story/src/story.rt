@@ -2,7 +2,7 @@
 
 ghost use Rattle.std.specs.Prelude.{◌≡◌, ◌++◌, ◌∷◌, [], IfOk, IfErr, OnOk, OnErr};
 ghost use Rattle.bgp_types.specs.declared.message.Message.TheVariants as messages;
-ghost use Rattle.bgp_story.specs.Opens.{IsHomeOpen};
+ghost use Rattle.bgp_story.specs.Legal.{IsPeering};
 ghost use Rattle.bgp_story.specs.States.{Begins, state_of, after_put as after_put_lem, after_got as after_got_lem};
 ghost use Rattle.bgp_story.specs.declared.line.Line.TheVariants.{Put, Got, Tick};
 
@@ -13,7 +13,7 @@ use std::alloc::Global;
 use std::marker::Model;
 
 /// The lines of a session from its OPEN on, and the AS of the remote, by which they are read. They
-/// begin a legal story. Its state is kept beside them.
+/// begin a legal story. The state of the session is kept beside them.
 #[derive(Debug, Drop)]
 pub struct Story {
     lines: Vec<Line>,
@@ -56,7 +56,7 @@ fn after_got(state: SessionState, octets: &[u8]) -> SessionState
     state
 }
 
-/// Adds a line, which comes back for want of memory.
+/// Adds a line. If memory runs out, it comes back and nothing changes.
 fn add(lines: &mut Vec<Line>, line: Line) -> Result<(), Line>
     ensures ok { OnOk result (lines.new.items ≡ lines.old.items ++ line ∷ []) }
     ensures back { IfErr result (λ back. back ≡ line) }
@@ -69,9 +69,11 @@ fn add(lines: &mut Vec<Line>, line: Line) -> Result<(), Line>
 }
 
 impl Story {
-    /// The story that begins with this OPEN, of a session with a remote of this AS.
+    /// The story that begins with this OPEN, of a session with a remote of this AS. The OPEN is one that
+    /// a home side puts, with its hold time, its identifier and its AS in range, and the remote's AS is
+    /// not 0 (RFC 4271, section 4.2; RFC 7607).
     pub fn begin(alloc: Global, first: OpenMsg, remote_as: u32) -> Result<Story, NoMemory>
-        requires { IsHomeOpen first }
+        requires { IsPeering (record { first = first; remote_as = remote_as }) }
         ensures { IfOk result (λ story. story ≡ record { lines = Put (messages.OpenMsg first) ∷ []; remote_as = remote_as }) }
     {
         let mut lines = Vec::new(alloc);
@@ -83,7 +85,8 @@ impl Story {
         })
     }
 
-    /// Adds a message that is put. For want of memory alone it comes back, and nothing has changed.
+    /// Adds a message that is put, where the lines with it begin a legal story. If memory runs out, it
+    /// comes back and nothing changes; there is no other failure.
     pub fn put(&mut self, message: Message) -> Result<(), Message>
         requires { Begins self.old.remote_as (self.old.lines ++ Put message ∷ []) }
         ensures ok { OnOk result (self.new ≡ record self.old { lines = self.old.lines ++ Put message ∷ [] }) }
@@ -101,7 +104,8 @@ impl Story {
         }
     }
 
-    /// Adds octets that are got. For want of memory alone they come back, and nothing has changed.
+    /// Adds octets that are got, where the lines with them begin a legal story. If memory runs out, they
+    /// come back and nothing changes; there is no other failure.
     pub fn got(&mut self, bytes: Octets) -> Result<(), Octets>
         requires { Begins self.old.remote_as (self.old.lines ++ Got bytes ∷ []) }
         ensures ok { OnOk result (self.new ≡ record self.old { lines = self.old.lines ++ Got bytes ∷ [] }) }
@@ -119,7 +123,8 @@ impl Story {
         }
     }
 
-    /// Adds a round in which the hold time ran.
+    /// Adds a round in which the hold time ran, where the lines with it begin a legal story. If memory
+    /// runs out, nothing changes; there is no other failure.
     pub fn tick(&mut self, round: u32) -> Result<(), NoMemory>
         requires { Begins self.old.remote_as (self.old.lines ++ Tick round ∷ []) }
         ensures ok { OnOk result (self.new ≡ record self.old { lines = self.old.lines ++ Tick round ∷ [] }) }

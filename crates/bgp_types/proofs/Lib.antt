@@ -11,6 +11,7 @@ pub mod PartLaws
 pub mod OrderLaws
 pub mod AttrsReads
 pub mod PrefixLaws
+pub mod OnceLaws
 pub mod OpenLaws
 pub mod UpdateLaws
 pub mod MessageLaws
@@ -18,6 +19,7 @@ pub mod ReadsOnce
 pub mod SlotLaws
 pub mod AttrsWritten
 pub mod WrittenLaws
+pub mod Equality
 pub mod FaultRows
 pub mod ReadRows
 pub mod TableLaws

@@ -5,7 +5,7 @@ use Rattle.std.specs.List.{list_all}
 use Rattle.std.specs.Int.{w16, to_be_bytes}
 use Rattle.std.proofs.lemmas.Bool.{eqb-true, le-ltb, ltb-false}
 use Rattle.std.proofs.lemmas.Bool.Decides.{nat_tests}
-use Rattle.std.proofs.lemmas.List.{take-append-drop, drop-drop}
+use Rattle.std.proofs.lemmas.List.{take-append-drop, drop-drop, append-nil}
 use Rattle.bgp_types.specs.declared.fault.Expected.{Expected}
 use Rattle.bgp_types.specs.declared.fault.HeaderFault.{HeaderFault}
 use Rattle.bgp_types.specs.declared.fault.HeaderFault.TheVariants.{NotSynchronized, BadLength, BadType}
@@ -23,7 +23,7 @@ use Rattle.bgp_types.specs.Reads.{Reads, ReadsBody, ReadsOpen, ReadsUpdate}
 use Rattle.bgp_types.specs.Spelling.{kind_of, marker, counted, framed}
 use Rattle.bgp_types.specs.UpdateBody.{update_of}
 use Rattle.bgp_types.proofs.AttrLaws.{AreOctets-drop, AreOctets-take, wide16}
-use Rattle.bgp_types.proofs.FrameLaws.{frame_is}
+use Rattle.bgp_types.proofs.FrameLaws.{frame_is, frame_of}
 use Rattle.bgp_types.proofs.Lengths.{framed_size}
 use Rattle.bgp_types.proofs.OpenLaws.{open_read, open_are}
 use Rattle.bgp_types.proofs.UpdateLaws.{update_read, update_are}
@@ -244,3 +244,13 @@ message_are expected frame m r is =
     ap (λ (y : List ℕ). with_header (header_fault y) expected y) r.octets
     ∙ (ap (λ (o : Option HeaderFault). with_header o expected (framed (kind_of m) r.body)) sound
     ∙ (ap (λ (t : Bool). cond t (body_of expected (kind_of m) r.body) (Err state_fault)) is.state ∙ h.read))
+
+-- what reads as a message is a whole frame with a sound header
+pub whole_frame : (expected : Expected) (frame : List ℕ) (m : Message) → Reads frame m expected.wide → IsExpected expected m → frame_at frame ≡ Some (frame, [])
+whole_frame expected frame m r is =
+    let h = has_body expected m r.body r.says is.from in
+    let total : length frame ≡ 19 + length r.body = ap length r.octets ∙ framed_size (kind_of m) r.body in
+    let size : 19 + length r.body ≤ 4096 = let most = r.size in omega arith in
+    let sound : header_fault frame ≡ None = ap header_fault r.octets ∙ header_again (kind_of m) r.body size h.some h.known h.room in
+    let len : len_in frame ≡ length frame = ap (λ (y : List ℕ). len_in y) r.octets ∙ (len_again (kind_of m) r.body size ∙ sym total) in
+    ap frame_at (sym (append-nil frame)) ∙ frame_of frame (omega arith) sound len []

@@ -1,5 +1,5 @@
 -- A frame reads as one message.
-use Rattle.std.proofs.Common.{◌≡◌, ℕ, ◌^◌, ◌<◌, List, [], drop, Bool, true, false, cond, eqb, ltb, Some, None, Result, Ok, Err, refl, sym, ap, ◌∙◌, arith, subst}
+use Rattle.std.proofs.Common.{◌≡◌, ℕ, ◌^◌, ◌<◌, List, [], drop, Bool, true, false, cond, eqb, ltb, Some, Result, Ok, refl, sym, ◌∙◌, arith, subst}
 use Rattle.std.specs.Prelude.{◌↔◌}
 use Rattle.std.proofs.lemmas.Bool.{le-ltb}
 use Rattle.std.proofs.lemmas.Bool.Decides.{nat_tests}
@@ -8,15 +8,14 @@ use Rattle.bgp_types.specs.declared.message.Message.{Message}
 use Rattle.bgp_types.specs.declared.message.Message.TheVariants as messages
 use Rattle.bgp_types.specs.declared.message.Notice.{Notice}
 use Rattle.bgp_types.specs.declared.message.SessionState.TheVariants as states
-use Rattle.bgp_types.specs.Expect.{is_from, IsExpected, ReadsExpected}
-use Rattle.bgp_types.specs.Faults.{fault_in}
-use Rattle.bgp_types.specs.FirstFault.{is_in_state, message_of, first_fault}
+use Rattle.bgp_types.specs.Expect.{is_from, IsExpected}
+use Rattle.bgp_types.specs.FirstFault.{is_in_state, message_of}
 use Rattle.bgp_types.specs.Header.{kind_in, frame_at}
 use Rattle.bgp_types.specs.OctetLists.{AreOctets}
 use Rattle.bgp_types.specs.OpenBody.{as_in, is_field}
 use Rattle.bgp_types.specs.Reads.{Reads, ReadsBody}
 use Rattle.bgp_types.specs.Spelling.{kind_of, framed}
-use Rattle.bgp_types.proofs.MessageLaws.{message_read, message_are}
+use Rattle.bgp_types.proofs.MessageLaws.{message_read, message_are, whole_frame}
 use Rattle.bgp_types.proofs.OpenLaws.{as_again}
 
 -- a session that takes what the frame reads as
@@ -57,14 +56,6 @@ once frame one other wide r s =
     same : (x y : Message) → (let r : Result Message Notice = Ok x in r) ≡ Ok y → x ≡ y
     same x y e = cc
 
-answered : (r : Result Message Notice) → fault_in r ≡ None → (m : Message) × (r ≡ Ok m)
-answered (Ok m) e = (m, refl)
-answered (Err n) e = absurd cc
-
-pub without_fault : (frame : List ℕ) (expected : Expected) → AreOctets frame → frame_at frame ≡ Some (frame, []) → (first_fault frame expected ≡ None) ↔ ReadsExpected frame expected
-without_fault frame expected b whole = (forth, back) where
-  forth : first_fault frame expected ≡ None → ReadsExpected frame expected
-  forth e = let a = answered (message_of expected frame) e in let r = message_read expected frame a.0 b whole a.1 in record { message = a.0; reads = r.0; is_expected = r.1 }
-
-  back : ReadsExpected frame expected → first_fault frame expected ≡ None
-  back r = ap fault_in (message_are expected frame r.message r.reads r.is_expected)
+pub reads_exactly : (frame : List ℕ) (expected : Expected) (m : Message) → AreOctets frame → ((frame_at frame ≡ Some (frame, [])) × (message_of expected frame ≡ Ok m)) ↔ (Reads frame m expected.wide × IsExpected expected m)
+reads_exactly frame expected m octets =
+    (λ e. message_read expected frame m octets e.0 e.1, λ r. (whole_frame expected frame m r.0 r.1, message_are expected frame m r.0 r.1))

@@ -6,7 +6,6 @@ use Rattle.bgp_types.specs.declared.message.Message.{Message}
 use Rattle.bgp_types.specs.declared.message.Message.TheVariants.{OpenMsg, UpdateMsg, NoticeMsg, KeepaliveMsg}
 use Rattle.bgp_types.specs.FirstFault.{is_in_state}
 use Rattle.bgp_types.specs.OpenBody.{as_said, is_said, is_field}
-use Rattle.bgp_types.specs.Reads.{Reads}
 use Rattle.bgp_types.specs.Spelling.{kind_of}
 
 -- Where four-octet AS numbers are offered, a capability may say the AS; else the field has it.
@@ -22,9 +21,3 @@ is_from expected KeepaliveMsg = true
 pub record IsExpected (expected : Expected) (m : Message) : Type 0 where
   pub state : is_in_state expected.state (kind_of m) ≡ true
   pub from : is_from expected m ≡ true
-
--- The frame reads as a message that the session takes.
-pub record ReadsExpected (frame : List ℕ) (expected : Expected) : Type 0 where
-  pub message : Message
-  pub reads : Reads frame message expected.wide
-  pub is_expected : IsExpected expected message

@@ -1,9 +1,10 @@
 -- Prefixes of addresses (RFC 4271, section 4.3).
-use Rattle.std.specs.Prelude.{map, [], ◌++◌, ◌==◌, ◌||◌, ◌&&◌, length, drop, Option, Some, None, Bool, nat_lt, if◌then◌else◌, ◌≡◌, ℕ, ◌+◌, ◌-◌, ◌*◌, ◌/◌, ◌^◌, ◌<◌, ◌≤◌, List, ◌∷◌, take}
+use Rattle.std.specs.Prelude.{map, [], ◌++◌, ◌==◌, ◌||◌, ◌&&◌, length, drop, Option, Some, None, Bool, nat_lt, if◌then◌else◌, ◌≡◌, ℕ, ◌+◌, ◌-◌, ◌*◌, ◌/◌, ◌^◌, ◌<◌, ◌≤◌, List, ◌∷◌, take, Contains, ◌↔◌}
 use Rattle.std.specs.Int.{w32, from_be_bytes, to_be_bytes}
-use Rattle.std.specs.List.{list_any}
+use Rattle.std.specs.List.{list_any, position_or_len, IsDistinct}
 use Rattle.std.specs.Option.{option_map}
 use Rattle.bgp_types.specs.Many.{all_of}
+use Rattle.bgp_types.specs.Rising.{IsRising}
 
 -- a prefix as contracts see it: its first address, and how many leading bits its addresses share
 pub record PrefixValue : Type 0 where
@@ -77,6 +78,16 @@ put_once seen p = if list_any (same_prefix p) seen then seen else seen ++ p ∷ 
 abbrev pub once_after : List PrefixValue → List PrefixValue → List PrefixValue
 once_after seen [] = seen
 once_after seen (p ∷ prefixes) = once_after (put_once seen p) prefixes
+
+-- where a prefix stands first in a list
+abbrev pub first_place : List PrefixValue → PrefixValue → ℕ
+first_place prefixes p = position_or_len (same_prefix p) prefixes
+
+-- The second list has the members of the first, each once, in the order of their first places.
+pub record EachOnce (prefixes once : List PrefixValue) : Type 0 where
+  pub members : (p : PrefixValue) → Contains once p ↔ Contains prefixes p
+  pub distinct : IsDistinct same_prefix once
+  pub in_order : IsRising (first_place prefixes) once
 
 -- the prefixes of a field
 unfoldable pub prefixes_of : List ℕ → Option (List PrefixValue)

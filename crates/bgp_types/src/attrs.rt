@@ -20,7 +20,7 @@ pub struct Aggregator {
 }
 
 /// An optional transitive attribute of a type that isn't known here, which passes on.
-#[derive(Debug, Drop)]
+#[derive(Debug, Drop, PartialEq, Eq)]
 pub struct RawAttr {
     pub kind: u8,
     pub partial: bool,
@@ -31,7 +31,7 @@ pub struct RawAttr {
 pub type RawAttrs = Items<RawAttr>;
 
 /// The attributes of a route as BGP tells it.
-#[derive(Debug, Drop)]
+#[derive(Debug, Drop, PartialEq, Eq)]
 pub struct Attrs {
     pub origin: Origin,
     pub path: AsPath,
@@ -43,7 +43,7 @@ pub struct Attrs {
 }
 
 /// A route to a prefix, with its degree of preference.
-#[derive(Debug, Drop)]
+#[derive(Debug, Drop, PartialEq, Eq)]
 pub struct Route {
     pub attrs: Attrs,
     pub pref: u32,

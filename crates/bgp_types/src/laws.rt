@@ -1,19 +1,30 @@
-//! What holds of the definitions of texts and of the wire format.
+//! What holds of the definitions of texts and of the wire format, and of `==`.
 
-ghost use Rattle.std.specs.Prelude.{◌≡◌, ◌↔◌, ◌<◌, ◌^◌, ℕ, List, [], Bool, Some, None};
+ghost use Rattle.std.specs.Prelude.{◌≡◌, ◌↔◌, ◌<◌, ◌^◌, ℕ, List, [], Bool, Some, Ok, IsTrue};
+ghost use Rattle.bgp_types.specs.declared.attrs.Attrs.{Attrs};
+ghost use Rattle.bgp_types.specs.declared.attrs.Route.{Route};
 ghost use Rattle.bgp_types.specs.declared.fault.Expected.{Expected};
 ghost use Rattle.bgp_types.specs.declared.message.Message.{Message};
 ghost use Rattle.bgp_types.specs.declared.message.Message.TheVariants.{NoticeMsg};
 ghost use Rattle.bgp_types.specs.declared.message.Notice.{Notice};
-ghost use Rattle.bgp_types.specs.Expect.{ReadsExpected};
-ghost use Rattle.bgp_types.specs.FirstFault.{first_fault};
+ghost use Rattle.bgp_types.specs.Expect.{IsExpected};
+ghost use Rattle.bgp_types.specs.FirstFault.{first_fault, message_of};
 ghost use Rattle.bgp_types.specs.Header.{frame_at};
 ghost use Rattle.bgp_types.specs.OctetLists.{AreOctets};
-ghost use Rattle.bgp_types.specs.Prefixes.{PrefixValue, IsPrefix};
+ghost use Rattle.bgp_types.specs.Prefixes.{PrefixValue, IsPrefix, EachOnce, once_after};
 ghost use Rattle.bgp_types.specs.Reads.{Reads};
 ghost use Rattle.bgp_types.specs.Spelling.{spell};
 ghost use Rattle.bgp_types.specs.Texts.{IsAddressText, IsPrefixText, address_text, prefix_text};
 ghost use Rattle.bgp_types.specs.Writable.{IsWritable};
+
+use crate::{attrs, message};
+
+/// Attributes, routes and messages are equal by `==` exactly where they are the same.
+pub fn equal_is_same()
+    ensures attrs { (a : Attrs) (b : Attrs) → IsTrue (⟦<attrs::Attrs as PartialEq>⟧.eq a b) ↔ (a ≡ b) }
+    ensures route { (a : Route) (b : Route) → IsTrue (⟦<attrs::Route as PartialEq>⟧.eq a b) ↔ (a ≡ b) }
+    ensures message { (a : Message) (b : Message) → IsTrue (⟦<message::Message as PartialEq>⟧.eq a b) ↔ (a ≡ b) }
+{}
 
 /// The text of an address is read as that address, and as no other.
 pub fn printed_address_reads()
@@ -25,15 +36,21 @@ pub fn printed_prefix_reads()
     ensures { (p q : PrefixValue) → IsPrefix p → IsPrefixText (prefix_text p) q ↔ (q ≡ p) }
 {}
 
+/// One list has the members of another, each once, in the order of their first places: that in which
+/// each member that was there before is left out.
+pub fn each_prefix_once()
+    ensures { (prefixes : List PrefixValue) (once : List PrefixValue) → (once ≡ once_after [] prefixes) ↔ EachOnce prefixes once }
+{}
+
 /// A frame reads as at most one message in a width.
 pub fn reads_once()
     ensures { (frame : List ℕ) (one : Message) (other : Message) (wide : Bool) → Reads frame one wide → Reads frame other wide → one ≡ other }
 {}
 
-/// A whole frame with a sound header has no fault exactly where it reads as a message that the
-/// session takes.
-pub fn reads_without_fault()
-    ensures { (frame : List ℕ) (expected : Expected) → AreOctets frame → frame_at frame ≡ Some (frame, []) → (first_fault frame expected ≡ None) ↔ ReadsExpected frame expected }
+/// Octets are a whole frame with a sound header, from which a session takes a message, exactly where
+/// they read as that message in the session's width and the session expects it.
+pub fn reads_exactly()
+    ensures { (frame : List ℕ) (expected : Expected) (message : Message) → AreOctets frame → ((frame_at frame ≡ Some (frame, [])) × (message_of expected frame ≡ Ok message)) ↔ (Reads frame message expected.wide × IsExpected expected message) }
 {}
 
 /// A message that is writable in a width has a written form that reads as itself.

@@ -7,13 +7,12 @@ ghost use Rattle.bgp_types.specs.PathOctets.{has_long_as, is_long_as};
 ghost use Rattle.bgp_types.specs.Paths.{ases_of};
 ghost use Rattle.bgp_types.specs.Spelling.{med_written, atomic_written, aggregator_written, as4_path_written, as4_aggregator_written, spell, spell_attrs, spell_some_attrs, spell_update};
 
+use crate::as_number::{as_size, has_long_as, is_long_as};
 use crate::attrs::{Aggregator, Attrs, RawAttr};
+use crate::header::HEADER;
 use crate::message::{Cap, Message, Update};
 use crate::path::PathPart;
 use crate::prefix::Prefix;
-
-/// The octets of a header.
-const HEADER: usize = 19;
 
 /// The octets of an OPEN from its version to the length of its parameters.
 const OPEN_FIELDS: usize = 10;
@@ -32,9 +31,6 @@ const LONG_AGGREGATOR: usize = 11;
 
 /// The octets of an AGGREGATOR with an AS of two octets.
 const SHORT_AGGREGATOR: usize = 9;
-
-/// The greatest AS that two octets hold.
-const LAST_SHORT_AS: u32 = 65535;
 
 fn prefix_len(prefix: &Prefix) -> usize
     ensures { result ≡ prefix_size prefix.now }
@@ -63,20 +59,13 @@ fn ases_in(part: &PathPart) -> usize
     }
 }
 
-/// The octets of an AS.
-fn as_width(wide: bool) -> usize
-    ensures { result ≡ (if wide then 4 else 2) }
-{
-    if wide { 4 } else { 2 }
-}
-
 /// A part of a path: its kind, its count, and its ASes.
 #[tactic(auto, using(crate::proofs::Lengths::part_size_is))]
 fn part_len(part: &PathPart, wide: bool) -> usize
     ensures { result ≡ min (part_size wide part.now) (2 ^ 64 - 1) }
 {
     ases_in(part)
-        .saturating_mul(as_width(wide))
+        .saturating_mul(as_size(wide))
         .saturating_add(2)
 }
 
@@ -105,34 +94,11 @@ fn path_len(parts: &[PathPart], wide: bool) -> usize
     attr_len(parts_len(parts, wide))
 }
 
-/// Whether two octets don't hold the AS.
-fn is_long(as_number: u32) -> bool
-    ensures { result ≡ is_long_as as_number }
-{
-    as_number > LAST_SHORT_AS
-}
-
-fn part_is_long(part: &PathPart) -> bool
-    ensures { result ≡ list_any is_long_as (ases_of part.now) }
-{
-    match part {
-        PathPart::Set(ases) => ases.as_slice().iter().any(|number| is_long(*number)),
-        PathPart::Sequence(ases) => ases.as_slice().iter().any(|number| is_long(*number)),
-    }
-}
-
-/// Whether some AS of a path needs four octets.
-fn path_is_long(parts: &[PathPart]) -> bool
-    ensures { result ≡ has_long_as parts.now }
-{
-    parts.iter().any(part_is_long)
-}
-
 #[tactic(auto, using(crate::proofs::Lengths::as4_path_size))]
 fn as4_path_len(parts: &[PathPart], wide: bool) -> usize
     ensures { result ≡ min (attrs_size (as4_path_written wide parts.now)) (2 ^ 64 - 1) }
 {
-    if wide || !path_is_long(parts) {
+    if wide || !has_long_as(parts) {
         return 0;
     }
     path_len(parts, true)
@@ -144,7 +110,7 @@ fn aggregator_len(aggregator: &Option<Aggregator>, wide: bool) -> usize
     match aggregator {
         None => 0,
         Some(_) if wide => LONG_AGGREGATOR,
-        Some(aggregator) if is_long(aggregator.as_number) => SHORT_AGGREGATOR + LONG_AGGREGATOR,
+        Some(aggregator) if is_long_as(aggregator.as_number) => SHORT_AGGREGATOR + LONG_AGGREGATOR,
         Some(_) => SHORT_AGGREGATOR,
     }
 }

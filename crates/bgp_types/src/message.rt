@@ -5,7 +5,7 @@ use crate::prefix::PrefixList;
 use graft_edge::{Items, NoMemory, Octets, TryCopy};
 
 /// A capability of an OPEN (RFC 5492).
-#[derive(Debug, Drop)]
+#[derive(Debug, Drop, PartialEq, Eq)]
 pub struct Cap {
     pub code: u8,
     pub bytes: Octets,
@@ -15,7 +15,7 @@ pub struct Cap {
 pub type Caps = Items<Cap>;
 
 /// An OPEN. `as_number` is its field of two octets.
-#[derive(Debug, Drop)]
+#[derive(Debug, Drop, PartialEq, Eq)]
 pub struct OpenMsg {
     pub as_number: u32,
     pub hold: u16,
@@ -24,7 +24,7 @@ pub struct OpenMsg {
 }
 
 /// An UPDATE. Its attributes are there exactly where it announces prefixes.
-#[derive(Debug, Drop)]
+#[derive(Debug, Drop, PartialEq, Eq)]
 pub struct Update {
     pub withdrawn: PrefixList,
     pub attrs: Option<Attrs>,
@@ -32,7 +32,7 @@ pub struct Update {
 }
 
 /// What a NOTIFICATION says: error code, subcode and data.
-#[derive(Debug, Drop)]
+#[derive(Debug, Drop, PartialEq, Eq)]
 pub struct Notice {
     pub code: u8,
     pub subcode: u8,
@@ -40,7 +40,7 @@ pub struct Notice {
 }
 
 /// A message. KEEPALIVE has no more than its header.
-#[derive(Debug, Drop)]
+#[derive(Debug, Drop, PartialEq, Eq)]
 pub enum Message {
     OpenMsg(OpenMsg),
     UpdateMsg(Update),

@@ -10,7 +10,7 @@ pub type AsList = Items<u32>;
 
 /// A part of a path: ASes in no order, or in the order in which a route passed them, the last one
 /// first. A part has 1 to 255 ASes.
-#[derive(Debug, Drop)]
+#[derive(Debug, Drop, PartialEq, Eq)]
 pub enum PathPart {
     Set(AsList),
     Sequence(AsList),

@@ -3,6 +3,7 @@
 ghost use Rattle.std.specs.Prelude.{◌≡◌, ◌↔◌, IsTrue, Some};
 ghost use Rattle.bgp_types.specs.Finds.{Finds};
 ghost use Rattle.bgp_types.specs.Prefixes.{IsPrefix};
+ghost use Rattle.bgp_types.specs.Values.{is_no_host};
 ghost use Rattle.bgp_types.specs.Texts.{IsAddressText, IsPrefixText, IsLengthText, IsHost, BeginsPlainly, address_text, prefix_text};
 
 use crate::prefix::Prefix;
@@ -19,11 +20,18 @@ pub fn read_address(text: &str) -> Option<u32>
     }
 }
 
+/// Whether no host has the address: it is 0.0.0.0, or its first octet is 224 or above.
+pub fn is_no_host(address: u32) -> bool
+    ensures { result ≡ is_no_host address }
+{
+    address == 0 || address >= 0xE000_0000
+}
+
 /// Whether a host may have the address: it isn't 0.0.0.0, and its first octet is below 224.
 pub fn is_host(address: u32) -> bool
     ensures { IsTrue result ↔ IsHost address }
 {
-    address != 0 && address < 0xE000_0000
+    !is_no_host(address)
 }
 
 /// Whether a text begins as a decimal without a sign or leading zeros does.
@@ -51,15 +59,9 @@ fn read_length(text: &str) -> Option<u8>
 pub fn read_prefix(text: &str) -> Option<Prefix>
     ensures { Finds (IsPrefixText text.now) result }
 {
-    let Some((address, len)) = text.split_once('/') else {
-        return None;
-    };
-    let Some(address) = read_address(address) else {
-        return None;
-    };
-    let Some(len) = read_length(len) else {
-        return None;
-    };
+    let (address, len) = text.split_once('/')?;
+    let address = read_address(address)?;
+    let len = read_length(len)?;
     Prefix::new(address, len)
 }
 

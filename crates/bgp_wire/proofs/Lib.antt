@@ -3,4 +3,8 @@ pub mod PrefixLaws
 pub mod CapLaws
 pub mod FrameLaws
 pub mod ReadLaws
-pub mod TestMessages
+pub mod OctetLaws
+pub mod OnceLaws
+pub mod MergeLaws
+pub mod ReadAttrs
+pub mod ReadWritable

@@ -5,7 +5,7 @@ use Rattle.std.specs.List.{list_any}
 use Rattle.std.specs.Ordering.{is_eq}
 use Rattle.std.proofs.lemmas.Bool.{eqb-true}
 use Rattle.std.proofs.lemmas.Bool.Decides.{nat_tests}
-use Rattle.bgp_types.specs.Prefixes.{PrefixValue, same_prefix, put_once, once_after}
+use Rattle.bgp_types.specs.Prefixes.{PrefixValue, same_prefix, put_once}
 use Rattle.bgp_types.specs.Tables.{prefix_cmp}
 use Rattle.bgp_wire.specs.declared.set.PrefixSet.{PrefixSet}
 use Rattle.bgp_wire.specs.Sets.{has, IsSetOf}
@@ -16,7 +16,7 @@ is_same p q = by_test (ltb p.address q.address) (eqb p.address q.address) (ltb p
   by_test : (a b c d : Bool) → ltb p.address q.address ≡ a → eqb p.address q.address ≡ b → ltb p.len q.len ≡ c → eqb p.len q.len ≡ d → is_eq (prefix_cmp p q) ≡ same_prefix p q
   by_test a b c d e f g h = grind (arith, nat_tests)
 
-same_turned : (p q : PrefixValue) → same_prefix p q ≡ same_prefix q p
+pub same_turned : (p q : PrefixValue) → same_prefix p q ≡ same_prefix q p
 same_turned p q = both (eqb p.address q.address) (eqb q.address p.address) (eqb p.len q.len) (eqb q.len p.len) (turned p.address q.address) (turned p.len q.len) where
   turned : (m n : ℕ) → eqb m n ≡ eqb n m
   turned m n = grind (arith, nat_tests)
@@ -61,10 +61,6 @@ set_same old new q ps s put there p = put p ∙ by_test (same_prefix p q) refl w
   by_test : (t : Bool) → same_prefix p q ≡ t → cond t true (has old p) ≡ list_any (same_prefix p) ps
   by_test true e = sym (sym (s p) ∙ (ap (has old) (are_same p q e) ∙ there))
   by_test false e = s p
-
--- one further prefix of a list
-pub once_more : (seen ps : List PrefixValue) (q : PrefixValue) (total : List PrefixValue) → once_after seen (q ∷ ps) ≡ total → once_after (put_once seen q) ps ≡ total
-once_more seen ps q total e = e
 
 pub not_there : (set : PrefixSet) (q : PrefixValue) (ps : List PrefixValue) → IsSetOf set ps → (new : Bool) → has set q ≡ new → put_once ps q ≡ cond new ps (ps ++ q ∷ [])
 not_there set q ps s new e = ap (λ (t : Bool). cond t ps (ps ++ q ∷ [])) (sym (s q) ∙ e)

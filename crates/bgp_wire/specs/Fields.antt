@@ -1,7 +1,6 @@
 -- Fields of a body without where they lie in memory, and the prefixes in them.
-use Rattle.std.specs.Prelude.{ℕ, List, Option, map}
+use Rattle.std.specs.Prelude.{ℕ, List, Option}
 use Rattle.std.specs.Option.{option_map}
-use Rattle.bgp_types.specs.Many.{all_of}
 use Rattle.bgp_types.specs.Prefixes.{PrefixValue, WirePrefix, prefix_at, prefix_said}
 use Rattle.bgp_types.specs.UpdateBody.{Fields}
 use Rattle.bgp_wire.specs.declared.update.BodyFields.{BodyFields}
@@ -12,7 +11,3 @@ fields f = record { withdrawn = f.withdrawn.now; attrs = f.attrs.now; nlri = f.n
 -- the prefix at the front, and the octets after it
 abbrev pub front_said : List ℕ → Option (PrefixValue × List ℕ)
 front_said bytes = option_map (λ (x : WirePrefix × List ℕ). (let y : PrefixValue × List ℕ = (prefix_said x.0, x.1) in y)) (prefix_at bytes)
-
--- the prefixes, where they are the whole field
-abbrev pub all_said : List ℕ → Option (List PrefixValue)
-all_said field = option_map (λ spelled. map prefix_said spelled) (all_of prefix_at field)

@@ -3,4 +3,3 @@ pub mod Faults
 pub mod Fields
 pub mod Sets
 pub mod Written
-pub mod Worked

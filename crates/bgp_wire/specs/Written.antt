@@ -1,5 +1,5 @@
 -- What is asked of the parts of a message that is written.
-use Rattle.std.specs.Prelude.{◌^◌, ◌<◌, length, Option, Some, None, Bool}
+use Rattle.std.specs.Prelude.{ℕ, ◌^◌, ◌<◌, length, Option, Some, None, Bool}
 use Rattle.attr_codec.specs.Fields.{FitsField}
 use Rattle.bgp_types.specs.declared.attrs.Attrs.{Attrs}
 use Rattle.bgp_types.specs.declared.message.Message.{Message}
@@ -23,3 +23,10 @@ FitsBody (OpenMsg o) wide = IsWritableOpen o
 FitsBody (UpdateMsg u) wide = FitsUpdate u wide
 FitsBody (NoticeMsg n) wide = Unit {0}
 FitsBody KeepaliveMsg wide = Unit {0}
+
+-- How many octets a message may be written in. An OPEN has 29 without its parameters, which have at most 255.
+abbrev pub written_limit : Message → ℕ
+written_limit (OpenMsg o) = 284
+written_limit (UpdateMsg u) = 4096
+written_limit (NoticeMsg n) = 4096
+written_limit KeepaliveMsg = 4096

@@ -12,11 +12,6 @@ mod update;
 mod write;
 
 pub use attr_codec::CodecFault;
-pub use laws::written_message_reads;
-pub use read::read_message;
+pub use laws::{read_message_is_writable, written_message_reads};
+pub use read::{header_notice, read_message};
 pub use write::write_message;
-
-#[cfg(test)]
-mod rows;
-#[cfg(test)]
-mod tests;

@@ -5,10 +5,10 @@ ghost use Rattle.std.specs.Option.{option_map};
 ghost use Rattle.bgp_types.specs.Prefixes.{octets_for, address_of, prefix_octets, prefixes_of};
 ghost use Rattle.bgp_types.specs.Spelling.{spell_prefixes};
 ghost use Rattle.bgp_types.specs.UpdateBody.{apart};
-ghost use Rattle.bgp_wire.specs.Fields.{front_said, all_said};
+ghost use Rattle.bgp_wire.specs.Fields.{front_said};
 ghost use Rattle.bgp_wire.specs.Sets.{has};
 
-use crate::set::{PrefixSet, once};
+use crate::set::{PrefixSet, put_once};
 use bgp_types::{NoMemory, Octets, Prefix, PrefixList};
 use byteorder::{BigEndian, ByteOrder};
 use std::alloc::Global;
@@ -49,31 +49,21 @@ fn prefix_in(octets: &[u8]) -> Option<(Prefix, &[u8])>
     Some((prefix, after))
 }
 
-/// The prefixes of a field, one after another; none where it is malformed.
-fn all_in(alloc: Global, field: &[u8]) -> Result<Option<PrefixList>, NoMemory>
-    ensures { IfOk result (λ found. found ≡ all_said field.now) }
+/// The prefixes of a field, each once, at its first place; none where it is malformed.
+pub fn prefixes_in(alloc: Global, field: &[u8]) -> Result<Option<PrefixList>, NoMemory>
+    ensures { IfOk result (λ found. found ≡ prefixes_of field.now) }
 {
+    let mut set = PrefixSet::new(alloc);
     let mut prefixes = PrefixList::new(alloc);
     let mut rest = field;
     while !rest.is_empty() {
         let Some((prefix, after)) = prefix_in(rest) else {
             return Ok(None);
         };
-        prefixes.push(prefix)?;
+        put_once(&mut set, &mut prefixes, prefix)?;
         rest = after;
     }
     Ok(Some(prefixes))
-}
-
-/// The prefixes of a field, each once, at its first place; none where it is malformed.
-#[tactic(auto, unfolding(bgp_types::specs::Prefixes::prefixes_of))]
-pub fn prefixes_in(alloc: Global, field: &[u8]) -> Result<Option<PrefixList>, NoMemory>
-    ensures { IfOk result (λ found. found ≡ prefixes_of field.now) }
-{
-    match all_in(alloc, field)? {
-        Some(prefixes) => Ok(Some(once(alloc, prefixes.as_slice())?)),
-        None => Ok(None),
-    }
 }
 
 /// The prefixes that aren't in a set.

@@ -3,13 +3,13 @@
 ghost use Rattle.std.specs.Prelude.{◌≡◌, ◌≤◌, [], length, Some, IfOk};
 ghost use Rattle.attr_codec.specs.Answers.{Answers};
 ghost use Rattle.bgp_types.specs.FirstFault.{is_in_state, notice_of, body_of, message_of};
-ghost use Rattle.bgp_types.specs.Header.{frame_at};
+ghost use Rattle.bgp_types.specs.Header.{frame_at, header_notice};
 
-use crate::number::fault;
+use crate::number::{fault, octets_of_u16};
 use crate::open::read_open;
 use crate::update::read_update;
 use attr_codec::CodecFault;
-use bgp_types::{Expected, Message, NoMemory, Notice, Octets, SessionState};
+use bgp_types::{Expected, HeaderFault, Message, NoMemory, Notice, Octets, SessionState};
 use std::alloc::Global;
 
 /// The types of messages.
@@ -26,6 +26,16 @@ pub const HEADER: usize = 19;
 
 /// The code of a fault in the state machine.
 const STATE_FAULT: u8 = 5;
+
+/// The code of a fault in a header.
+const HEADER_FAULT: u8 = 1;
+
+/// The subcodes of its faults.
+const NOT_SYNCHRONIZED: u8 = 1;
+
+const BAD_LENGTH: u8 = 2;
+
+const BAD_TYPE: u8 = 3;
 
 /// Whether a session in this state takes a message of this type.
 fn is_in_state(state: SessionState, kind: u8) -> bool
@@ -75,9 +85,11 @@ fn read_body(
 
 /// Reads a whole frame with a sound header, as a framer gives it, in the state of a session: the
 /// message, or the NOTIFICATION that answers the first fault, in the state or in the body (RFC 4271,
-/// section 6). AS numbers have two octets, or four where the session is wide. It takes a time that
-/// grows with the length of the frame, and for its prefixes with the product of their count with the
-/// logarithm of that.
+/// section 6). A state takes the types of messages that the standard names for it; a session that is
+/// `Closed`, whose NOTIFICATION was sent or received, takes a NOTIFICATION alone, and any other type
+/// is a fault of the state (code 5). AS numbers have two octets, or four where the session is wide. It
+/// takes a time that grows with the length of the frame, and for its prefixes with the product of
+/// their count with the logarithm of that.
 pub fn read_message(alloc: Global, bytes: &[u8], expected: &Expected) -> Result<Message, CodecFault>
     requires { frame_at bytes.now ≡ Some (bytes.now, []) }
     ensures { Answers result (message_of expected.now bytes.now) }
@@ -88,4 +100,21 @@ pub fn read_message(alloc: Global, bytes: &[u8], expected: &Expected) -> Result<
     }
     let (_, body) = bytes.split_at(HEADER);
     read_body(alloc, kind, body, expected)
+}
+
+/// The NOTIFICATION that answers a faulty header: code 1, the subcode of the fault, and as data the
+/// length or the type that the header says (RFC 4271, section 6.1).
+pub fn header_notice(alloc: Global, fault: HeaderFault) -> Result<Notice, NoMemory>
+    ensures { IfOk result (λ notice. notice ≡ header_notice fault) }
+{
+    let (subcode, info) = match fault {
+        HeaderFault::NotSynchronized => (NOT_SYNCHRONIZED, Octets::new(alloc)),
+        HeaderFault::BadLength(len) => (BAD_LENGTH, Octets::from_slice(alloc, &octets_of_u16(len))?),
+        HeaderFault::BadType(kind) => (BAD_TYPE, Octets::from_slice(alloc, &[kind])?),
+    };
+    Ok(Notice {
+        code: HEADER_FAULT,
+        subcode,
+        info,
+    })
 }

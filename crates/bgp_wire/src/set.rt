@@ -1,7 +1,7 @@
 //! Sets of prefixes, by which a prefix that stood before is found.
 
 ghost use Rattle.std.specs.Prelude.{◌≡◌, [], true, not, IfOk, OnOk, if◌then◌else◌};
-ghost use Rattle.bgp_types.specs.Prefixes.{PrefixValue, same_prefix, put_once, once_after};
+ghost use Rattle.bgp_types.specs.Prefixes.{PrefixValue, same_prefix, put_once};
 ghost use Rattle.bgp_wire.specs.Sets.{has, IsSetOf};
 
 use bgp_types::{NoMemory, Prefix, PrefixList};
@@ -52,7 +52,7 @@ impl PrefixSet {
 }
 
 /// Puts a prefix at the end of a list, unless it is there; the set has the prefixes of the list.
-fn put_once(set: &mut PrefixSet, list: &mut PrefixList, prefix: Prefix) -> Result<(), NoMemory>
+pub fn put_once(set: &mut PrefixSet, list: &mut PrefixList, prefix: Prefix) -> Result<(), NoMemory>
     requires { IsSetOf set.old list.old }
     ensures list { OnOk result (list.new ≡ put_once list.old prefix) }
     ensures set { OnOk result (IsSetOf set.new list.new) }
@@ -61,16 +61,4 @@ fn put_once(set: &mut PrefixSet, list: &mut PrefixList, prefix: Prefix) -> Resul
         list.push(prefix)?;
     }
     Ok(())
-}
-
-/// The prefixes, each once, at its first place.
-pub fn once(alloc: Global, prefixes: &[Prefix]) -> Result<PrefixList, NoMemory>
-    ensures { IfOk result (λ list. list ≡ once_after [] prefixes.now) }
-{
-    let mut set = PrefixSet::new(alloc);
-    let mut list = PrefixList::new(alloc);
-    for prefix in prefixes {
-        put_once(&mut set, &mut list, *prefix)?;
-    }
-    Ok(list)
 }

@@ -149,8 +149,10 @@ fn frame_of(alloc: Global, kind: u8, body: &[u8]) -> Result<Octets, NoMemory>
 
 /// Writes a message in the width of AS numbers: its one written form, of `message_len` octets. The
 /// message is writable: each field is one that some frame reads as, no prefix stands twice, the
-/// unknown attributes stand in rising type, and the written form has at most 4,096 octets. It reads as
-/// the same message.
+/// unknown attributes stand in rising type, and the written form has at most 4,096 octets. An OPEN
+/// isn't writable either where its parameters have more than 255 octets as they are written: each
+/// capability stands in a parameter of its own, so an OPEN that was read from fewer parameters may be
+/// too long. What is written reads as the same message.
 #[tactic(auto, unfolding(bgp_types::specs::Spelling::spell))]
 pub fn write_message(alloc: Global, message: &Message, wide: bool) -> Result<Octets, NoMemory>
     requires { IsWritable message.now wide }

@@ -11,9 +11,8 @@ use std::slice;
 /// A list of values, which is read as a slice: `items[k]`, `items.get(k)`, `items.iter()`, `&items[a..b]`,
 /// `for item in &items`.
 ///
-/// In proofs, a loop `for x in items.iter()` has the index of the item, `l.x-index`, as a loop over a
-/// slice has. A loop `for x in &items` has the list of the items so far, `l.yielded`, which are references:
-/// `x.now` is an item's value.
+/// An invariant of a loop `for x in items.iter()` speaks of the values so far as over a slice, by
+/// `take l.x-index l.items`. One of `for x in &items` has them as `map (λ x. x.now) l.yielded`.
 #[derive(Debug, Drop)]
 pub struct Items<T> {
     vec: Vec<T>,

@@ -120,9 +120,11 @@ ready bytes input is =
       peering = peering;
       routers = gives.router.one;
       peerings = gives.peering.one;
+      some_home = gives.home_as.low_enough;
       home_as = let le = gives.home_as.high_enough in omega arith;
       host = host router.id gives.router.gives.id.host;
       at = at_first router input.routers gives.peering.inner (codes "at") peering.at.0 gives.router.one gives.peering.gives.at;
+      some_remote = gives.peering.gives.remote_as.low_enough;
       remote_as = let le = remote.remote_as in omega arith;
       remote_host = remote.address;
       few = steps.few;

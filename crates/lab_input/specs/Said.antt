@@ -21,9 +21,11 @@ pub record IsReady (input : LabInput) : Type 0 where
   pub peering : PeeringInput
   pub routers : input.routers ≡ router ∷ []
   pub peerings : input.peerings ≡ peering ∷ []
+  pub some_home : 1 ≤ input.home_as
   pub home_as : input.home_as < 2 ^ 16
   pub host : is_no_host router.id ≡ false
   pub at : peering.at.0 ≡ 0
+  pub some_remote : 1 ≤ peering.remote_as
   pub remote_as : peering.remote_as < 2 ^ 16
   pub remote_host : is_no_host peering.remote_address ≡ false
   pub few : length input.steps ≤ 4096

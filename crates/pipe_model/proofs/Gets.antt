@@ -14,7 +14,7 @@ use Rattle.bgp_types.specs.Prefixes.{PrefixValue}
 use Rattle.bgp_types.specs.Tables.{prefix_cmp}
 use Rattle.bgp_story.specs.declared.line.Line.{Line}
 use Rattle.bgp_story.specs.declared.line.Line.TheVariants.{Got}
-use Rattle.bgp_story.specs.Legal.{Legal, Peering, Allowed, expected, reply_to}
+use Rattle.bgp_story.specs.Legal.{Legal, Peering, Allowed, expected_next, reply_to}
 use Rattle.bgp_story.specs.Readings.{Routes, IsLegal, put_bytes, got_bytes, heard, told, hear, tell, apply_if, update_in, unless_closed}
 use Rattle.bgp_story.specs.States.{state_of}
 use Rattle.bgp_story.proofs.Grows.{put_grows, got_grows, told_grows, heard_grows, none_told, none_heard}
@@ -44,9 +44,9 @@ module _ (p : Peering) (lines : List Line) (bytes : List ℕ) (answer : List Lin
     (legal : IsLegal p lines (state_of lines))
     (open_yet : state_of lines ≢ Closed)
     (got : Rattle.bgp_story.specs.Legal.IsGot bytes)
-    (reply : reply_to (message_of (expected p lines (state_of lines)) bytes) ≡ (answer, next)) where
+    (reply : reply_to (message_of (expected_next p lines (state_of lines)) bytes) ≡ (answer, next)) where
   abbrev pub said : Result Message Notice
-  said = message_of (expected p lines (state_of lines)) bytes
+  said = message_of (expected_next p lines (state_of lines)) bytes
 
   abbrev pub more : List Line
   more = Got bytes ∷ answer
@@ -73,7 +73,7 @@ module _ (p : Peering) (lines : List Line) (bytes : List ℕ) (answer : List Lin
   put_then = record { rest = _; is = put_grows p lines more (state_of lines) (allowed_of p lines (state_of lines) legal) }
 
   abbrev pub later : Expected
-  later = expected p (lines ++ more) Established
+  later = expected_next p (lines ++ more) Established
 
   heard_unclosed : next ≢ Closed → heard p (lines ++ more) ≡ apply_if (heard p lines) (update_in said)
   heard_unclosed c =
@@ -125,7 +125,7 @@ module _ (pipe : Pipe) (w v : World) (row : GetsRow pipe w v) (k : Keeps pipe w 
   heard_is : row.heard ≡ heard (session_of pipe) after.story
   heard_is =
       row.hears
-      ∙ (ap (λ (x : Routes). unless_closed row.next (apply_if x (update_in (message_of (expected (session_of pipe) s.story before) row.bytes)))) k.heard
+      ∙ (ap (λ (x : Routes). unless_closed row.next (apply_if x (update_in (message_of (expected_next (session_of pipe) s.story before) row.bytes)))) k.heard
       ∙ sym (heard_then (session_of pipe) s.story row.bytes row.answer row.next k.legal row.unclosed row.got row.reply))
 
   told_is : after.told ≡ told after.story
@@ -135,7 +135,7 @@ module _ (pipe : Pipe) (w v : World) (row : GetsRow pipe w v) (k : Keeps pipe w 
 
   -- what was told before it was established is nothing
   due_from : (state next : SessionState) → before ≡ state → row.next ≡ next → next ≡ Established → (p : PrefixValue) → has (due_then state next w.best w.due) p ≡ false → map.get s.told p ≡ to_tell pipe w p
-  due_from OpenSent Established e f g p h = absurd (established_from (expected (session_of pipe) s.story before) row.bytes row.answer (row.reply ∙ ap (λ (x : SessionState). (row.answer, x)) f) e)
+  due_from OpenSent Established e f g p h = absurd (established_from (expected_next (session_of pipe) s.story before) row.bytes row.answer (row.reply ∙ ap (λ (x : SessionState). (row.answer, x)) f) e)
   due_from OpenConfirm Established e f g p h = k.untold p ∙ sym (ap (λ (x : Option _). Rattle.route_policy.specs.Telling.tell_out pipe.home_as (Rattle.pipe_model.specs.Decisions.out_side pipe) p x) (no_best w.best w.due p h))
   due_from Established Established e f g p h = k.due p h e
   due_from Closed Established e f g p h = absurd (row.unclosed e)
@@ -156,8 +156,8 @@ module _ (pipe : Pipe) (w v : World) (row : GetsRow pipe w v) (k : Keeps pipe w 
 
   -- an established session stays so until it is closed
   stays : (next : SessionState) → row.next ≡ next → next ≢ Closed → before ≡ Established → next ≡ Established
-  stays OpenSent f c e = let y = sym (confirmed_from (expected (session_of pipe) s.story before) row.bytes row.answer row.next row.reply (λ z. let q : OpenSent ≡ Established = sym f ∙ z in absurd cc) (λ z. c (sym f ∙ z))) ∙ e in absurd cc
-  stays OpenConfirm f c e = let y = sym (confirmed_from (expected (session_of pipe) s.story before) row.bytes row.answer row.next row.reply (λ z. let q : OpenConfirm ≡ Established = sym f ∙ z in absurd cc) (λ z. c (sym f ∙ z))) ∙ e in absurd cc
+  stays OpenSent f c e = let y = sym (confirmed_from (expected_next (session_of pipe) s.story before) row.bytes row.answer row.next row.reply (λ z. let q : OpenSent ≡ Established = sym f ∙ z in absurd cc) (λ z. c (sym f ∙ z))) ∙ e in absurd cc
+  stays OpenConfirm f c e = let y = sym (confirmed_from (expected_next (session_of pipe) s.story before) row.bytes row.answer row.next row.reply (λ z. let q : OpenConfirm ≡ Established = sym f ∙ z in absurd cc) (λ z. c (sym f ∙ z))) ∙ e in absurd cc
   stays Established f c e = refl
   stays Closed f c e = absurd (c refl)
 
@@ -187,7 +187,7 @@ module _ (pipe : Pipe) (w v : World) (row : GetsRow pipe w v) (k : Keeps pipe w 
     heard = unheard;
   }) where
     first : before ≡ OpenSent
-    first = confirmed_from (expected (session_of pipe) s.story before) row.bytes row.answer row.next row.reply o c
+    first = confirmed_from (expected_next (session_of pipe) s.story before) row.bytes row.answer row.next row.reply o c
 
     e : Early w s
     e = k.early (λ x. let y : OpenSent ≡ Established = sym first ∙ x in absurd cc) row.unclosed
@@ -195,7 +195,7 @@ module _ (pipe : Pipe) (w v : World) (row : GetsRow pipe w v) (k : Keeps pipe w 
     same_heard : row.heard ≡ s.heard
     same_heard =
         row.hears
-        ∙ (ap (λ (x : Option Update). unless_closed row.next (apply_if s.heard x)) (no_update (message_of (expected (session_of pipe) s.story before) row.bytes) row.answer row.next row.reply o)
+        ∙ (ap (λ (x : Option Update). unless_closed row.next (apply_if s.heard x)) (no_update (message_of (expected_next (session_of pipe) s.story before) row.bytes) row.answer row.next row.reply o)
         ∙ while_unclosed row.next s.heard c)
 
     unheard : (p : PrefixValue) → map.get row.heard p ≡ None

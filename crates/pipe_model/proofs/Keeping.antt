@@ -1,16 +1,17 @@
 -- What every event keeps, and what follows from it.
-use Rattle.std.proofs.Common.{◌≡◌, ℕ, suc, ◌+◌, ◌≤◌, Bool, true, false, cond, List, [], ◌∷◌, ◌++◌, length, take, drop, Option, Some, None, refl, sym, ap, ◌∙◌, subst, append_assoc, zero-add, arith}
+use Rattle.std.proofs.Common.{◌≡◌, ℕ, suc, ◌+◌, ◌^◌, ◌<◌, ◌≤◌, Bool, true, false, cond, List, [], ◌∷◌, ◌++◌, length, take, drop, Option, Some, None, refl, sym, ap, ◌∙◌, subst, append_assoc, zero-add, arith, lit<}
 use Rattle.std.specs.Prelude.{◌≢◌}
 use Rattle.std.specs.FinMap as map
 use Rattle.std.proofs.lemmas.Option.{same_Some}
 use Rattle.bgp_types.specs.declared.message.SessionState.TheVariants.{Established, Closed}
 use Rattle.bgp_types.specs.Prefixes.{PrefixValue}
 use Rattle.bgp_types.specs.Tables.{prefix_cmp}
-use Rattle.bgp_story.specs.Legal.{Legal}
+use Rattle.bgp_story.specs.Legal.{IsPeering, Legal}
+use Rattle.bgp_story.specs.Opens.{IsAsNumber}
 use Rattle.bgp_story.specs.Readings.{IsLegal, put_bytes, got_bytes, heard, told}
 use Rattle.bgp_story.specs.States.{state_of}
 use Rattle.pipe_model.specs.declared.pipe.Pipe.{Pipe}
-use Rattle.pipe_model.specs.Pipes.{session_of}
+use Rattle.pipe_model.specs.Pipes.{IsSound, session_of}
 use Rattle.pipe_model.specs.Worlds.{Session, World, unread, has, first_world, first_session}
 use Rattle.bgp_types.specs.declared.attrs.Attrs.{Attrs}
 use Rattle.route_policy.specs.declared.best.Best.{Best}
@@ -91,11 +92,20 @@ none_brought : (pipe : Pipe) → brought pipe None ≡ None
 unfolding brought
 none_brought pipe = refl
 
-pub first_keeps : (pipe : Pipe) → Keeps pipe (first_world pipe) (first_session pipe)
-first_keeps pipe = record {
+-- home's OPEN is one that a home side puts, and the remote has an AS
+pub peering_is : (pipe : Pipe) → IsSound pipe → IsPeering (session_of pipe)
+peering_is pipe sound = record {
+  home = record { home_as = pipe.home_as; offered = false; is = refl; as_number = as_number_is pipe.home_as sound.some_home sound.home_as; hold_fits = lit< tt; hold_time = refl; host = sound.host };
+  remote_as = as_number_is pipe.remote_as sound.some_remote sound.remote_as;
+} where
+  as_number_is : (n : ℕ) → 1 ≤ n → n < 2 ^ 16 → IsAsNumber n
+  as_number_is n some short = record { some = some; fits = omega arith }
+
+pub first_keeps : (pipe : Pipe) → IsSound pipe → Keeps pipe (first_world pipe) (first_session pipe)
+first_keeps pipe sound = record {
   held = refl;
   pointer = refl;
-  legal = Legal.opened (first_session pipe).story refl;
+  legal = Legal.opened (first_session pipe).story (peering_is pipe sound) refl;
   arrived = front_more [] (first_world pipe).said;
   got = front_more [] [];
   received = front_more [] (put_bytes (session_of pipe) (first_session pipe).story);

@@ -10,7 +10,7 @@ use Rattle.bgp_types.specs.declared.message.SessionState.TheVariants.{OpenSent, 
 use Rattle.bgp_types.specs.FirstFault.{message_of, body_of, is_in_state, state_fault}
 use Rattle.bgp_types.specs.Header.{header_fault, kind_in}
 use Rattle.bgp_story.specs.declared.line.Line.{Line}
-use Rattle.bgp_story.specs.Legal.{Peering, expected, reply_to, is_wide, is_up, Allowed}
+use Rattle.bgp_story.specs.Legal.{Peering, expected_next, reply_to, is_wide, is_up, Allowed}
 use Rattle.bgp_story.specs.Opens.{offers}
 use Rattle.bgp_story.specs.Readings.{Routes, got_bytes, update_in, tell, hear, unless_closed}
 use Rattle.bgp_story.proofs.Grows.{width_stays}
@@ -95,24 +95,24 @@ keepalive_again e bytes h k = rw h (rw k (by_state (is_in_state e.state 4))) whe
   by_state true = refl
   by_state false = refl
 
-pub same_update : (p : Peering) (lines more : List Line) (state : SessionState) (bytes : List ℕ) (answer : List Line) (next : SessionState) → Allowed p lines state → reply_to (message_of (expected p lines state) bytes) ≡ (answer, next) → next ≢ Closed
-    → update_in (message_of (expected p (lines ++ more) Established) bytes) ≡ update_in (message_of (expected p lines state) bytes)
-same_update p lines more state bytes answer next l r c = by_message (message_of (expected p lines state) bytes) refl r where
+pub same_update : (p : Peering) (lines more : List Line) (state : SessionState) (bytes : List ℕ) (answer : List Line) (next : SessionState) → Allowed p lines state → reply_to (message_of (expected_next p lines state) bytes) ≡ (answer, next) → next ≢ Closed
+    → update_in (message_of (expected_next p (lines ++ more) Established) bytes) ≡ update_in (message_of (expected_next p lines state) bytes)
+same_update p lines more state bytes answer next l r c = by_message (message_of (expected_next p lines state) bytes) refl r where
   later : Expected
-  later = expected p (lines ++ more) Established
+  later = expected_next p (lines ++ more) Established
 
-  by_message : (m : Result Message Notice) → message_of (expected p lines state) bytes ≡ m → reply_to m ≡ (answer, next) → update_in (message_of later bytes) ≡ update_in m
+  by_message : (m : Result Message Notice) → message_of (expected_next p lines state) bytes ≡ m → reply_to m ≡ (answer, next) → update_in (message_of later bytes) ≡ update_in m
   by_message (Ok (OpenMsg o)) g f =
-      let read = read_of (expected p lines state) bytes (OpenMsg o) g in
+      let read = read_of (expected_next p lines state) bytes (OpenMsg o) g in
       other_state later bytes read.sound (ap (is_in_state Established) read.kind)
   by_message (Ok (UpdateMsg u)) g f =
-      let s : state ≡ Established = only_update state (read_of (expected p lines state) bytes (UpdateMsg u) g).in_state in
+      let s : state ≡ Established = only_update state (read_of (expected_next p lines state) bytes (UpdateMsg u) g).in_state in
       let wide : is_wide p (lines ++ more) ≡ is_wide p lines = width_stays p lines more state l (ap is_up s) in
-      let e : later ≡ expected p lines state = ap (λ (w : Bool). record { state = Established; remote_as = p.remote_as; offered = offers p.first; wide = w }) wide ∙ ap (expected p lines) (sym s) in
+      let e : later ≡ expected_next p lines state = ap (λ (w : Bool). record { state = Established; remote_as = p.remote_as; offered = offers p.first; wide = w }) wide ∙ ap (expected_next p lines) (sym s) in
       ap (λ (x : Expected). update_in (message_of x bytes)) e ∙ ap update_in g
   by_message (Ok (NoticeMsg n)) g f = absurd (c (sym (ap (λ y. y.1) f)))
   by_message (Ok KeepaliveMsg) g f =
-      let read = read_of (expected p lines state) bytes KeepaliveMsg g in
+      let read = read_of (expected_next p lines state) bytes KeepaliveMsg g in
       keepalive_again later bytes read.sound read.kind
   by_message (Err n) g f = absurd (c (sym (ap (λ y. y.1) f)))
 

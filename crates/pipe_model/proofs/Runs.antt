@@ -39,14 +39,14 @@ run_keeps pipe (event ∷ events) w v s k run =
     let next : Kept pipe run.0 = step_keeps pipe event w run.0 s k run.1 in
     run_keeps pipe events run.0 v next.0 next.1 run.2
 
-pub kept : (pipe : Pipe) (events : List Event) (w : World) → Run pipe (first_world pipe) events w → Kept pipe w
-kept pipe events w run = run_keeps pipe events (first_world pipe) w (first_session pipe) (first_keeps pipe) run
+pub kept : (pipe : Pipe) (events : List Event) (w : World) → IsSound pipe → Run pipe (first_world pipe) events w → Kept pipe w
+kept pipe events w sound run = run_keeps pipe events (first_world pipe) w (first_session pipe) (first_keeps pipe sound) run
 
 one_is : {pipe : Pipe} {w : World} {s : Session} → Keeps pipe w s → sessions_in w ≡ s ∷ []
 one_is k = ap option_list k.held
 
 pub transparent : (pipe : Pipe) (events : List Event) (w : World) → IsSound pipe → Run pipe (first_world pipe) events w → Transparent pipe w
-transparent pipe events w sound run = of (kept pipe events w run) where
+transparent pipe events w sound run = of (kept pipe events w sound run) where
   of : Kept pipe w → Transparent pipe w
   of (s, k) = record {
     session = s;
@@ -59,7 +59,7 @@ transparent pipe events w sound run = of (kept pipe events w run) where
   }
 
 pub one_holder : (pipe : Pipe) (events : List Event) (w : World) → IsSound pipe → Run pipe (first_world pipe) events w → holders w ≡ 1
-one_holder pipe events w sound run = let k = kept pipe events w run in ap length (one_is k.1)
+one_holder pipe events w sound run = let k = kept pipe events w sound run in ap length (one_is k.1)
 
 told_by_state : (state : SessionState) (told tell : Option Attrs) → (state ≡ Established → told ≡ tell) → (state ≢ Established → told ≡ None) → told ≡ told_in state tell
 told_by_state OpenSent told tell up down = down (λ e. absurd cc)
@@ -71,7 +71,7 @@ not_in : (prefixes : Prefixes) → prefixes ≡ map.empty → (p : PrefixValue) 
 not_in prefixes e p = ap (λ (x : Prefixes). has x p) e ∙ has_none p
 
 pub solves : (pipe : Pipe) (events : List Event) (w : World) → IsSound pipe → Run pipe (first_world pipe) events w → Quiet pipe w → Solves pipe w
-solves pipe events w sound run q = of (kept pipe events w run) where
+solves pipe events w sound run q = of (kept pipe events w sound run) where
   of : Kept pipe w → Solves pipe w
   of (s, k) =
       let rest : AtRest pipe w s = q.at_rest s k.held in

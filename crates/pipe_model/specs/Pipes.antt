@@ -1,5 +1,5 @@
 -- One home router and one remote that a pipe joins, and what the remote says.
-use Rattle.std.specs.Prelude.{◌≡◌, ℕ, ◌^◌, ◌<◌, List, ◌++◌, length, unwrap_or, slice_get, [], false}
+use Rattle.std.specs.Prelude.{◌≡◌, ℕ, ◌^◌, ◌<◌, ◌≤◌, List, ◌++◌, length, unwrap_or, slice_get, [], false}
 use Rattle.bgp_types.specs.declared.message.Message.{Message}
 use Rattle.bgp_types.specs.declared.message.Message.TheVariants.{OpenMsg, KeepaliveMsg}
 use Rattle.bgp_types.specs.Spelling.{spell}
@@ -8,11 +8,13 @@ use Rattle.bgp_story.specs.Legal.{Peering}
 use Rattle.bgp_story.specs.Opens.{home_open}
 use Rattle.pipe_model.specs.declared.pipe.Pipe.{Pipe}
 
--- The router has number 0, and the session starts there. The OPENs of both sides can be put, and each
--- step has a number.
+-- The router has number 0, and the session starts there. The OPENs of both sides can be put: their ASes are
+-- not 0 (RFC 7607, section 2) and have two octets, and their identifiers are hosts' addresses. Each step has a number.
 pub record IsSound (pipe : Pipe) : Type 0 where
+  pub some_home : 1 ≤ pipe.home_as
   pub home_as : pipe.home_as < 2 ^ 16
   pub host : is_no_host pipe.identifier ≡ false
+  pub some_remote : 1 ≤ pipe.remote_as
   pub remote_as : pipe.remote_as < 2 ^ 16
   pub remote_host : is_no_host pipe.remote_address ≡ false
   pub few : length pipe.says < 2 ^ 32

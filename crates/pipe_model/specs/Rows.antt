@@ -7,7 +7,7 @@ use Rattle.bgp_types.specs.FirstFault.{message_of}
 use Rattle.bgp_types.specs.Prefixes.{PrefixValue}
 use Rattle.bgp_story.specs.declared.line.Line.{Line}
 use Rattle.bgp_story.specs.declared.line.Line.TheVariants.{Got}
-use Rattle.bgp_story.specs.Legal.{IsGot, expected, reply_to}
+use Rattle.bgp_story.specs.Legal.{IsGot, expected_next, reply_to}
 use Rattle.bgp_story.specs.Readings.{Routes, apply_if, update_in, unless_closed, put_bytes}
 use Rattle.bgp_story.specs.States.{state_of}
 use Rattle.pipe_model.specs.declared.pipe.Pipe.{Pipe}
@@ -69,9 +69,9 @@ pub record GetsRow (pipe : Pipe) (w v : World) : Type 0 where
   pub got : IsGot bytes
   pub answer : List Line
   pub next : SessionState
-  pub reply : reply_to (message_of (expected (session_of pipe) session.story (state_of session.story)) bytes) ≡ (answer, next)
+  pub reply : reply_to (message_of (expected_next (session_of pipe) session.story (state_of session.story)) bytes) ≡ (answer, next)
   pub heard : Routes
-  pub hears : heard ≡ unless_closed next (apply_if session.heard (update_in (message_of (expected (session_of pipe) session.story (state_of session.story)) bytes)))
+  pub hears : heard ≡ unless_closed next (apply_if session.heard (update_in (message_of (expected_next (session_of pipe) session.story (state_of session.story)) bytes)))
   pub marks : Marks w.dirty v.dirty session.heard heard
   pub effect : v ≡ record w {
     held = Some (record session { story = session.story ++ Got bytes ∷ answer; heard = heard; told = unless_closed next session.told });

@@ -1,14 +1,12 @@
 -- What both sides say first can be put.
-use Rattle.std.proofs.Common.{◌≡◌, ℕ, ◌^◌, ◌<◌, false, refl, lit<, lit≤, arith}
+use Rattle.std.proofs.Common.{◌≡◌, ℕ, ◌^◌, ◌<◌, false, lit<, lit≤, arith}
 use Rattle.std.proofs.lemmas.Bool.Decides.{nat_tests}
 use Rattle.bgp_types.specs.declared.message.Message.TheVariants.{OpenMsg, KeepaliveMsg}
 use Rattle.bgp_types.specs.Spelling.{spell}
 use Rattle.bgp_types.specs.PathOctets.{narrow_as}
 use Rattle.bgp_types.specs.Values.{is_no_host, is_short_hold}
 use Rattle.bgp_types.specs.Writable.{IsWritable}
-use Rattle.bgp_story.specs.Opens.{home_open, IsHomeOpen}
-use Rattle.pipe_model.specs.declared.pipe.Pipe.{Pipe}
-use Rattle.pipe_model.specs.Pipes.{IsSound, session_of}
+use Rattle.bgp_story.specs.Opens.{home_open}
 
 narrow_fits : (as_number : ℕ) → narrow_as as_number < 2 ^ 16
 narrow_fits as_number = grind (arith, nat_tests)
@@ -23,14 +21,3 @@ open_fits as_number hold identifier fits long host = record {
 pub keepalive_fits : IsWritable KeepaliveMsg false
 unfolding spell
 keepalive_fits = record { body = tt; size = lit≤ tt }
-
-pub home_puts : (pipe : Pipe) → IsSound pipe → IsHomeOpen (session_of pipe).first
-home_puts pipe sound = record {
-  home_as = pipe.home_as;
-  offered = false;
-  is = refl;
-  as_fits = let h = sound.home_as in omega arith;
-  hold_fits = lit< tt;
-  hold_time = refl;
-  host = sound.host;
-}

@@ -12,8 +12,7 @@ use Rattle.bgp_types.specs.declared.message.SessionState.TheVariants.{OpenSent, 
 use Rattle.bgp_types.specs.Header.{header_fault}
 use Rattle.bgp_story.specs.declared.line.Line.{Line}
 use Rattle.bgp_story.specs.declared.line.Line.TheVariants.{Got}
-use Rattle.bgp_story.specs.Opens.{IsHomeOpen}
-use Rattle.bgp_story.specs.Legal.{Legal, Allowed, Peering, expected, reply_to, is_wide, both_offer, got_open}
+use Rattle.bgp_story.specs.Legal.{Legal, Allowed, Peering, expected_next, reply_to, is_wide, both_offer, got_open}
 use Rattle.bgp_story.specs.Readings.{Routes, put_bytes, put_in, got_bytes, apply_if, update_in, unless_closed}
 use Rattle.bgp_story.specs.States.{Begins, state_of}
 use Rattle.bgp_story.proofs.Grows.{put_grows}
@@ -42,7 +41,7 @@ not_wide pipe lines = by_open (got_open (session_of pipe) lines) where
 sound_unless_closed : (w : PipeWorld) (bytes : List ℕ) (answer : List Line) (next : SessionState) → reply_to (reading w bytes) ≡ (answer, next) → next ≢ Closed → header_fault bytes ≡ None
 sound_unless_closed w bytes answer next r c = by_reading (reading w bytes) refl r where
   by_reading : (m : Result Message Notice) → reading w bytes ≡ m → reply_to m ≡ (answer, next) → header_fault bytes ≡ None
-  by_reading (Ok m) e f = (read_of (expected (session_of w.pipe) w.story.lines (state_of w.story.lines)) bytes m e).sound
+  by_reading (Ok m) e f = (read_of (expected_next (session_of w.pipe) w.story.lines (state_of w.story.lines)) bytes m e).sound
   by_reading (Err n) e f = absurd (c (sym (ap (λ y. y.1) f)))
 
 still_empty : (next : SessionState) → unless_closed next map.empty ≡ map.empty
@@ -50,10 +49,6 @@ still_empty OpenSent = refl
 still_empty OpenConfirm = refl
 still_empty Established = refl
 still_empty Closed = refl
-
--- home's OPEN can be put
-pub home_is : (pipe : Pipe) → IsSound pipe → IsHomeOpen (session_of pipe).first
-home_is pipe sound = record { home_as = pipe.home_as; offered = false; is = refl; as_fits = let a = sound.home_as in omega arith; hold_fits = omega arith; hold_time = refl; host = sound.host }
 
 -- the world after bytes were got and answered
 abbrev pub gotten : PipeWorld → List ℕ → List Line → Routes → Prefixes → TableValue (Unit {0}) → PipeWorld
@@ -156,7 +151,6 @@ begins_got w bytes f = of (reply_to (reading w bytes)) refl where
   of (answer, next) reply = record {
     peering = session_of w.pipe;
     remote = sym f.stands.kept.remote;
-    home = home_is w.pipe f.stands.kept.sound;
     rest = answer;
     state = next;
     legal = subst (λ (x : List Line). Allowed (session_of w.pipe) x next) (sym (append_assoc w.story.lines (Got bytes ∷ []) answer))
@@ -168,7 +162,6 @@ pub begins_answered : (w : PipeWorld) (bytes : List ℕ) (answer : List Line) (n
 begins_answered w bytes answer next f reply = record {
   peering = session_of w.pipe;
   remote = sym f.stands.kept.remote;
-  home = home_is w.pipe f.stands.kept.sound;
   rest = [];
   state = next;
   legal = subst (λ (x : List Line). Allowed (session_of w.pipe) x next) (sym (append-nil (w.story.lines ++ Got bytes ∷ answer)))

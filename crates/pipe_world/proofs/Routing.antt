@@ -45,7 +45,7 @@ chosen_route pipe o attrs e h = sym (ap (brought pipe) e ∙ ap (λ (t : Bool). 
 -- ---- what the run keeps of the session that stands
 
 pub keeps_of : (w : PipeWorld) → Stands w → Keeps w.pipe (world_of w) (session_in w)
-keeps_of w s = of (kept w.pipe s.events (world_of w) s.run) where
+keeps_of w s = of (kept w.pipe s.events (world_of w) s.kept.sound s.run) where
   of : Kept w.pipe (world_of w) → Keeps w.pipe (world_of w) (session_in w)
   of (t, k) = subst (λ (x : Session). Keeps w.pipe (world_of w) x) (sym (same_Some _ _ k.held)) k
 

@@ -136,6 +136,6 @@ home_went w n framer s some there fed = went (Carries Homeward n) w (noted (reco
   length_taken = let l = length-take w.arrived w.said in let most = s.kept.arrived in grind (arith, nat_tests)
 
   read_short : w.read ≤ length (take w.arrived w.said)
-  read_short = subst (λ (k : ℕ). k ≤ length (take w.arrived w.said)) (sym s.kept.read) (front_short (of (kept w.pipe s.events (world_of w) s.run))) where
+  read_short = subst (λ (k : ℕ). k ≤ length (take w.arrived w.said)) (sym s.kept.read) (front_short (of (kept w.pipe s.events (world_of w) s.kept.sound s.run))) where
     of : Kept w.pipe (world_of w) → IsFront (got_bytes w.story.lines) (take w.arrived w.said)
     of (t, k) = subst (λ (x : Session). IsFront (got_bytes x.story) x.arrived) (sym (same_Some _ _ k.held)) k.got

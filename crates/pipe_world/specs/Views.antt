@@ -7,7 +7,7 @@ use Rattle.bgp_types.specs.declared.message.Message.{Message}
 use Rattle.bgp_types.specs.declared.message.Notice.{Notice}
 use Rattle.bgp_types.specs.FirstFault.{message_of}
 use Rattle.bgp_types.specs.Header.{header_fault}
-use Rattle.bgp_story.specs.Legal.{IsGot, expected}
+use Rattle.bgp_story.specs.Legal.{IsGot, expected_next}
 use Rattle.bgp_story.specs.Readings.{put_bytes, got_bytes}
 use Rattle.bgp_story.specs.States.{state_of}
 use Rattle.pipe_model.specs.Pipes.{IsSound, session_of}
@@ -84,7 +84,7 @@ Went false old new = new ≡ old
 
 -- what bytes read as, in the session as it is
 abbrev pub reading : PipeWorld → List ℕ → Result Message Notice
-reading w bytes = message_of (expected (session_of w.pipe) w.story.lines (state_of w.story.lines)) bytes
+reading w bytes = message_of (expected_next (session_of w.pipe) w.story.lines (state_of w.story.lines)) bytes
 
 -- A whole message or a faulty header was at the front of what is unread. The framer holds what is behind a
 -- message.

@@ -10,9 +10,8 @@ invariant_of-result c = rw (c.in_ok-push.ensures.items, c.new-lines.ensures.item
   record {
     peering = record { first = c.args.first; remote_as = c.args.remote_as };
     remote = refl;
-    home = c.requires;
     rest = [];
     state = OpenSent;
-    legal = opened _ refl;
+    legal = opened _ c.requires refl;
   },
 )

@@ -1,0 +1,61 @@
+//! The header of a message (RFC 4271, sections 4.1 and 6.1).
+
+ghost use Rattle.std.specs.Prelude.{◌≡◌, ◌==◌, ◌≤◌, length};
+ghost use Rattle.std.specs.List.{list_all};
+ghost use Rattle.bgp_types.specs.Header.{header_fault, len_in, fault_of_kind};
+
+use crate::fault::HeaderFault;
+use byteorder::{BigEndian, ByteOrder};
+
+/// The octets of a header: a marker of 16, a length of two, and a type.
+pub const HEADER: usize = 19;
+
+/// The length that a header says: the octets of the whole message.
+pub fn header_len(octets: &[u8]) -> u16
+    requires { 19 ≤ length octets.now }
+    ensures { result ≡ len_in octets.now }
+{
+    BigEndian::read_u16(&octets[16..18])
+}
+
+/// Why no message of this type has this length.
+fn fault_of_kind(kind: u8, len: u16) -> Option<HeaderFault>
+    ensures { result ≡ fault_of_kind kind len }
+{
+    if !(19..=4096).contains(&len) {
+        return Some(HeaderFault::BadLength(len));
+    }
+    let has_room = match kind {
+        1 => len >= 29,
+        2 => len >= 23,
+        3 => len >= 21,
+        4 => len == 19,
+        _ => return Some(HeaderFault::BadType(kind)),
+    };
+    if has_room {
+        None
+    } else {
+        Some(HeaderFault::BadLength(len))
+    }
+}
+
+/// Whether the octets of a marker are all ones.
+fn is_marker(octets: &[u8]) -> bool
+    ensures { result ≡ list_all (λ octet. octet == 255) octets.now }
+{
+    octets.iter().all(|octet| *octet == 0xFF)
+}
+
+/// The first fault of a header: its marker, its length, its type, and then the least length of a
+/// message of that type. The octets may go on behind the header.
+#[tactic(auto, unfolding(crate::specs::Header::header_fault))]
+pub fn header_fault(octets: &[u8]) -> Option<HeaderFault>
+    requires { 19 ≤ length octets.now }
+    ensures { result ≡ header_fault octets.now }
+{
+    let (marker, _) = octets.split_at(16);
+    if !is_marker(marker) {
+        return Some(HeaderFault::NotSynchronized);
+    }
+    fault_of_kind(octets[18], header_len(octets))
+}
