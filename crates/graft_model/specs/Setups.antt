@@ -1,10 +1,12 @@
 -- What a laboratory is given: the home network, the peerings, and the script of the operator.
-use Rattle.std.specs.Prelude.{ℕ, ◌==◌, ◌+◌, Bool, true, false, List, [], ◌∷◌, length, take, filter, Option, Some, None, option_map, unwrap_or, is_none, if◌then◌else◌, slice_get}
-use Rattle.std.specs.List.{list_any, find, range_with_len}
+use Rattle.std.specs.Prelude.{ℕ, ◌==◌, ◌+◌, Bool, true, false, List, [], ◌∷◌, length, take, filter, map, All, ◌<◌, ◌≤◌, ◌≡◌, Option, Some, None, option_map, unwrap_or, is_none, if◌then◌else◌, slice_get}
+use Rattle.std.specs.List.{list_any, find, range_with_len, last_or}
 use Rattle.std.specs.Str.{bytes_eq}
 use Rattle.bgp_types.specs.Prefixes.{PrefixValue, same_prefix}
 use Rattle.route_policy.specs.declared.rule.Rule.{Rule}
+use Rattle.bgp_story.specs.Legal.{IsPeering}
 use Rattle.session_value.specs.declared.config.SessionConfig.{SessionConfig}
+use Rattle.session_value.specs.Sessions.{peering_of}
 
 -- a policy by its name
 pub record NamedRules : Type 0 where
@@ -131,3 +133,33 @@ grafts_in setup = grafts_after 0 setup.steps
 -- the number that the graft at a step has, or would have
 abbrev pub graft_number : Setup → ℕ → ℕ
 graft_number setup step = length (grafts_after 0 (take step setup.steps)) + 1
+
+-- ---- what makes sense
+
+-- A peering's session begins at one of the routers, with that router's identifier, and its numbers are those of the laboratory. Its OPEN can be put,
+-- and what its remote says has room in a stream of 1 MiB.
+pub record IsPeeringSetup (setup : Setup) (p : ℕ) (peering : PeeringSetup) : Type 0 where
+  pub start : peering.start < routers_in setup
+  pub number : peering.config.peering.0 ≡ p
+  pub home_as : peering.config.home_as ≡ setup.home_as
+  pub identifier : peering.config.identifier ≡ identifier_of setup peering.start
+  pub valid : IsPeering (peering_of peering.config)
+  pub policies : missing_policy setup peering.start peering.config ≡ None
+  pub opening : length peering.opening ≤ 4096
+
+-- how many of the peerings start at a router
+abbrev pub starting_at : Setup → ℕ → ℕ
+starting_at setup r = length (filter (λ peering. peering.start == r) setup.peerings)
+
+-- the peering and the target of a step are there
+abbrev pub IsStep : Setup → ScriptStep → Type 0
+IsStep setup (Say peering bytes) = peering < peerings_in setup
+IsStep setup (Graft peering target) = (peering < peerings_in setup) × (target < routers_in setup)
+IsStep setup Settle = Unit {0}
+
+-- What a laboratory can begin with: sound peerings, room for them where they start, and a script of sound steps whose last one ends a group.
+pub record IsSetup (setup : Setup) : Type 0 where
+  pub peerings : (p : ℕ) (peering : PeeringSetup) → slice_get setup.peerings p ≡ Some peering → IsPeeringSetup setup p peering
+  pub room : (r : ℕ) → r < routers_in setup → starting_at setup r ≤ room_of setup r
+  pub steps : All (IsStep setup) setup.steps
+  pub ended : last_or None (map Some setup.steps) ≡ Some Settle

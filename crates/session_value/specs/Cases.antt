@@ -13,7 +13,7 @@ use Rattle.bgp_types.specs.Spelling.{spell}
 use Rattle.tcp_seq.specs.Endpoint.{Endpoint}
 use Rattle.bgp_story.specs.declared.line.Line.{Line}
 use Rattle.bgp_story.specs.declared.line.Line.TheVariants.{Put, Got, Tick}
-use Rattle.bgp_story.specs.Legal.{IsGot, IsOneWay, IsEarlier, expected, is_up, is_wide, reply_to, reply_at, silence}
+use Rattle.bgp_story.specs.Legal.{IsGot, IsOneWay, IsEarlier, expected_next, is_up, is_wide, reply_to, reply_at, silence}
 use Rattle.bgp_story.specs.Readings.{Routes, apply, apply_if, put_in, unless_closed, update_in}
 use Rattle.session_value.specs.Sessions.{SessionValue, peering_of, state, unread, hold_time}
 
@@ -37,10 +37,10 @@ pub record GetsFrame (before : SessionValue) (bytes : List ℕ) (after : Session
   pub got : IsGot bytes
   pub answer : List Line
   pub next : SessionState
-  pub reply : reply_to (message_of (expected (peering_of before.config) before.story (state before)) bytes) ≡ (answer, next)
+  pub reply : reply_to (message_of (expected_next (peering_of before.config) before.story (state before)) bytes) ≡ (answer, next)
   pub effect : after ≡ record before {
     story = before.story ++ Got bytes ∷ answer;
-    heard = unless_closed next (apply_if before.heard (update_in (message_of (expected (peering_of before.config) before.story (state before)) bytes)));
+    heard = unless_closed next (apply_if before.heard (update_in (message_of (expected_next (peering_of before.config) before.story (state before)) bytes)));
     told = unless_closed next before.told;
     end = sending (put_by before (before.story ++ Got bytes ∷ answer) answer) (reading (length bytes) before.end);
   }
