@@ -4,4 +4,3 @@ pub mod PieceLaws
 pub mod SaidLaws
 pub mod ReadLaws
 pub mod WriteLaws
-pub mod TestAttrs

@@ -16,7 +16,7 @@ use Rattle.bgp_types.proofs.ManyLaws.{after, after_more, after_stop, many_some}
 use Rattle.attr_codec.specs.declared.fault.CodecFault.{CodecFault}
 use Rattle.attr_codec.specs.declared.fault.CodecFault.TheVariants as stops
 use Rattle.attr_codec.specs.declared.said.Said.{Said}
-use Rattle.attr_codec.specs.Answers.{Stops}
+use Rattle.attr_codec.specs.Decoding.{Stops}
 use Rattle.attr_codec.specs.Saying.{said_in, all_said, found_of, with_attr}
 use Rattle.attr_codec.proofs.SaidLaws.{found_last, said_step}
 

@@ -1,4 +1,4 @@
-pub mod Answers
+pub mod Decoding
 pub mod Fields
 pub mod Pieces
 pub mod Saying

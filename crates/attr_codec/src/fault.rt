@@ -1,7 +1,7 @@
 //! Why bytes aren't read.
 
-ghost use Rattle.std.specs.Prelude.{◌≡◌, take, Some};
-ghost use Rattle.attr_codec.specs.Answers.{Stops};
+ghost use Rattle.std.specs.Prelude.{◌≡◌, Some};
+ghost use Rattle.attr_codec.specs.Decoding.{Stops};
 ghost use Rattle.bgp_types.specs.Faults.{bare, about};
 
 use bgp_types::{NoMemory, Notice, Octets};
@@ -46,22 +46,13 @@ pub fn bare_fault(alloc: Global, subcode: u8) -> CodecFault
     })
 }
 
-/// The first octets, or all where there are no more.
-fn front_of(octets: &[u8], most: usize) -> &[u8]
-    ensures { result.now ≡ take most octets.now }
-{
-    if octets.len() <= most {
-        return octets;
-    }
-    let (front, _) = octets.split_at(most);
-    front
-}
-
 /// A fault of an UPDATE with these octets as its data, cut where they are too many.
+#[tactic(auto, using(std::proofs::lemmas::List::take_min))]
 pub fn fault_about(alloc: Global, subcode: u8, octets: &[u8]) -> CodecFault
     ensures { Stops result (Some (about subcode octets.now)) }
 {
-    match Octets::from_slice(alloc, front_of(octets, MOST_DATA)) {
+    let (data, _) = octets.split_at(MOST_DATA.min(octets.len()));
+    match Octets::from_slice(alloc, data) {
         Ok(info) => CodecFault::Wire(Notice {
             code: UPDATE_FAULT,
             subcode,

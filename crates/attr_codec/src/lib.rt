@@ -17,6 +17,3 @@ pub use fault::CodecFault;
 pub use laws::{fields_read_alike, written_attrs_read};
 pub use read::read_attrs;
 pub use write::write_attrs;
-
-#[cfg(test)]
-mod tests;

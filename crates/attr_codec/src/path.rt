@@ -5,8 +5,8 @@ ghost use Rattle.std.specs.Option.{option_map};
 ghost use Rattle.std.specs.Int.{byte_len};
 ghost use Rattle.bgp_types.specs.PathOctets.{as_width, numbers, part_at, path_of};
 
-use crate::number::{as_in, as_size};
-use bgp_types::{AsList, AsPath, NoMemory, PathPart};
+use crate::number::as_in;
+use bgp_types::{AsList, AsPath, NoMemory, PathPart, as_size};
 use std::alloc::Global;
 
 /// So many ASes.

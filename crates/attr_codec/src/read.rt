@@ -2,7 +2,7 @@
 
 ghost use Rattle.std.specs.Prelude.{◌≡◌, false, length, All};
 ghost use Rattle.bgp_types.specs.Found.{attrs_in};
-ghost use Rattle.attr_codec.specs.Answers.{Answers};
+ghost use Rattle.attr_codec.specs.Decoding.{Decodes};
 ghost use Rattle.attr_codec.specs.Saying.{all_said};
 
 use crate::fault::{CodecFault, bare_fault};
@@ -24,7 +24,7 @@ fn no_types() -> [bool; 256]
 
 /// What the attributes say, each by itself, or the first fault.
 fn said_at(alloc: Global, bytes: &[u8], wide: bool) -> Result<Said, CodecFault>
-    ensures { Answers result (all_said wide bytes.now) }
+    ensures { Decodes result (all_said wide bytes.now) }
 {
     let mut said = Said::new(alloc);
     let mut seen = no_types();
@@ -48,7 +48,7 @@ fn said_at(alloc: Global, bytes: &[u8], wide: bool) -> Result<Said, CodecFault>
 /// fault with its data (RFC 4271, section 6.3). AS4_PATH and AS4_AGGREGATOR of a narrow UPDATE are
 /// merged (RFC 6793, section 4.2.3). It takes a time that grows with the length of the field.
 pub fn read_attrs(alloc: Global, bytes: &[u8], wide: bool) -> Result<FoundAttrs, CodecFault>
-    ensures { Answers result (attrs_in wide bytes.now) }
+    ensures { Decodes result (attrs_in wide bytes.now) }
 {
     Ok(said_at(alloc, bytes, wide)?.found(alloc)?)
 }

@@ -1,41 +1,23 @@
 //! What the attributes of a field say, each by itself, and together.
 
-ghost use Rattle.std.specs.Prelude.{◌≡◌, [], Bool, IfOk, OnOk};
+ghost use Rattle.std.specs.Prelude.{◌≡◌, ◌==◌, [], Bool, IfOk, OnOk};
 ghost use Rattle.bgp_types.specs.Faults.{own_fault};
 ghost use Rattle.bgp_types.specs.Merge.{is_stale, merged_aggregator, path_with};
 ghost use Rattle.bgp_types.specs.Rising.{in_rising as rising};
 ghost use Rattle.bgp_types.specs.Values.{other_kind};
-ghost use Rattle.attr_codec.specs.Answers.{Passes};
+ghost use Rattle.attr_codec.specs.Decoding.{Passes};
 ghost use Rattle.attr_codec.specs.Pieces.{wire, IsPiece};
 ghost use Rattle.attr_codec.specs.Saying.{said_in, with_attr, found_of, with_kept};
 
 use crate::fault::CodecFault;
 use crate::merge::merged;
 use crate::piece::Piece;
-use bgp_types::{Aggregator, AsPath, FoundAttrs, NoMemory, Origin, RawAttr, RawAttrs};
+use bgp_types::kinds::{
+    AGGREGATOR, AS_PATH, AS4_AGGREGATOR, AS4_PATH, ATOMIC_AGGREGATE, LOCAL_PREF, MULTI_EXIT_DISC,
+    NEXT_HOP, ORIGIN,
+};
+use bgp_types::{AS_TRANS, Aggregator, AsPath, FoundAttrs, NoMemory, Origin, RawAttr, RawAttrs};
 use std::alloc::Global;
-
-/// AS_TRANS, which stands for an AS that two octets don't hold (RFC 6793, section 9).
-pub const AS_TRANS: u32 = 23456;
-
-/// The types of attributes.
-pub const ORIGIN: u8 = 1;
-
-pub const AS_PATH: u8 = 2;
-
-pub const NEXT_HOP: u8 = 3;
-
-pub const MULTI_EXIT_DISC: u8 = 4;
-
-const LOCAL_PREF: u8 = 5;
-
-pub const ATOMIC_AGGREGATE: u8 = 6;
-
-pub const AGGREGATOR: u8 = 7;
-
-pub const AS4_PATH: u8 = 17;
-
-pub const AS4_AGGREGATOR: u8 = 18;
 
 /// What the attributes of a field say, each by itself. In a wide UPDATE no AS4 attribute counts.
 /// The unknown ones that are kept stand in their order.
@@ -71,12 +53,19 @@ fn in_rising(attrs: RawAttrs) -> Result<RawAttrs, NoMemory>
     Ok(RawAttrs::from_vec(attrs))
 }
 
+/// Whether the AS is AS_TRANS, which stands for one that two octets don't hold.
+fn is_as_trans(aggregator: &Aggregator) -> bool
+    ensures { result ≡ (aggregator.now.as_number == 23456) }
+{
+    aggregator.as_number == u32::from(AS_TRANS)
+}
+
 /// Whether AGGREGATOR has another AS than AS_TRANS though AS4_AGGREGATOR is there.
 fn is_stale(aggregator: &Option<Aggregator>, as4_aggregator: &Option<Aggregator>) -> bool
     ensures { result ≡ is_stale aggregator.now as4_aggregator.now }
 {
     match (aggregator, as4_aggregator) {
-        (Some(aggregator), Some(_)) => aggregator.as_number != AS_TRANS,
+        (Some(aggregator), Some(_)) => !is_as_trans(aggregator),
         _ => false,
     }
 }
@@ -90,7 +79,7 @@ fn aggregator_of(
 {
     let aggregator = aggregator?;
     match as4_aggregator {
-        Some(as4_aggregator) if aggregator.as_number == AS_TRANS => Some(Aggregator {
+        Some(as4_aggregator) if is_as_trans(&aggregator) => Some(Aggregator {
             as_number: as4_aggregator.as_number,
             address: as4_aggregator.address,
             partial: aggregator.partial,

@@ -6,14 +6,14 @@ ghost use Rattle.bgp_types.specs.Faults.{about, fault_in, is_partial, is_transit
 ghost use Rattle.bgp_types.specs.Found.{as4_path_in, as4_aggregator_in, unless_wide};
 ghost use Rattle.bgp_types.specs.PathOctets.{as_width};
 ghost use Rattle.bgp_types.specs.WireAttrs.{attr_octets};
-ghost use Rattle.attr_codec.specs.Answers.{Stops, Answers, Passes};
+ghost use Rattle.attr_codec.specs.Decoding.{Stops, Decodes, Passes};
 ghost use Rattle.attr_codec.specs.Pieces.{wire, IsPiece};
 
 use crate::fault::{CodecFault, bare_fault, fault_about};
-use crate::number::{as_in, as_size, is_no_host};
+use crate::number::as_in;
 use crate::path::path_in;
 use crate::piece::Piece;
-use bgp_types::{Aggregator, AsPath, NoMemory, Octets, Origin, RawAttr};
+use bgp_types::{Aggregator, AsPath, NoMemory, Octets, Origin, RawAttr, as_size, is_no_host};
 use byteorder::{BigEndian, ByteOrder};
 use std::alloc::Global;
 
@@ -69,7 +69,7 @@ impl Piece<'_> {
     #[tactic(auto, unfolding(bgp_types::specs::Faults::origin_in))]
     pub fn origin(&self, alloc: Global) -> Result<Origin, CodecFault>
         requires { IsPiece self.now }
-        ensures { Answers result (origin_in (wire self.now)) }
+        ensures { Decodes result (origin_in (wire self.now)) }
     {
         if !self.has_mode(TRANSITIVE) {
             return Err(self.fault(alloc, WRONG_FLAGS));
@@ -89,7 +89,7 @@ impl Piece<'_> {
     #[tactic(auto, unfolding(bgp_types::specs::Faults::path_in))]
     pub fn path(&self, alloc: Global, wide: bool) -> Result<AsPath, CodecFault>
         requires { IsPiece self.now }
-        ensures { Answers result (path_in wide (wire self.now)) }
+        ensures { Decodes result (path_in wide (wire self.now)) }
     {
         if !self.has_mode(TRANSITIVE) {
             return Err(self.fault(alloc, WRONG_FLAGS));
@@ -104,7 +104,7 @@ impl Piece<'_> {
     #[tactic(auto, unfolding(bgp_types::specs::Faults::next_hop_in))]
     pub fn next_hop(&self, alloc: Global) -> Result<u32, CodecFault>
         requires { IsPiece self.now }
-        ensures { Answers result (next_hop_in (wire self.now)) }
+        ensures { Decodes result (next_hop_in (wire self.now)) }
     {
         if !self.has_mode(TRANSITIVE) {
             return Err(self.fault(alloc, WRONG_FLAGS));
@@ -123,7 +123,7 @@ impl Piece<'_> {
     #[tactic(auto, unfolding(bgp_types::specs::Faults::med_in))]
     pub fn med(&self, alloc: Global) -> Result<u32, CodecFault>
         requires { IsPiece self.now }
-        ensures { Answers result (med_in (wire self.now)) }
+        ensures { Decodes result (med_in (wire self.now)) }
     {
         if !self.has_mode(OPTIONAL) {
             return Err(self.fault(alloc, WRONG_FLAGS));
@@ -166,7 +166,7 @@ impl Piece<'_> {
     #[tactic(auto, unfolding(bgp_types::specs::Faults::aggregator_in))]
     pub fn aggregator(&self, alloc: Global, wide: bool) -> Result<Aggregator, CodecFault>
         requires { IsPiece self.now }
-        ensures { Answers result (aggregator_in wide (wire self.now)) }
+        ensures { Decodes result (aggregator_in wide (wire self.now)) }
     {
         if !self.has_mode(OPTIONAL | TRANSITIVE) {
             return Err(self.fault(alloc, WRONG_FLAGS));
@@ -193,7 +193,7 @@ impl Piece<'_> {
     #[tactic(auto, unfolding(bgp_types::specs::Faults::other_in))]
     pub fn other(&self, alloc: Global) -> Result<Option<RawAttr>, CodecFault>
         requires { IsPiece self.now }
-        ensures { Answers result (other_in (wire self.now)) }
+        ensures { Decodes result (other_in (wire self.now)) }
     {
         if self.flags & OPTIONAL == 0 {
             return Err(self.fault(alloc, UNKNOWN_WELL_KNOWN));

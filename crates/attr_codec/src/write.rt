@@ -14,21 +14,20 @@ ghost use Rattle.bgp_types.specs.Writable.{IsOther};
 ghost use Rattle.attr_codec.specs.Fields.{FitsField};
 ghost use Rattle.attr_codec.specs.Writing.{AreFlags, as_in_width, as_octets, known_written, as4_written, NeedsLong, AreParts};
 
-use crate::number::{octets_of_u16, octets_of_u32};
 use crate::piece::EXTENDED;
-use crate::said::{
-    AGGREGATOR, AS_PATH, AS_TRANS, AS4_AGGREGATOR, AS4_PATH, ATOMIC_AGGREGATE, MULTI_EXIT_DISC,
-    NEXT_HOP, ORIGIN,
-};
 use crate::value::{OPTIONAL, PARTIAL, TRANSITIVE};
-use bgp_types::{Aggregator, Attrs, NoMemory, Octets, Origin, PathPart, RawAttr};
+use bgp_types::kinds::{
+    AGGREGATOR, AS_PATH, AS4_AGGREGATOR, AS4_PATH, ATOMIC_AGGREGATE, MULTI_EXIT_DISC, NEXT_HOP,
+    ORIGIN,
+};
+use bgp_types::{
+    Aggregator, Attrs, NoMemory, Octets, Origin, PathPart, RawAttr, has_long_as, is_long_as,
+    narrow_as,
+};
 use std::alloc::Global;
 
 /// The greatest length of one octet.
 const MOST_SHORT: usize = 255;
-
-/// The greatest AS that two octets hold.
-const LAST_SHORT_AS: u32 = 65535;
 
 /// Appends an attribute, with extended length only where its value has more than 255 octets.
 fn put_attr(out: &mut Octets, flags: u8, kind: u8, value: &[u8]) -> Result<(), NoMemory>
@@ -40,7 +39,7 @@ fn put_attr(out: &mut Octets, flags: u8, kind: u8, value: &[u8]) -> Result<(), N
     if size > MOST_SHORT {
         out.push(flags + EXTENDED)?;
         out.push(kind)?;
-        out.extend(&octets_of_u16(size as u16))?;
+        out.extend(&(size as u16).to_be_bytes())?;
     } else {
         out.push(flags)?;
         out.push(kind)?;
@@ -49,42 +48,14 @@ fn put_attr(out: &mut Octets, flags: u8, kind: u8, value: &[u8]) -> Result<(), N
     out.extend(value)
 }
 
-/// Whether two octets don't hold the AS.
-fn is_long(as_number: u32) -> bool
-    ensures { result ≡ is_long_as as_number }
-{
-    as_number > LAST_SHORT_AS
-}
-
-fn part_is_long(part: &PathPart) -> bool
-    ensures { result ≡ list_any is_long_as (ases_of part.now) }
-{
-    match part {
-        PathPart::Set(ases) => ases.as_slice().iter().any(|number| is_long(*number)),
-        PathPart::Sequence(ases) => ases.as_slice().iter().any(|number| is_long(*number)),
-    }
-}
-
-/// Whether some AS of a path needs four octets.
-fn path_is_long(parts: &[PathPart]) -> bool
-    ensures { result ≡ has_long_as parts.now }
-{
-    parts.iter().any(part_is_long)
-}
-
 /// Appends an AS; AS_TRANS stands for one that two octets don't hold.
 fn put_as(out: &mut Octets, as_number: u32, wide: bool) -> Result<(), NoMemory>
     ensures { OnOk result (out.new ≡ out.old ++ as_octets wide as_number) }
 {
     if wide {
-        return out.extend(&octets_of_u32(as_number));
+        return out.extend(&as_number.to_be_bytes());
     }
-    let narrow = if is_long(as_number) {
-        AS_TRANS
-    } else {
-        as_number
-    };
-    out.extend(&octets_of_u16(narrow as u16))
+    out.extend(&narrow_as(as_number).to_be_bytes())
 }
 
 /// Appends a part of a path: its kind, its count, and its ASes.
@@ -143,7 +114,7 @@ fn put_med(out: &mut Octets, med: Option<u32>) -> Result<(), NoMemory>
     ensures { OnOk result (out.new ≡ out.old ++ flat_map attr_octets (med_written med)) }
 {
     match med {
-        Some(med) => put_attr(out, OPTIONAL, MULTI_EXIT_DISC, &octets_of_u32(med)),
+        Some(med) => put_attr(out, OPTIONAL, MULTI_EXIT_DISC, &med.to_be_bytes()),
         None => Ok(()),
     }
 }
@@ -164,7 +135,7 @@ fn aggregator_value(alloc: Global, aggregator: &Aggregator, wide: bool) -> Resul
 {
     let mut value = Octets::new(alloc);
     put_as(&mut value, aggregator.as_number, wide)?;
-    value.extend(&octets_of_u32(aggregator.address))?;
+    value.extend(&aggregator.address.to_be_bytes())?;
     Ok(value)
 }
 
@@ -200,7 +171,7 @@ fn put_as4_path(
     requires room { NeedsLong wide path.now → length (path_octets true path.now) < 2 ^ 16 }
     ensures { OnOk result (out.new ≡ out.old ++ flat_map attr_octets (as4_path_written wide path.now)) }
 {
-    if wide || !path_is_long(path) {
+    if wide || !has_long_as(path) {
         return Ok(());
     }
     let value = path_value(alloc, path, true)?;
@@ -219,7 +190,7 @@ fn put_as4_aggregator(
     let Some(aggregator) = aggregator else {
         return Ok(());
     };
-    if wide || !is_long(aggregator.as_number) {
+    if wide || !is_long_as(aggregator.as_number) {
         return Ok(());
     }
     let value = aggregator_value(alloc, aggregator, true)?;
@@ -279,7 +250,7 @@ fn put_known(alloc: Global, out: &mut Octets, attrs: &Attrs, wide: bool) -> Resu
     put_attr(out, TRANSITIVE, ORIGIN, &[origin_octet(attrs.origin)])?;
     let path = path_value(alloc, attrs.path.as_slice(), wide)?;
     put_attr(out, TRANSITIVE, AS_PATH, path.as_slice())?;
-    put_attr(out, TRANSITIVE, NEXT_HOP, &octets_of_u32(attrs.next_hop))?;
+    put_attr(out, TRANSITIVE, NEXT_HOP, &attrs.next_hop.to_be_bytes())?;
     put_med(out, attrs.med)?;
     put_atomic(out, attrs.atomic)?;
     put_aggregator(alloc, out, &attrs.aggregator, wide)

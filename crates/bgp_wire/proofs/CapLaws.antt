@@ -12,7 +12,7 @@ use Rattle.bgp_types.proofs.ManyLaws.{Shortens, after, after_more, many_some, ma
 use Rattle.attr_codec.proofs.PathLaws.{stopped, finished}
 use Rattle.attr_codec.specs.declared.fault.CodecFault.{CodecFault}
 use Rattle.attr_codec.specs.declared.fault.CodecFault.TheVariants as stops
-use Rattle.attr_codec.specs.Answers.{Stops}
+use Rattle.attr_codec.specs.Decoding.{Stops}
 use Rattle.bgp_wire.specs.Caps.{caps_fault, IsAdded, caps_after}
 
 cap_shorter : (bytes : List ℕ) (x : Cap × List ℕ) → cap_at bytes ≡ Some x → length x.1 < length bytes

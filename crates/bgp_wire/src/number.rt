@@ -2,7 +2,7 @@
 
 ghost use Rattle.std.specs.Prelude.{◌≡◌, ◌≤◌, length, Some};
 ghost use Rattle.std.specs.Int.{w16, to_be_bytes};
-ghost use Rattle.attr_codec.specs.Answers.{Stops};
+ghost use Rattle.attr_codec.specs.Decoding.{Stops};
 ghost use Rattle.bgp_types.specs.declared.message.Notice.{Notice};
 ghost use Rattle.bgp_types.specs.Values.{is_no_host};
 ghost use Rattle.bgp_wire.specs.Faults.{notice};

@@ -2,7 +2,7 @@
 
 ghost use Rattle.std.specs.Prelude.{◌≡◌, ◌<◌, ◌≤◌, length, true, is_some, IfSome, OnOk};
 ghost use Rattle.std.specs.Option.{option_map};
-ghost use Rattle.attr_codec.specs.Answers.{Answers, Passes};
+ghost use Rattle.attr_codec.specs.Decoding.{Decodes, Passes};
 ghost use Rattle.bgp_types.specs.Many.{all_of};
 ghost use Rattle.bgp_types.specs.OpenBody.{cap_at, params_of, with_params, as_said, is_field, is_said, open_of};
 ghost use Rattle.bgp_types.specs.Values.{is_short_hold};
@@ -108,7 +108,7 @@ fn add_caps(alloc: Global, caps: &mut Caps, octets: &[u8]) -> Result<(), CodecFa
 /// The capabilities of parameters, which are whole.
 fn caps_in(alloc: Global, params: &[u8]) -> Result<Caps, CodecFault>
     requires { is_some (all_of cap_at params.now) ≡ true }
-    ensures { Answers result (with_params (all_of cap_at params.now)) }
+    ensures { Decodes result (with_params (all_of cap_at params.now)) }
 {
     let mut caps = Caps::new(alloc);
     let mut rest = params;
@@ -125,7 +125,7 @@ fn caps_in(alloc: Global, params: &[u8]) -> Result<Caps, CodecFault>
 /// The capabilities of the parameters, whose length is told.
 #[tactic(auto, unfolding(bgp_types::specs::OpenBody::params_of))]
 fn params_in(alloc: Global, octets: &[u8]) -> Result<Caps, CodecFault>
-    ensures { Answers result (with_params (params_of octets.now)) }
+    ensures { Decodes result (with_params (params_of octets.now)) }
 {
     let [size, params @ ..] = octets else {
         return Err(fault(alloc, OPEN_FAULT, UNSPECIFIC, &[]));
@@ -180,7 +180,7 @@ fn is_short_hold(hold: u16) -> bool
 #[tactic(auto, unfolding(bgp_types::specs::OpenBody::open_of))]
 pub fn read_open(alloc: Global, body: &[u8], expected: &Expected) -> Result<OpenMsg, CodecFault>
     requires { 10 ≤ length body.now }
-    ensures { Answers result (open_of expected.now body.now) }
+    ensures { Decodes result (open_of expected.now body.now) }
 {
     if body[0] != VERSION {
         return Err(fault(alloc, OPEN_FAULT, UNSUPPORTED_VERSION, &[0, VERSION]));

@@ -1,7 +1,7 @@
 //! Reading a whole frame.
 
 ghost use Rattle.std.specs.Prelude.{◌≡◌, ◌≤◌, [], length, Some, IfOk};
-ghost use Rattle.attr_codec.specs.Answers.{Answers};
+ghost use Rattle.attr_codec.specs.Decoding.{Decodes};
 ghost use Rattle.bgp_types.specs.FirstFault.{is_in_state, notice_of, body_of, message_of};
 ghost use Rattle.bgp_types.specs.Header.{frame_at, header_notice};
 
@@ -73,7 +73,7 @@ fn read_body(
 ) -> Result<Message, CodecFault>
     requires open_long { kind ≡ 1 → 10 ≤ length body.now }
     requires notice_long { kind ≡ 3 → 2 ≤ length body.now }
-    ensures { Answers result (body_of expected.now kind body.now) }
+    ensures { Decodes result (body_of expected.now kind body.now) }
 {
     match kind {
         OPEN => Ok(Message::OpenMsg(read_open(alloc, body, expected)?)),
@@ -92,7 +92,7 @@ fn read_body(
 /// their count with the logarithm of that.
 pub fn read_message(alloc: Global, bytes: &[u8], expected: &Expected) -> Result<Message, CodecFault>
     requires { frame_at bytes.now ≡ Some (bytes.now, []) }
-    ensures { Answers result (message_of expected.now bytes.now) }
+    ensures { Decodes result (message_of expected.now bytes.now) }
 {
     let kind = bytes[18];
     if !is_in_state(expected.state, kind) {

@@ -3,7 +3,7 @@
 ghost use Rattle.std.specs.Prelude.{◌≡◌, Some};
 ghost use Rattle.std.specs.Int.{w16};
 ghost use Rattle.std.specs.Option.{option_map};
-ghost use Rattle.attr_codec.specs.Answers.{Answers};
+ghost use Rattle.attr_codec.specs.Decoding.{Decodes};
 ghost use Rattle.bgp_types.specs.Many.{number_at, told_at};
 ghost use Rattle.bgp_types.specs.UpdateBody.{fields_of, all_known, update_of};
 ghost use Rattle.bgp_wire.specs.Fields.{fields};
@@ -71,7 +71,7 @@ fn fields_in(body: &[u8]) -> Option<BodyFields<'_>>
 /// What an announcement needs, or the fault of the first type that is missing.
 #[tactic(auto, unfolding(bgp_types::specs::UpdateBody::all_known))]
 fn all_in(alloc: Global, found: FoundAttrs) -> Result<Attrs, CodecFault>
-    ensures { Answers result (all_known found) }
+    ensures { Decodes result (all_known found) }
 {
     let FoundAttrs {
         origin,
@@ -105,7 +105,7 @@ fn all_in(alloc: Global, found: FoundAttrs) -> Result<Attrs, CodecFault>
 /// The UPDATE with this body, or the first fault.
 #[tactic(auto, unfolding(bgp_types::specs::UpdateBody::update_of))]
 pub fn read_update(alloc: Global, body: &[u8], wide: bool) -> Result<Update, CodecFault>
-    ensures { Answers result (update_of wide body.now) }
+    ensures { Decodes result (update_of wide body.now) }
 {
     let Some(fields) = fields_in(body) else {
         return Err(fault(alloc, UPDATE_FAULT, MALFORMED_LIST, &[]));

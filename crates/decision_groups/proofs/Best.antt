@@ -18,7 +18,7 @@ use Rattle.decision_core.specs.Search.{pick, best_by}
 use Rattle.decision_core.proofs.Filters.{IsStrictWeakOrder-in_turn, first-keep, best_by-none}
 use Rattle.decision_core.proofs.NineRules.{on, on_order, choice-none}
 use Rattle.decision_core.proofs.AnyOrder.{Contains-keep, keep-unbeaten}
-use Rattle.decision_groups.specs.Order.{Candidate, from_order, IsInOrder}
+use Rattle.decision_groups.specs.Order.{RankedSource, from_order, IsInOrder}
 use Rattle.decision_groups.specs.Champions.{group_of}
 use Rattle.decision_groups.specs.Groups.{beats, beats_without_med, comes_first, champion_of, better_of, some_members, AreGroupsOf}
 use Rattle.decision_groups.proofs.OrderLaws.{from_order_total, from_order_exact}
@@ -28,32 +28,32 @@ use Rattle.decision_groups.proofs.Law.{beats_without_med_order, choice-of_none}
 
 -- ---- one more group
 
-best_made : (cs : List Candidate) (o : Option Candidate) → best_by comes_first (cs ++ cons_option o []) ≡ better_of (best_by comes_first cs) o
+best_made : (cs : List RankedSource) (o : Option RankedSource) → best_by comes_first (cs ++ cons_option o []) ≡ better_of (best_by comes_first cs) o
 best_made cs None = fold-append (pick comes_first) None cs []
 best_made cs (Some c) = fold-append (pick comes_first) None cs (c ∷ [])
 
-pub best_more : (groups : List (List Candidate)) (members : List Candidate) → best_by comes_first (filter_map champion_of (groups ++ members ∷ [])) ≡ better_of (best_by comes_first (filter_map champion_of groups)) (champion_of members)
+pub best_more : (groups : List (List RankedSource)) (members : List RankedSource) → best_by comes_first (filter_map champion_of (groups ++ members ∷ [])) ≡ better_of (best_by comes_first (filter_map champion_of groups)) (champion_of members)
 best_more groups members = ap (best_by comes_first) (filter_map-append champion_of groups (members ∷ [])) ∙ best_made (filter_map champion_of groups) (champion_of members)
 
 -- ---- which groups there are
 
-some_is : (xs ys : List Candidate) → some_members xs ≡ Some ys → xs ≡ ys
+some_is : (xs ys : List RankedSource) → some_members xs ≡ Some ys → xs ≡ ys
 some_is [] ys h = cc
 some_is (x ∷ xs) ys h = cc
 
-is_some_of : (xs : List Candidate) (c : Candidate) → Contains xs c → some_members xs ≡ Some xs
+is_some_of : (xs : List RankedSource) (c : RankedSource) → Contains xs c → some_members xs ≡ Some xs
 is_some_of [] c there = nothing_in_none c there
 is_some_of (x ∷ xs) c there = refl
 
 -- each group has the candidates of some neighbour AS
-group_is : (es : List Candidate) (groups : BTreeMap ℕ (List Candidate)) (members : List Candidate) → AreGroupsOf es groups → IsOrdered nat_cmp groups → Contains (values groups) members → (n : ℕ) × (group_of n es ≡ members)
+group_is : (es : List RankedSource) (groups : BTreeMap ℕ (List RankedSource)) (members : List RankedSource) → AreGroupsOf es groups → IsOrdered nat_cmp groups → Contains (values groups) members → (n : ℕ) × (group_of n es ≡ members)
 group_is es groups members are ordered there =
     let entry = map-contained (λ e. e.1) groups.entries members there in
     let found : get nat_cmp groups entry.0.0 ≡ Some entry.0.1 = lookup-from_Contains (eq_by_cmp_equiv nat_cmp_total) entry.0.0 entry.0.1 groups.entries (IsDistinct-from_sorted nat_cmp (keys groups) ordered) entry.1 in
     (entry.0.0, some_is (group_of entry.0.0 es) entry.0.1 (sym (are.each entry.0.0) ∙ found) ∙ entry.2)
 
 -- the candidates of each neighbour AS that there are have their group
-group_there : (es : List Candidate) (groups : BTreeMap ℕ (List Candidate)) (d : Candidate) → AreGroupsOf es groups → Contains es d → Contains (values groups) (group_of d.1.neighbour es)
+group_there : (es : List RankedSource) (groups : BTreeMap ℕ (List RankedSource)) (d : RankedSource) → AreGroupsOf es groups → Contains es d → Contains (values groups) (group_of d.1.neighbour es)
 group_there es groups d are there =
     let n = d.1.neighbour in
     let found : get nat_cmp groups n ≡ Some (group_of n es) = are.each n ∙ is_some_of (group_of n es) d (in_own_group es n d there refl) in
@@ -61,15 +61,15 @@ group_there es groups d are there =
 
 -- ---- their champions
 
-champion_is_chosen : (es : List Candidate) (n : ℕ) (c : Candidate) → IsInOrder es → champion_of (group_of n es) ≡ Some c → IsChosen from_order (group_of n es) c
+champion_is_chosen : (es : List RankedSource) (n : ℕ) (c : RankedSource) → IsInOrder es → champion_of (group_of n es) ≡ Some c → IsChosen from_order (group_of n es) c
 champion_is_chosen es n c s is = champion-chosen from_order_total n (group_of n es) c (sorted-filter from_order (λ d. d.1.neighbour == n) es s) (of_group es n) is
 
-record HasHead (es : List Candidate) (groups : BTreeMap ℕ (List Candidate)) (d : Candidate) : Type 0 where
-  pub head : Candidate
+record HasHead (es : List RankedSource) (groups : BTreeMap ℕ (List RankedSource)) (d : RankedSource) : Type 0 where
+  pub head : RankedSource
   pub there : Contains (filter_map champion_of (values groups)) head
   pub is_chosen : IsChosen from_order (group_of d.1.neighbour es) head
 
-head_cases : (es : List Candidate) (groups : BTreeMap ℕ (List Candidate)) (d : Candidate) → AreGroupsOf es groups → Contains es d → (o : Option Candidate) → champion_of (group_of d.1.neighbour es) ≡ o → HasHead es groups d
+head_cases : (es : List RankedSource) (groups : BTreeMap ℕ (List RankedSource)) (d : RankedSource) → AreGroupsOf es groups → Contains es d → (o : Option RankedSource) → champion_of (group_of d.1.neighbour es) ≡ o → HasHead es groups d
 head_cases es groups d are there None is =
     let none = best_by-none (on beats) (on_order beats beats_order) (group_of d.1.neighbour es) is in
     nothing_in_none d (subst (λ cs. Contains cs d) none (in_own_group es d.1.neighbour d there refl))
@@ -79,15 +79,15 @@ head_cases es groups d are there (Some e) is = record {
   is_chosen = champion_is_chosen es d.1.neighbour e are.in_order is;
 }
 
-has_head : (es : List Candidate) (groups : BTreeMap ℕ (List Candidate)) (d : Candidate) → AreGroupsOf es groups → Contains es d → HasHead es groups d
+has_head : (es : List RankedSource) (groups : BTreeMap ℕ (List RankedSource)) (d : RankedSource) → AreGroupsOf es groups → Contains es d → HasHead es groups d
 has_head es groups d are there = head_cases es groups d are there (champion_of (group_of d.1.neighbour es)) refl
 
 comes_first_order : IsStrictWeakOrder comes_first
-comes_first_order = IsStrictWeakOrder-in_turn (on beats_without_med) (is_earlier from_order) (on_order beats_without_med beats_without_med_order) (ranks_by from_order_total (λ (c : Candidate). c.0))
+comes_first_order = IsStrictWeakOrder-in_turn (on beats_without_med) (is_earlier from_order) (on_order beats_without_med beats_without_med_order) (ranks_by from_order_total (λ (c : RankedSource). c.0))
 
 -- ---- the best of them
 
-pub best-some : (es : List Candidate) (groups : BTreeMap ℕ (List Candidate)) (w : Candidate) → AreGroupsOf es groups → IsOrdered nat_cmp groups → best_by comes_first (filter_map champion_of (values groups)) ≡ Some w → choice es ≡ Some w.0
+pub best-some : (es : List RankedSource) (groups : BTreeMap ℕ (List RankedSource)) (w : RankedSource) → AreGroupsOf es groups → IsOrdered nat_cmp groups → best_by comes_first (filter_map champion_of (values groups)) ≡ Some w → choice es ≡ Some w.0
 best-some es groups w are ordered h =
     let heads = filter_map champion_of (values groups) in
     let is : first (keep comes_first heads) ≡ Some w = first-keep comes_first comes_first_order heads ∙ h in
@@ -101,16 +101,16 @@ best-some es groups w are ordered h =
     (λ d there. let e = has_head es groups d are there in
     record { head = e.head; is_chosen = e.is_chosen; not_before = keep-unbeaten comes_first heads w e.head in_kept e.there }))
 
-pub empty-best : (es : List Candidate) (groups : BTreeMap ℕ (List Candidate)) → AreGroupsOf es groups → best_by comes_first (filter_map champion_of (values groups)) ≡ None → es ≡ []
+pub empty-best : (es : List RankedSource) (groups : BTreeMap ℕ (List RankedSource)) → AreGroupsOf es groups → best_by comes_first (filter_map champion_of (values groups)) ≡ None → es ≡ []
 empty-best [] groups are h = refl
 empty-best (d ∷ ds) groups are h =
     let e = has_head (d ∷ ds) groups d are (Contains-head d ds) in
     let none = best_by-none comes_first comes_first_order (filter_map champion_of (values groups)) h in
     nothing_in_none e.head (subst (λ cs. Contains cs e.head) none e.there)
 
-pub best-none : (es : List Candidate) (groups : BTreeMap ℕ (List Candidate)) → AreGroupsOf es groups → best_by comes_first (filter_map champion_of (values groups)) ≡ None → choice es ≡ None
+pub best-none : (es : List RankedSource) (groups : BTreeMap ℕ (List RankedSource)) → AreGroupsOf es groups → best_by comes_first (filter_map champion_of (values groups)) ≡ None → choice es ≡ None
 best-none es groups are h = choice-of_none es (empty-best es groups are h)
 
-pub empty_exactly : (es : List Candidate) (answer : Option From) → answer ≡ choice es → (IsNone answer → es ≡ []) × (es ≡ [] → IsNone answer)
+pub empty_exactly : (es : List RankedSource) (answer : Option From) → answer ≡ choice es → (IsNone answer → es ≡ []) × (es ≡ [] → IsNone answer)
 empty_exactly es None is = ((λ _. choice-none es (sym is)), (λ _. refl))
 empty_exactly es (Some from) is = ((λ h. cc), (λ h. let no : Some from ≡ None = is ∙ choice-of_none es h in cc))

@@ -16,7 +16,7 @@ use Rattle.decision_core.specs.Search.{leads, is_nearer}
 use Rattle.decision_core.proofs.Filters.{IsStrictWeakOrder-in_turn, keep-none}
 use Rattle.decision_core.proofs.NineRules.{on, on_order, keep_on, keep_four, leads_order, is_nearer_order, own_order, preference_order, path_order, origin_order, external_order, cost_order, identifier_order, address_order}
 use Rattle.decision_core.proofs.AnyOrder.{Contains-filter, Contains-keep}
-use Rattle.decision_groups.specs.Order.{Candidate, from_order, IsInOrder}
+use Rattle.decision_groups.specs.Order.{RankedSource, from_order, IsInOrder}
 use Rattle.decision_groups.specs.Champions.{group_of, is_champion, champions, choice_without_med}
 use Rattle.decision_groups.specs.Groups.{beats_without_med}
 use Rattle.decision_groups.proofs.OrderLaws.{from_order_total, from_order_exact}
@@ -46,10 +46,10 @@ equal_order Less h = cc
 equal_order Equal h = refl
 equal_order Greater h = cc
 
-group_sorted : (n : ℕ) (cs : List Candidate) → IsInOrder cs → IsInOrder (group_of n cs)
+group_sorted : (n : ℕ) (cs : List RankedSource) → IsInOrder cs → IsInOrder (group_of n cs)
 group_sorted n cs s = sorted-filter from_order (λ c. c.1.neighbour == n) cs s
 
-named_cases : (cs : List Candidate) (c : Candidate) → IsInOrder cs → Contains cs c → (o : Option Candidate) → first (left_of cs) ≡ o → option_map_or (λ from. is_at (from_order from) c.0) (option_map (λ e. e.0) o) false ≡ true → IsChosen from_order cs c
+named_cases : (cs : List RankedSource) (c : RankedSource) → IsInOrder cs → Contains cs c → (o : Option RankedSource) → first (left_of cs) ≡ o → option_map_or (λ from. is_at (from_order from) c.0) (option_map (λ e. e.0) o) false ≡ true → IsChosen from_order cs c
 named_cases cs c s there None is named = cc
 named_cases cs c s there (Some e) is named =
     let a = chosen from_order_total cs e s is in
@@ -57,27 +57,27 @@ named_cases cs c s there (Some e) is named =
     subst (IsChosen from_order cs) same a
 
 -- what the choice of a list names is chosen of it
-named : (cs : List Candidate) (c : Candidate) → IsInOrder cs → Contains cs c → option_map_or (λ from. is_at (from_order from) c.0) (choice cs) false ≡ true → IsChosen from_order cs c
+named : (cs : List RankedSource) (c : RankedSource) → IsInOrder cs → Contains cs c → option_map_or (λ from. is_at (from_order from) c.0) (choice cs) false ≡ true → IsChosen from_order cs c
 unfolding choice
 named cs c s there is = named_cases cs c s there (first (left_of cs)) refl is
 
-names : (cs : List Candidate) (c : Candidate) → first (left_of cs) ≡ Some c → option_map_or (λ from. is_at (from_order from) c.0) (choice cs) false ≡ true
+names : (cs : List RankedSource) (c : RankedSource) → first (left_of cs) ≡ Some c → option_map_or (λ from. is_at (from_order from) c.0) (choice cs) false ≡ true
 unfolding choice
 names cs c is = ap (λ o. option_map_or (λ from. is_at (from_order from) c.0) (option_map (λ e. e.0) o) false) is ∙ is_at-itself c.0
 
-champion_is_chosen : (cs : List Candidate) (w : Candidate) → IsInOrder cs → Contains (champions cs) w → IsChosen from_order (group_of w.1.neighbour cs) w
+champion_is_chosen : (cs : List RankedSource) (w : RankedSource) → IsInOrder cs → Contains (champions cs) w → IsChosen from_order (group_of w.1.neighbour cs) w
 champion_is_chosen cs w s there =
     let in_all = Contains-filter (is_champion cs) cs w there in
     let passes = All-contains (λ c. is_champion cs c ≡ true) (champions cs) w (filter_passes (is_champion cs) cs) there in
     named (group_of w.1.neighbour cs) w (group_sorted w.1.neighbour cs s) (in_own_group cs w.1.neighbour w in_all refl) passes
 
 -- a candidate's group has a champion
-record HasChampion (cs : List Candidate) (d : Candidate) : Type 0 where
-  pub head : Candidate
+record HasChampion (cs : List RankedSource) (d : RankedSource) : Type 0 where
+  pub head : RankedSource
   pub there : Contains (champions cs) head
   pub is_chosen : IsChosen from_order (group_of d.1.neighbour cs) head
 
-champion_cases : (cs : List Candidate) (d : Candidate) → IsInOrder cs → Contains cs d → (o : Option Candidate) → first (left_of (group_of d.1.neighbour cs)) ≡ o → HasChampion cs d
+champion_cases : (cs : List RankedSource) (d : RankedSource) → IsInOrder cs → Contains cs d → (o : Option RankedSource) → first (left_of (group_of d.1.neighbour cs)) ≡ o → HasChampion cs d
 champion_cases cs d s there None is =
     nothing_in_none d (subst (λ es. Contains es d) (left-none (group_of d.1.neighbour cs) is) (in_own_group cs d.1.neighbour d there refl))
 champion_cases cs d s there (Some e) is =
@@ -90,12 +90,12 @@ champion_cases cs d s there (Some e) is =
       is_chosen = a;
     }
 
-has_champion : (cs : List Candidate) (d : Candidate) → IsInOrder cs → Contains cs d → HasChampion cs d
+has_champion : (cs : List RankedSource) (d : RankedSource) → IsInOrder cs → Contains cs d → HasChampion cs d
 has_champion cs d s there = champion_cases cs d s there (first (left_of (group_of d.1.neighbour cs))) refl
 
 -- ---- the law
 
-no_champions : (cs : List Candidate) → IsInOrder cs → champions cs ≡ [] → cs ≡ []
+no_champions : (cs : List RankedSource) → IsInOrder cs → champions cs ≡ [] → cs ≡ []
 no_champions [] s none = refl
 no_champions (d ∷ ds) s none =
     let e = has_champion (d ∷ ds) d s (Contains-head d ds) in
@@ -105,11 +105,11 @@ first-none : {X : Type 0} (xs : List X) → first xs ≡ None → xs ≡ []
 first-none [] h = refl
 first-none (x ∷ xs) h = cc
 
-pub choice-of_none : (cs : List Candidate) → cs ≡ [] → choice cs ≡ None
+pub choice-of_none : (cs : List RankedSource) → cs ≡ [] → choice cs ≡ None
 unfolding choice left_of keep
 choice-of_none cs h = rw h refl
 
-law_cases : (cs : List Candidate) → IsInOrder cs → (o : Option Candidate) → first (keep (on beats_without_med) (champions cs)) ≡ o → choice cs ≡ option_map (λ c. c.0) o
+law_cases : (cs : List RankedSource) → IsInOrder cs → (o : Option RankedSource) → first (keep (on beats_without_med) (champions cs)) ≡ o → choice cs ≡ option_map (λ c. c.0) o
 law_cases cs s None is =
     choice-of_none cs (no_champions cs s (keep-none (on beats_without_med) (on beats_without_med) (on_order beats_without_med beats_without_med_order) (λ c d k. k) (champions cs) (first-none (keep (on beats_without_med) (champions cs)) is)))
 law_cases cs s (Some w) is =
@@ -121,5 +121,5 @@ law_cases cs s (Some w) is =
     (λ d d_there. let e = has_champion cs d s d_there in
     record { head = e.head; is_chosen = e.is_chosen; not_before = first-unbeaten from_order_total (on beats_without_med) order (champions cs) w e.head sorted is e.there }))
 
-pub choice-by_champions : (cs : List Candidate) → IsInOrder cs → choice cs ≡ choice_without_med (champions cs)
+pub choice-by_champions : (cs : List RankedSource) → IsInOrder cs → choice cs ≡ choice_without_med (champions cs)
 choice-by_champions cs s = law_cases cs s (first (keep (on beats_without_med) (champions cs))) refl ∙ sym (choice_without_med-in_one (champions cs))

@@ -4,4 +4,5 @@ pub mod Kept
 pub mod Members
 pub mod Chosen
 pub mod Law
+pub mod Sources
 pub mod Best

@@ -4,18 +4,18 @@ use Rattle.std.specs.Option.{option_map_or}
 use Rattle.std.specs.BTreeMap.{is_at}
 use Rattle.bgp_types.specs.declared.rank.Rank.{Rank}
 use Rattle.decision_core.specs.Choice.{Rule, is_own, has_higher_preference, has_shorter_path, has_lower_origin, is_external, has_lower_cost, has_lower_identifier, has_lower_address, keep, first, choice}
-use Rattle.decision_groups.specs.Order.{Candidate, from_order}
+use Rattle.decision_groups.specs.Order.{RankedSource, from_order}
 
 -- the candidates that one neighbour AS told
 abbrev pub group_of : {K : Type 0} → ℕ → List (K × Rank) → List (K × Rank)
 group_of neighbour candidates = filter (λ c. c.1.neighbour == neighbour) candidates
 
 -- A champion is the choice among the candidates of its own neighbour AS.
-abbrev pub is_champion : List Candidate → Candidate → Bool
+abbrev pub is_champion : List RankedSource → RankedSource → Bool
 is_champion candidates c = option_map_or (λ from. is_at (from_order from) c.0) (choice (group_of c.1.neighbour candidates)) false
 
 -- the champions, in the order of the list
-abbrev pub champions : List Candidate → List Candidate
+abbrev pub champions : List RankedSource → List RankedSource
 champions candidates = filter (is_champion candidates) candidates
 
 -- the nine rules but the one about MED, in the order in which they are applied

@@ -5,7 +5,7 @@ use Rattle.std.specs.BTreeMap.{BTreeMap, get}
 use Rattle.bgp_types.specs.declared.rank.Rank.{Rank}
 use Rattle.decision_core.specs.Choice.{Rule}
 use Rattle.decision_core.specs.Search.{in_turn, leads, is_nearer, pick, best_by}
-use Rattle.decision_groups.specs.Order.{Candidate, from_order, IsInOrder}
+use Rattle.decision_groups.specs.Order.{RankedSource, from_order, IsInOrder}
 use Rattle.decision_groups.specs.Champions.{group_of}
 
 -- better by the nine rules, of two ranks of one neighbour AS: there the rules are one order
@@ -17,33 +17,33 @@ abbrev pub beats_without_med : Rule
 beats_without_med = in_turn leads is_nearer
 
 -- better by the rules but MED, or equal by them and earlier in the order of candidates
-abbrev pub comes_first : Candidate → Candidate → Bool
+abbrev pub comes_first : RankedSource → RankedSource → Bool
 comes_first = in_turn (λ c d. beats_without_med c.1 d.1) (λ c d. is_lt (from_order c.0 d.0))
 
 -- the first of the members that no other one beats
-abbrev pub champion_of : List Candidate → Option Candidate
+abbrev pub champion_of : List RankedSource → Option RankedSource
 champion_of members = best_by (λ c d. beats c.1 d.1) members
 
 -- better than the champion so far, if there is one
-abbrev pub beats_champion : Option Candidate → Rank → Bool
+abbrev pub beats_champion : Option RankedSource → Rank → Bool
 beats_champion None rank = true
 beats_champion (Some champion) rank = beats rank champion.1
 
 -- the better of the best so far and one more champion
-abbrev pub better_of : Option Candidate → Option Candidate → Option Candidate
+abbrev pub better_of : Option RankedSource → Option RankedSource → Option RankedSource
 better_of best None = best
 better_of best (Some champion) = pick comes_first best champion
 
 -- a group is there only where it has members
-abbrev pub some_members : List Candidate → Option (List Candidate)
+abbrev pub some_members : List RankedSource → Option (List RankedSource)
 some_members [] = None
 some_members (c ∷ cs) = Some (c ∷ cs)
 
 -- the members of a neighbour AS' group
-abbrev pub members_of : BTreeMap ℕ (List Candidate) → ℕ → List Candidate
+abbrev pub members_of : BTreeMap ℕ (List RankedSource) → ℕ → List RankedSource
 members_of groups neighbour = unwrap_or (get nat_cmp groups neighbour) []
 
 -- each group has exactly the candidates of its neighbour AS, and none is empty
-pub record AreGroupsOf (candidates : List Candidate) (groups : BTreeMap ℕ (List Candidate)) : Type 0 where
+pub record AreGroupsOf (candidates : List RankedSource) (groups : BTreeMap ℕ (List RankedSource)) : Type 0 where
   pub in_order : IsInOrder candidates
   pub each : (neighbour : ℕ) → get nat_cmp groups neighbour ≡ some_members (group_of neighbour candidates)

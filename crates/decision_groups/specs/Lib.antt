@@ -1,3 +1,4 @@
 pub mod Order
 pub mod Champions
 pub mod Groups
+pub mod Sources

@@ -1,4 +1,4 @@
--- The order in which the candidates of a router stand, and lists of ranks in that order.
+-- The order in which the sources of routes stand, and lists of ranks in that order.
 use Rattle.std.specs.Prelude.{List, Option}
 use Rattle.std.specs.Ordering.{nat_cmp}
 use Rattle.std.specs.List.Sorted.{IsStrictlySortedBy}
@@ -22,22 +22,22 @@ from_order (Router r) Own = Greater
 from_order (Router r) (Peering q) = Greater
 from_order (Router r) (Router s) = nat_cmp r.0 s.0
 
--- a rank beside where its route comes from
-abbrev pub Candidate : Type 0
-Candidate = From × Rank
+-- a rank beside where its route comes from: a candidate that is named by its source
+abbrev pub RankedSource : Type 0
+RankedSource = From × Rank
 
 -- each in its place, and none twice
-abbrev pub IsInOrder : List Candidate → Type 0
+abbrev pub IsInOrder : List RankedSource → Type 0
 IsInOrder candidates = IsStrictlySortedBy from_order (keys_of candidates)
 
 -- the rank of what comes from there
-abbrev pub rank_of : List Candidate → From → Option Rank
-rank_of candidates from = lookup (is_at (from_order from)) candidates
+abbrev pub rank_at : List RankedSource → From → Option Rank
+rank_at candidates from = lookup (is_at (from_order from)) candidates
 
 -- the list with this rank in its place: it takes the place of the rank that was there, if there was one
-abbrev pub with_rank : List Candidate → From → Rank → List Candidate
+abbrev pub with_rank : List RankedSource → From → Rank → List RankedSource
 with_rank candidates from rank = insert_entry from_order candidates from rank
 
 -- the list without what comes from there
-abbrev pub without : List Candidate → From → List Candidate
+abbrev pub without : List RankedSource → From → List RankedSource
 without candidates from = remove_entry (is_at (from_order from)) candidates

@@ -18,10 +18,10 @@ pub(crate) struct Group {
 
 impl Model for Group {
     ghost use Rattle.std.specs.Prelude.{List, ◌≡◌};
-    ghost use Rattle.decision_groups.specs.Order.{Candidate};
+    ghost use Rattle.decision_groups.specs.Order.{RankedSource};
     ghost use Rattle.decision_groups.specs.Groups.{champion_of};
 
-    ghost Value = { List Candidate };
+    ghost Value = { List RankedSource };
 
     ghost view = { λ g. g.members };
 

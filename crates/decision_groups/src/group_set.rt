@@ -3,7 +3,7 @@
 ghost use Rattle.std.specs.Prelude.{◌≡◌, ◌↔◌, [], length, IsTrue, IsSome, IsNone, OnOk, OnErr};
 ghost use Rattle.std.specs.Option.{option_copied};
 ghost use Rattle.decision_core.specs.Choice.{choice};
-ghost use Rattle.decision_groups.specs.Order.{IsInOrder, rank_of, with_rank, without};
+ghost use Rattle.decision_groups.specs.Order.{IsInOrder, rank_at, with_rank, without};
 
 use crate::groups::{Groups, best_champion, join, leave};
 use crate::ranks::Ranks;
@@ -25,10 +25,10 @@ pub struct GroupSet {
 
 impl Model for GroupSet {
     ghost use Rattle.std.specs.Prelude.{List};
-    ghost use Rattle.decision_groups.specs.Order.{Candidate};
+    ghost use Rattle.decision_groups.specs.Order.{RankedSource};
     ghost use Rattle.decision_groups.specs.Groups.{AreGroupsOf};
 
-    ghost Value = { List Candidate };
+    ghost Value = { List RankedSource };
 
     ghost view = { λ s. s.ranks };
 
@@ -62,7 +62,7 @@ impl GroupSet {
 
     /// The rank of the route that comes from there.
     pub fn get(&self, from: From) -> Option<&Rank>
-        ensures { option_copied result ≡ rank_of self.now from }
+        ensures { option_copied result ≡ rank_at self.now from }
     {
         self.ranks.get(from)
     }
@@ -92,7 +92,7 @@ impl GroupSet {
     /// Takes out the rank of what comes from there, and answers whether there was one. It takes no
     /// memory.
     pub fn remove(&mut self, from: From) -> bool
-        ensures removed { IsTrue result ↔ IsSome (rank_of self.old from) }
+        ensures removed { IsTrue result ↔ IsSome (rank_at self.old from) }
         ensures left { self.new ≡ without self.old from }
         ensures in_order { IsInOrder self.new }
     {

@@ -10,7 +10,4 @@ mod ranks;
 
 pub use bgp_types::{From, NoMemory, PeeringId, Rank, RouterId};
 pub use group_set::GroupSet;
-pub use laws::champions_decide;
-
-#[cfg(test)]
-mod tests;
+pub use laws::{champions_decide, choice_by_sources};

@@ -2,7 +2,7 @@
 
 ghost use Rattle.std.specs.Prelude.{◌≡◌, ◌↔◌, [], IsTrue, IfOk, OnErr, OnOk, None, length};
 ghost use Rattle.std.specs.Option.{option_copied};
-ghost use Rattle.decision_groups.specs.Order.{IsInOrder, rank_of, with_rank, without};
+ghost use Rattle.decision_groups.specs.Order.{IsInOrder, rank_at, with_rank, without};
 ghost use Rattle.decision_groups.specs.Groups.{champion_of, beats_champion as beats_champion_lem, beats as beats_lem};
 
 use bgp_types::{From, NoMemory, Rank};
@@ -19,9 +19,9 @@ pub(crate) struct Ranks {
 
 impl Model for Ranks {
     ghost use Rattle.std.specs.Prelude.{List};
-    ghost use Rattle.decision_groups.specs.Order.{Candidate, IsInOrder};
+    ghost use Rattle.decision_groups.specs.Order.{RankedSource, IsInOrder};
 
-    ghost Value = { List Candidate };
+    ghost Value = { List RankedSource };
 
     ghost view = { λ s. s.map.entries };
 
@@ -78,7 +78,7 @@ impl Ranks {
     }
 
     pub fn get(&self, from: From) -> Option<&Rank>
-        ensures { option_copied result ≡ rank_of self.now from }
+        ensures { option_copied result ≡ rank_at self.now from }
     {
         self.map.get(&from)
     }
@@ -86,9 +86,9 @@ impl Ranks {
     /// Puts a rank in its place, and answers the one that it replaces. Want of memory comes only where
     /// there was none.
     pub fn insert(&mut self, from: From, rank: Rank) -> Result<Option<Rank>, NoMemory>
-        ensures replaced { IfOk result (λ old. old ≡ rank_of self.old from) }
+        ensures replaced { IfOk result (λ old. old ≡ rank_at self.old from) }
         ensures ok { OnOk result (self.new ≡ with_rank self.old from rank) }
-        ensures absent { OnErr result (rank_of self.old from ≡ None) }
+        ensures absent { OnErr result (rank_at self.old from ≡ None) }
         ensures err { OnErr result (self.new ≡ self.old) }
         ensures in_order { IsInOrder self.new }
     {
@@ -97,7 +97,7 @@ impl Ranks {
 
     /// Takes a rank out. It takes no memory.
     pub fn remove(&mut self, from: From) -> Option<Rank>
-        ensures removed { result ≡ rank_of self.old from }
+        ensures removed { result ≡ rank_at self.old from }
         ensures left { self.new ≡ without self.old from }
         ensures in_order { IsInOrder self.new }
     {

@@ -1,6 +1,6 @@
 use Rattle.std.proofs.Common.{subst}
 use Rattle.std.proofs.lemmas.Result.{err_from_is_err_and}
-use Rattle.attr_codec.specs.Answers.{Stops}
+use Rattle.attr_codec.specs.Decoding.{Stops}
 use Rattle.attr_codec.proofs.ReadLaws.{same_fault, said_together}
 use Rattle.attr_codec.proofs.read.read_attrs.Goals as goal
 

@@ -3,7 +3,7 @@ use Rattle.std.proofs.Math.ListN.{set, length-set}
 use Rattle.std.proofs.lemmas.List.Elements.{All-get_or}
 use Rattle.std.proofs.lemmas.Result.{err_from_is_err_and}
 use Rattle.bgp_types.specs.WireAttrs.{attr_at}
-use Rattle.attr_codec.specs.Answers.{Stops}
+use Rattle.attr_codec.specs.Decoding.{Stops}
 use Rattle.attr_codec.specs.Pieces.{wire}
 use Rattle.attr_codec.proofs.ReadLaws.{begins, goes_on, repeats, fails, cut_short, ends}
 use Rattle.attr_codec.proofs.read.said_at.Goals as goal

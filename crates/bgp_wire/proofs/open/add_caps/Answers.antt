@@ -1,5 +1,5 @@
 use Rattle.std.proofs.Common.{◌≡◌, ◌<◌, rules, length, Some, None, sym, ap, subst}
-use Rattle.attr_codec.specs.Answers.{Stops}
+use Rattle.attr_codec.specs.Decoding.{Stops}
 use Rattle.bgp_types.specs.OpenBody.{cap_at}
 use Rattle.bgp_wire.specs.Caps.{cap_of, caps_fault}
 use Rattle.bgp_wire.proofs.CapLaws.{adds_none, adds_one, added_all, stops_short}

@@ -1,7 +1,7 @@
 use Rattle.std.proofs.Common.{◌≡◌, rules, arith, eqb, true, false, Some, None, subst, sym}
 use Rattle.std.proofs.lemmas.Bool.Decides.{nat_tests}
 use Rattle.std.proofs.lemmas.Result.{err_from_is_err_and}
-use Rattle.attr_codec.specs.Answers.{Stops}
+use Rattle.attr_codec.specs.Decoding.{Stops}
 use Rattle.bgp_types.specs.OpenBody.{cap_at}
 use Rattle.bgp_wire.specs.Caps.{cap_of}
 use Rattle.bgp_wire.proofs.CapLaws.{reads_none, other_type, caps_fail, reads_one, reads_all}

@@ -1,5 +1,5 @@
 use Rattle.std.proofs.Common.{◌≡◌, ℕ, List, drop, true, false, subst, sym, ap, length-drop, rules, arith}
-use Rattle.attr_codec.specs.Answers.{Stops, Answers}
+use Rattle.attr_codec.specs.Decoding.{Stops, Decodes}
 use Rattle.bgp_types.specs.FirstFault.{is_in_state, body_of}
 use Rattle.bgp_types.specs.Header.{kind_in}
 use Rattle.bgp_types.specs.Faults.{fault_in}
@@ -36,5 +36,5 @@ pub returns : goal.returns
 returns c =
     let t : is_in_state c.args.expected.now.state (kind_in c.args.bytes.now) ≡ true = search rules in
     let b : c.split_at.result.1.now ≡ drop 19 c.args.bytes.now = c.split_at.ensures.back in
-    subst (Answers c.read_body.result) (sym (taken c.args.expected.now c.args.bytes.now (sound_is c.args.bytes.now c.requires).header t))
-    (subst (λ (body : List ℕ). Answers c.read_body.result (body_of c.args.expected.now (kind_in c.args.bytes.now) body)) b c.read_body.ensures)
+    subst (Decodes c.read_body.result) (sym (taken c.args.expected.now c.args.bytes.now (sound_is c.args.bytes.now c.requires).header t))
+    (subst (λ (body : List ℕ). Decodes c.read_body.result (body_of c.args.expected.now (kind_in c.args.bytes.now) body)) b c.read_body.ensures)

@@ -16,6 +16,6 @@ Passes (Ok x) fault = fault ≡ None
 Passes (Err stop) fault = Stops stop fault
 
 -- It gives the value that is read, or stops with the fault.
-abbrev pub Answers : {A : Type 0} → Result A CodecFault → Result A Notice → Type 0
-Answers (Ok x) read = read ≡ Ok x
-Answers (Err stop) read = Stops stop (fault_in read)
+abbrev pub Decodes : {A : Type 0} → Result A CodecFault → Result A Notice → Type 0
+Decodes (Ok x) read = read ≡ Ok x
+Decodes (Err stop) read = Stops stop (fault_in read)
