@@ -14,11 +14,11 @@ use Rattle.route_policy.specs.Candidates.{SessionRoute, RouterRoute, candidates}
 use Rattle.route_policy.specs.Telling.{tell_in}
 use Rattle.tcp_seq.specs.Endpoint.{received_bytes}
 use Rattle.session_value.specs.Sessions.{SessionValue, peering_of, state}
-use Rattle.graft_model.specs.Setups.{Setup, routers_in, peerings_in, router_numbers, peering_numbers, identifier_of, cost_between, is_own}
+use Rattle.graft_model.specs.Setups.{Setup, routers_in, peerings_in, router_numbers, peering_numbers, identifier_of, cost_between, has_network, config_of}
 use Rattle.graft_model.specs.Parts.{Order, Place, Vacant, Live, Frozen, Shadow, Mesh, Told, Moved, Back, Done, World}
 use Rattle.graft_model.specs.Decisions.{session_route, to_tell}
 use Rattle.graft_model.specs.OperatorRows.{placement}
-use Rattle.graft_model.specs.Steps.{Event, ByRouter, Refuse, Freeze, Return, Step, Run}
+use Rattle.graft_model.specs.Steps.{RouterEvent, Refuse, Freeze, Land, Return, Event, ByRouter, Step, Run}
 use Rattle.graft_model.specs.Quiet.{BeginsNothing}
 
 -- ---- where a session is
@@ -53,11 +53,12 @@ pub record AreFirst (first bytes : List ℕ) : Type 0 where
   pub rest : List ℕ
   pub is : bytes ≡ first ++ rest
 
--- The peering has one session, with a legal story (RFC 4271, sections 6 and 8.2.2). What the remote received are the first bytes of what that story
+-- The peering has one session, which is the peering's own, with a legal story (RFC 4271, sections 6 and 8.2.2). What the remote received are the first bytes of what that story
 -- put, and what it got are the first bytes of what the remote said. Its tables are those of the story (section 3.1).
 pub record Transparent (setup : Setup) (w : World) (p : ℕ) : Type 0 where
   pub session : SessionValue
   pub one : sessions_of setup w p ≡ session ∷ []
+  pub own : config_of setup p ≡ Some session.config
   pub legal : IsLegal (peering_of session.config) session.story (state session)
   pub received : AreFirst (received_bytes (w.far p).end) (put_bytes (peering_of session.config) session.story)
   pub got : AreFirst (got_bytes session.story) (w.far p).end.stream
@@ -66,17 +67,36 @@ pub record Transparent (setup : Setup) (w : World) (p : ℕ) : Type 0 where
 
 -- ---- unchanged
 
--- A graft that is turned back gives the session back that was frozen for it, and a refused one leaves every session.
+-- Among the events, the graft k froze this session of p at r, and later an event of the router s takes this item, which came to it from q.
+pub record FrozenBefore (setup : Setup) (first : World) (events : List Event) (r k p target : ℕ) (found : SessionValue) (s q : ℕ) (event : RouterEvent) (item : Mesh) (after : World) : Type 0 where
+  pub begun : List Event
+  pub away : List Event
+  pub rest : List Event
+  pub among : events ≡ begun ++ ByRouter r (Freeze k) ∷ (away ++ ByRouter s event ∷ rest)
+  pub w₁ : World
+  pub w₂ : World
+  pub w₃ : World
+  pub before : Run setup first begun w₁
+  pub was : (w₁.router r).places p ≡ Live found (Some (record { graft = k; target = target }))
+  pub freezes : Step setup (ByRouter r (Freeze k)) w₁ w₂
+  pub meanwhile : Run setup w₂ away w₃
+  pub items : List Mesh
+  pub comes : w₃.mesh q s ≡ item ∷ items
+  pub step : Step setup (ByRouter s event) w₃ after
+
+-- A graft that is turned back leaves the session at the router that froze it, as it was there; one that lands leaves it at its target, as it was.
+-- A graft that the source refuses leaves every session where and as it is.
 pub record Unchanged (setup : Setup) (first : World) (events : List Event) : Type 0 where
-  pub returned : (begun away rest : List Event) (r q k p : ℕ) (frozen back : SessionValue) (order : Order) (w₁ w₂ w₃ w₄ : World)
-      → events ≡ begun ++ ByRouter r (Freeze k) ∷ (away ++ ByRouter r (Return q) ∷ rest)
-      → Run setup first begun w₁ → Step setup (ByRouter r (Freeze k)) w₁ w₂ → Run setup w₂ away w₃ → Step setup (ByRouter r (Return q)) w₃ w₄
-      → (w₂.router r).places p ≡ Frozen frozen order → order.graft ≡ k → (w₃.router r).places p ≡ Shadow k
-      → (refusal : Refusal) (items : List Mesh) → w₃.mesh q r ≡ Back k p back refusal ∷ items
-      → (w₄.router r).places p ≡ Live frozen None
+  pub returned : (r k p target s q : ℕ) (found session : SessionValue) (refusal : Refusal) (after : World)
+      → FrozenBefore setup first events r k p target found s q (Return q) (Back k p session refusal) after
+      → (s ≡ r) × ((after.router s).places p ≡ Live found None)
+  pub landed : (r k p target s q : ℕ) (found session : SessionValue) (after : World)
+      → FrozenBefore setup first events r k p target found s q (Land q) (Moved k p session) after
+      → (s ≡ target) × ((after.router s).places p ≡ Live found None)
   pub refused : (begun rest : List Event) (r k p : ℕ) (w₁ w₂ : World)
       → events ≡ begun ++ ByRouter r (Refuse k) ∷ rest
-      → Run setup first begun w₁ → Step setup (ByRouter r (Refuse k)) w₁ w₂ → sessions_of setup w₂ p ≡ sessions_of setup w₁ p
+      → Run setup first begun w₁ → Step setup (ByRouter r (Refuse k)) w₁ w₂
+      → (sessions_of setup w₂ p ≡ sessions_of setup w₁ p) × ((q : ℕ) → sessions_at ((w₂.router q).places p) ≡ sessions_at ((w₁.router q).places p))
 
 -- ---- solves
 
@@ -121,7 +141,7 @@ pub record SolvesOn (setup : Setup) (w : World) (p : ℕ) : Type 0 where
 -- tells now; and each peering is as it is to be.
 pub record Solves (setup : Setup) (w : World) : Type 0 where
   pub best : (r : ℕ) (prefix : PrefixValue) → r < routers_in setup → map.get (w.router r).best prefix
-      ≡ choice (candidates setup.home_as prefix (is_own setup r prefix) (session_routes setup w r prefix) (router_routes setup w r prefix))
+      ≡ choice (candidates setup.home_as prefix (has_network setup r prefix) (session_routes setup w r prefix) (router_routes setup w r prefix))
   pub tellings : (r q : ℕ) (prefix : PrefixValue) → r < routers_in setup → q < routers_in setup → r ≢ q
       → map.get ((w.router q).tellings r) prefix ≡ tell_in (map.get (w.router r).best prefix)
   pub peerings : (p : ℕ) → p < peerings_in setup → SolvesOn setup w p

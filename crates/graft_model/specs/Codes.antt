@@ -4,7 +4,7 @@ use Rattle.bgp_types.specs.Prefixes.{PrefixValue, cleared}
 use Rattle.graft_model.specs.declared.kind.EventKind.{EventKind}
 use Rattle.graft_model.specs.declared.kind.EventKind.TheVariants as kinds
 use Rattle.graft_model.specs.FarRows.{Way, Homeward, Remoteward}
-use Rattle.graft_model.specs.Steps.{RouterEvent, Put, Emit, Arrive, Stray, Got, Decide, Tell, Hear, Admit, Refuse, Freeze, Leave, Land, TurnBack, Return, Clear, Tick, FarEvent, Say, Send, Take, Pass, Reach, Lose, Point, Beat, OperatorEvent, OrderSay, OrderGraft, Note}
+use Rattle.graft_model.specs.Steps.{RouterEvent, Put, Emit, Arrive, Stray, Got, Decide, Tell, Hear, Admit, Refuse, Freeze, Leave, Land, TurnBack, Return, Clear, Tick, FarEvent, Say, Send, Take, Pass, Reach, Lose, Point, Beat, OperatorEvent, Order, Note, Go}
 
 -- the numbers of the kinds; those from 27 to 30 are left free
 abbrev pub number_of : EventKind → ℕ
@@ -82,13 +82,13 @@ abbrev pub far_code : FarEvent → Code
 far_code (Say step) = coded kinds.Say step 0 0
 far_code (Send from len) = coded kinds.Send from len 0
 far_code (Take router) = coded kinds.Take router 0 0
-far_code (Pass place keep router) = coded kinds.Pass place (flag keep) router
-far_code (Reach place keep) = coded kinds.Reach place (flag keep) 0
-far_code (Lose way place) = coded kinds.Lose (way_number way) place 0
+far_code (Pass index keep router) = coded kinds.Pass index (flag keep) router
+far_code (Reach index keep) = coded kinds.Reach index (flag keep) 0
+far_code (Lose way index) = coded kinds.Lose (way_number way) index 0
 far_code (Point router) = coded kinds.Point router 0 0
 far_code (Beat round) = coded kinds.Beat round 0 0
 
 abbrev pub operator_code : OperatorEvent → Code
-operator_code (OrderSay step) = coded kinds.Order step 0 0
-operator_code (OrderGraft step) = coded kinds.Order step 0 0
+operator_code (Order step) = coded kinds.Order step 0 0
 operator_code (Note router) = coded kinds.Note router 0 0
+operator_code Go = coded kinds.Go 0 0 0

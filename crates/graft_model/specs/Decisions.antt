@@ -14,7 +14,7 @@ use Rattle.route_policy.specs.Telling.{OutSide, tell_out}
 use Rattle.route_policy.specs.declared.best.Best.{Best}
 use Rattle.session_value.specs.declared.config.SessionConfig.{SessionConfig}
 use Rattle.session_value.specs.Sessions.{SessionValue, peering_of}
-use Rattle.graft_model.specs.Setups.{Setup, identifier_of, cost_between, is_own, rules_for, peering_numbers, router_numbers}
+use Rattle.graft_model.specs.Setups.{Setup, identifier_of, cost_between, has_network, rules_for, peering_numbers, router_numbers}
 use Rattle.graft_model.specs.Parts.{RouterPart, Entry}
 
 -- ---- taking in
@@ -53,7 +53,7 @@ telling_candidate setup r q telling = option_map (λ route. (record { from = Rou
 -- number (RFC 4271, section 9.1.2).
 abbrev pub chosen : Setup → ℕ → RouterPart → PrefixValue → Option Best
 chosen setup r part prefix = choice (
-    own_candidates setup.home_as (is_own setup r prefix)
+    own_candidates setup.home_as (has_network setup r prefix)
     ++ filter_map (λ p. entry_candidate setup.home_as p (map.get (part.entries p) prefix)) (peering_numbers setup)
     ++ filter_map (λ q. telling_candidate setup r q (map.get (part.tellings q) prefix)) (router_numbers setup))
 

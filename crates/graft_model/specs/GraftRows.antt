@@ -12,13 +12,13 @@ use Rattle.graft_model.specs.Points.{at}
 use Rattle.graft_model.specs.Sets.{Prefixes, has, Marks}
 use Rattle.graft_model.specs.Setups.{Setup, routers_in, peerings_in, peering_numbers, room_of, missing_policy}
 use Rattle.graft_model.specs.Parts.{Order, Place, Vacant, Live, Frozen, Shadow, RouterPart, Entries, Mesh, Moved, Back, Done, PointAt, GraftOrder, Report}
-use Rattle.graft_model.specs.RouterRows.{RouterTakes, TakesNothing, FromOperator, FromRouter, RouterSends, ToRouter, ToFar, ToOperator, Alone, IsLive, BringsIn}
+use Rattle.graft_model.specs.RouterRows.{RouterTaken, OrderIn, MeshIn, RouterSent, MeshTo, OutwardTo, ReportOut, Alone, IsLive, BringsIn}
 
 -- The order of a graft is stored with the live session that it is for.
-pub record Admits (setup : Setup) (k : ℕ) (before : RouterPart) (taken : RouterTakes) (sent : List RouterSends) (after : RouterPart) : Type 0 where
+pub record Admits (setup : Setup) (k : ℕ) (before : RouterPart) (taken : Option RouterTaken) (sent : List RouterSent) (after : RouterPart) : Type 0 where
   pub peering : ℕ
   pub target : ℕ
-  pub takes : taken ≡ FromOperator (record { graft = k; peering = peering; target = target })
+  pub takes : taken ≡ Some (OrderIn (record { graft = k; peering = peering; target = target }))
   pub sends : sent ≡ []
   pub known : target < routers_in setup
   pub session : SessionValue
@@ -26,19 +26,19 @@ pub record Admits (setup : Setup) (k : ℕ) (before : RouterPart) (taken : Route
   pub effect : after ≡ record before { places = at before.places peering (Live session (Some (record { graft = k; target = target }))) }
 
 -- The source refuses the graft, and the session stays as it is.
-pub record Refuses (r k : ℕ) (before : RouterPart) (taken : RouterTakes) (sent : List RouterSends) (after : RouterPart) : Type 0 where
+pub record Refuses (r k : ℕ) (before : RouterPart) (taken : Option RouterTaken) (sent : List RouterSent) (after : RouterPart) : Type 0 where
   pub peering : ℕ
   pub target : ℕ
   pub session : SessionValue
   pub live : IsLive before peering session (Some (record { graft = k; target = target }))
   pub refusal : Refusal
   pub cause : freeze_refusal (record { 0 = r }) (record { 0 = target }) (state session) (hold_time session) ≡ Some refusal
-  pub takes : taken ≡ TakesNothing
-  pub sends : sent ≡ ToOperator (record { graft = k; outcome = Refused refusal }) ∷ []
+  pub takes : taken ≡ None
+  pub sends : sent ≡ ReportOut (record { graft = k; outcome = Refused refusal }) ∷ []
   pub effect : after ≡ record before { places = at before.places peering (Live session None) }
 
 -- The source freezes the session for the graft.
-pub record Freezes (r k : ℕ) (before : RouterPart) (taken : RouterTakes) (sent : List RouterSends) (after : RouterPart) : Type 0 where
+pub record Freezes (r k : ℕ) (before : RouterPart) (taken : Option RouterTaken) (sent : List RouterSent) (after : RouterPart) : Type 0 where
   pub alone : Alone taken sent
   pub peering : ℕ
   pub target : ℕ
@@ -48,13 +48,13 @@ pub record Freezes (r k : ℕ) (before : RouterPart) (taken : RouterTakes) (sent
   pub effect : after ≡ record before { places = at before.places peering (Frozen session (record { graft = k; target = target })) }
 
 -- The frozen session leaves for the target. Its routes stay as a shadow, and nothing is due on the peering.
-pub record Leaves (k : ℕ) (before : RouterPart) (taken : RouterTakes) (sent : List RouterSends) (after : RouterPart) : Type 0 where
+pub record Leaves (k : ℕ) (before : RouterPart) (taken : Option RouterTaken) (sent : List RouterSent) (after : RouterPart) : Type 0 where
   pub peering : ℕ
   pub target : ℕ
   pub session : SessionValue
   pub frozen : before.places peering ≡ Frozen session (record { graft = k; target = target })
-  pub takes : taken ≡ TakesNothing
-  pub sends : sent ≡ ToRouter target (Moved k peering session) ∷ []
+  pub takes : taken ≡ None
+  pub sends : sent ≡ MeshTo target (Moved k peering session) ∷ []
   pub effect : after ≡ record before { places = at before.places peering (Shadow k); due_out = at before.due_out peering map.empty }
 
 -- ---- at the target
@@ -75,11 +75,11 @@ abbrev pub refusal_of : Setup → ℕ → RouterPart → SessionValue → Option
 refusal_of setup r part session = admit_refusal (taken_in setup part) (room_of setup r) (missing_policy setup r session.config)
 
 -- The next item of a router is a session that moves here, to a place where nothing is.
-pub record Comes (setup : Setup) (q : ℕ) (before : RouterPart) (taken : RouterTakes) : Type 0 where
+pub record Comes (setup : Setup) (q : ℕ) (before : RouterPart) (taken : Option RouterTaken) : Type 0 where
   pub graft : ℕ
   pub peering : ℕ
   pub session : SessionValue
-  pub takes : taken ≡ FromRouter q (Moved graft peering session)
+  pub takes : taken ≡ Some (MeshIn q (Moved graft peering session))
   pub known : peering < peerings_in setup
   pub vacant : before.places peering ≡ Vacant
 
@@ -89,12 +89,12 @@ pub record DueAgain (part : RouterPart) (session : SessionValue) (due : Prefixes
 
 -- The session lands: its routes are taken in by the target's own policies, the far side is told to point here, and the source that the
 -- session is here.
-pub record Lands (setup : Setup) (r q : ℕ) (before : RouterPart) (taken : RouterTakes) (sent : List RouterSends) (after : RouterPart) : Type 0 where
+pub record Lands (setup : Setup) (r q : ℕ) (before : RouterPart) (taken : Option RouterTaken) (sent : List RouterSent) (after : RouterPart) : Type 0 where
   pub comes : Comes setup q before taken
   pub admitted : refusal_of setup r before comes.session ≡ None
-  pub sends : sent ≡ ToFar comes.peering (PointAt comes.graft) ∷ ToRouter q (Done comes.graft comes.peering) ∷ []
+  pub sends : sent ≡ OutwardTo comes.peering (PointAt comes.graft) ∷ MeshTo q (Done comes.graft comes.peering) ∷ []
   pub entries : BringsIn setup r comes.session (after.entries comes.peering)
-  pub dirty : Marks before.dirty map.empty (after.entries comes.peering) after.dirty
+  pub dirty : Marks before.dirty (before.entries comes.peering) (after.entries comes.peering) after.dirty
   pub due : DueAgain before comes.session (after.due_out comes.peering)
   pub effect : after ≡ record before {
     places = at before.places comes.peering (Live comes.session None);
@@ -104,33 +104,33 @@ pub record Lands (setup : Setup) (r q : ℕ) (before : RouterPart) (taken : Rout
   }
 
 -- The target doesn't take the session in, and sends it back.
-pub record TurnsBack (setup : Setup) (r q : ℕ) (before : RouterPart) (taken : RouterTakes) (sent : List RouterSends) (after : RouterPart) : Type 0 where
+pub record TurnsBack (setup : Setup) (r q : ℕ) (before : RouterPart) (taken : Option RouterTaken) (sent : List RouterSent) (after : RouterPart) : Type 0 where
   pub comes : Comes setup q before taken
   pub refusal : Refusal
   pub cause : refusal_of setup r before comes.session ≡ Some refusal
-  pub sends : sent ≡ ToRouter q (Back comes.graft comes.peering comes.session refusal) ∷ []
+  pub sends : sent ≡ MeshTo q (Back comes.graft comes.peering comes.session refusal) ∷ []
   pub stays : after ≡ before
 
 -- ---- at the source again
 
 -- The refused session is back: it is live again, and its entries never went.
-pub record Returns (q : ℕ) (before : RouterPart) (taken : RouterTakes) (sent : List RouterSends) (after : RouterPart) : Type 0 where
+pub record Returns (q : ℕ) (before : RouterPart) (taken : Option RouterTaken) (sent : List RouterSent) (after : RouterPart) : Type 0 where
   pub graft : ℕ
   pub peering : ℕ
   pub session : SessionValue
   pub refusal : Refusal
-  pub takes : taken ≡ FromRouter q (Back graft peering session refusal)
+  pub takes : taken ≡ Some (MeshIn q (Back graft peering session refusal))
   pub shadow : before.places peering ≡ Shadow graft
-  pub sends : sent ≡ ToOperator (record { graft = graft; outcome = Refused refusal }) ∷ []
+  pub sends : sent ≡ ReportOut (record { graft = graft; outcome = Refused refusal }) ∷ []
   pub due : DueAgain before session (after.due_out peering)
   pub effect : after ≡ record before { places = at before.places peering (Live session None); due_out = at before.due_out peering (after.due_out peering) }
 
 -- The session is at its target: the shadow ends, with the entries of the peering.
-pub record Clears (q : ℕ) (before : RouterPart) (taken : RouterTakes) (sent : List RouterSends) (after : RouterPart) : Type 0 where
+pub record Clears (q : ℕ) (before : RouterPart) (taken : Option RouterTaken) (sent : List RouterSent) (after : RouterPart) : Type 0 where
   pub graft : ℕ
   pub peering : ℕ
-  pub takes : taken ≡ FromRouter q (Done graft peering)
+  pub takes : taken ≡ Some (MeshIn q (Done graft peering))
   pub shadow : before.places peering ≡ Shadow graft
-  pub sends : sent ≡ ToOperator (record { graft = graft; outcome = Accepted }) ∷ []
+  pub sends : sent ≡ ReportOut (record { graft = graft; outcome = Accepted }) ∷ []
   pub dirty : Marks before.dirty (before.entries peering) map.empty after.dirty
   pub effect : after ≡ record before { places = at before.places peering Vacant; entries = at before.entries peering map.empty; dirty = after.dirty }

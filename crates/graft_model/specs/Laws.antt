@@ -1,6 +1,7 @@
--- What a step leaves as it is.
+-- What a step leaves as it is, and what may happen in a quiet world.
 use Rattle.std.specs.Prelude.{ℕ, ◌≡◌, ◌≢◌}
 use Rattle.graft_model.specs.Parts.{World}
+use Rattle.graft_model.specs.Steps.{Emit, Tick, Send, Beat, Go, Event, ByRouter, ByFar, ByOperator}
 
 -- A router's event changes that router's part, and channels from it or to it.
 pub record LeavesByRouter (r : ℕ) (before after : World) : Type 0 where
@@ -33,3 +34,12 @@ pub record LeavesByOperator (before after : World) : Type 0 where
   pub mesh : after.mesh ≡ before.mesh
   pub outward : after.outward ≡ before.outward
   pub inward : after.inward ≡ before.inward
+
+-- What may happen though nothing is left to do: segments are sent again or without bytes, rounds pass, and the next group begins.
+abbrev pub MayStillHappen : Event → Type 0
+MayStillHappen (ByRouter r (Emit p from len)) = Unit {0}
+MayStillHappen (ByRouter r (Tick p round)) = Unit {0}
+MayStillHappen (ByFar p (Send from len)) = Unit {0}
+MayStillHappen (ByFar p (Beat round)) = Unit {0}
+MayStillHappen (ByOperator Go) = Unit {0}
+MayStillHappen event = ⊥

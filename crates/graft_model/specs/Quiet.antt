@@ -5,7 +5,7 @@ use Rattle.bgp_types.specs.declared.message.SessionState.TheVariants.{Closed}
 use Rattle.bgp_story.specs.Legal.{IsGot}
 use Rattle.session_value.specs.Sessions.{SessionValue, state, unread}
 use Rattle.tcp_seq.specs.Endpoint.{Endpoint, received}
-use Rattle.graft_model.specs.Setups.{Setup, ScriptStep, Settle, Graft, group_of, graft_number}
+use Rattle.graft_model.specs.Setups.{Setup, ScriptStep, MoveStep, SettleStep, group_of, graft_number}
 use Rattle.graft_model.specs.Parts.{Place, Vacant, Live, World}
 
 -- no whole message and no faulty header stands at the front of bytes
@@ -43,5 +43,5 @@ pub record Quiet (setup : Setup) (w : World) : Type 0 where
   pub told_in : (r q : ℕ) → (w.router r).due_in q ≡ map.empty
   pub told_out : (r p : ℕ) → (w.router r).due_out p ≡ map.empty
   pub places : (r p : ℕ) → IsIdle (w.far p).end ((w.router r).places p)
-  pub issued : (n : ℕ) (step : ScriptStep) → slice_get setup.steps n ≡ Some step → step ≢ Settle → group_of setup n ≡ w.operator.group → w.operator.issued n ≡ true
-  pub ended : (n p target : ℕ) → slice_get setup.steps n ≡ Some (Graft p target) → group_of setup n ≡ w.operator.group → w.operator.outcome (graft_number setup n) ≢ None
+  pub issued : (n : ℕ) (step : ScriptStep) → slice_get setup.steps n ≡ Some step → step ≢ SettleStep → group_of setup n ≡ w.operator.group → w.operator.issued n ≡ true
+  pub ended : (n p target : ℕ) → slice_get setup.steps n ≡ Some (MoveStep p target) → group_of setup n ≡ w.operator.group → w.operator.outcome (graft_number setup n) ≢ None

@@ -20,21 +20,21 @@ use Rattle.graft_model.specs.Setups.{Setup}
 use Rattle.graft_model.specs.Parts.{Order, Place, Live, RouterPart, Entry, Entries, BestRoutes, Mesh, Outward, Seg, GraftOrder, Report}
 use Rattle.graft_model.specs.Decisions.{entry_of, to_tell}
 
--- what a router takes: nothing, the next item of the operator's channel, of a far side's, or of another router's
-pub data RouterTakes : Type 0 where
-  TakesNothing : RouterTakes
-  FromOperator : GraftOrder → RouterTakes
-  FromFar : (peering : ℕ) → PlacedSegment → RouterTakes
-  FromRouter : (router : ℕ) → Mesh → RouterTakes
+-- what a router may take: the next item of the operator's channel, of a far side's, or of another router's
+pub data RouterTaken : Type 0 where
+  OrderIn : GraftOrder → RouterTaken
+  SegmentIn : (peering : ℕ) → PlacedSegment → RouterTaken
+  MeshIn : (router : ℕ) → Mesh → RouterTaken
 
-pub data RouterSends : Type 0 where
-  ToRouter : (router : ℕ) → Mesh → RouterSends
-  ToFar : (peering : ℕ) → Outward → RouterSends
-  ToOperator : Report → RouterSends
+-- what a router may send: to another router, to a far side, to the operator
+pub data RouterSent : Type 0 where
+  MeshTo : (router : ℕ) → Mesh → RouterSent
+  OutwardTo : (peering : ℕ) → Outward → RouterSent
+  ReportOut : Report → RouterSent
 
 -- the event takes nothing and sends nothing
-abbrev pub Alone : RouterTakes → List RouterSends → Type 0
-Alone taken sent = (taken ≡ TakesNothing) × (sent ≡ [])
+abbrev pub Alone : Option RouterTaken → List RouterSent → Type 0
+Alone taken sent = (taken ≡ None) × (sent ≡ [])
 
 -- the live session of a peering at a router, with the graft that is stored for it
 pub record IsLive (part : RouterPart) (p : ℕ) (session : SessionValue) (order : Option Order) : Type 0 where
@@ -50,8 +50,8 @@ Waits part p prefix = (has (part.due_out p) prefix ≡ true) × (has part.dirty 
 abbrev pub IsToTell : Setup → ℕ → RouterPart → ℕ → SessionValue → PrefixValue → Type 0
 IsToTell setup r part p session prefix = Waits part p prefix × (map.get session.told prefix ≢ to_tell setup r part session prefix)
 
--- what waits is told as it is to be: it is due no more
-pub record PutsNothing (setup : Setup) (r p : ℕ) (before : RouterPart) (taken : RouterTakes) (sent : List RouterSends) (after : RouterPart) : Type 0 where
+-- Everything that is due and decided was told as it is to be: it is due no more.
+pub record PutsNothing (setup : Setup) (r p : ℕ) (before : RouterPart) (taken : Option RouterTaken) (sent : List RouterSent) (after : RouterPart) : Type 0 where
   pub alone : Alone taken sent
   pub session : SessionValue
   pub order : Option Order
@@ -69,7 +69,7 @@ update_for None prefixes = record { withdrawn = prefixes; attrs = None; nlri = [
 update_for (Some attrs) prefixes = record { withdrawn = []; attrs = Some attrs; nlri = prefixes }
 
 -- The first n of the prefixes that are to be told the same as the first one of all are put in one UPDATE, and are due no more.
-pub record PutsSome (setup : Setup) (r p n : ℕ) (before : RouterPart) (taken : RouterTakes) (sent : List RouterSends) (after : RouterPart) : Type 0 where
+pub record PutsSome (setup : Setup) (r p n : ℕ) (before : RouterPart) (taken : Option RouterTaken) (sent : List RouterSent) (after : RouterPart) : Type 0 where
   pub alone : Alone taken sent
   pub session : SessionValue
   pub order : Option Order
@@ -91,40 +91,40 @@ pub record PutsSome (setup : Setup) (r p n : ℕ) (before : RouterPart) (taken :
 -- ---- what is emitted and what arrives
 
 -- A slice of what was put, or nothing at the place that is emitted next, goes to the far side with the received length of this moment.
-pub record Emits (p from len : ℕ) (before : RouterPart) (taken : RouterTakes) (sent : List RouterSends) (after : RouterPart) : Type 0 where
+pub record Emits (p from len : ℕ) (before : RouterPart) (taken : Option RouterTaken) (sent : List RouterSent) (after : RouterPart) : Type 0 where
   pub session : SessionValue
   pub order : Option Order
   pub live : IsLive before p session order
   pub segment : PlacedSegment
   pub end : Endpoint
   pub emits : EmitsAt from len session.end segment end
-  pub takes : taken ≡ TakesNothing
-  pub sends : sent ≡ ToFar p (Seg segment) ∷ []
+  pub takes : taken ≡ None
+  pub sends : sent ≡ OutwardTo p (Seg segment) ∷ []
   pub effect : after ≡ record before { places = at before.places p (Live (record session { end = end }) order) }
 
 -- The next segment of the far side arrives at the live session.
-pub record Arrives (p : ℕ) (before : RouterPart) (taken : RouterTakes) (sent : List RouterSends) (after : RouterPart) : Type 0 where
+pub record Arrives (p : ℕ) (before : RouterPart) (taken : Option RouterTaken) (sent : List RouterSent) (after : RouterPart) : Type 0 where
   pub session : SessionValue
   pub order : Option Order
   pub live : IsLive before p session order
   pub segment : PlacedSegment
-  pub takes : taken ≡ FromFar p segment
+  pub takes : taken ≡ Some (SegmentIn p segment)
   pub sends : sent ≡ []
   pub end : Endpoint
   pub arrives : TakesSegment session.end segment end
   pub effect : after ≡ record before { places = at before.places p (Live (record session { end = end }) order) }
 
 -- The next segment of the far side finds no live session here, and is dropped without an answer.
-pub record Strays (p : ℕ) (before : RouterPart) (taken : RouterTakes) (sent : List RouterSends) (after : RouterPart) : Type 0 where
+pub record Strays (p : ℕ) (before : RouterPart) (taken : Option RouterTaken) (sent : List RouterSent) (after : RouterPart) : Type 0 where
   pub absent : (session : SessionValue) (order : Option Order) → IsLive before p session order → ⊥
   pub segment : PlacedSegment
-  pub takes : taken ≡ FromFar p segment
+  pub takes : taken ≡ Some (SegmentIn p segment)
   pub sends : sent ≡ []
   pub stays : after ≡ before
 
 -- ---- what is got, and rounds
 
--- the router has of a peering what its session brings in here
+-- a router's entries for a peering are what its session brings in here
 abbrev pub BringsIn : Setup → ℕ → SessionValue → Entries → Type 0
 BringsIn setup r session entries = (x : PrefixValue) → map.get entries x ≡ entry_of setup r session x
 
@@ -148,7 +148,7 @@ pub record Follows (setup : Setup) (r p : ℕ) (before : RouterPart) (session ne
   }
 
 -- A message or a faulty header is got and answered.
-pub record GetsNext (setup : Setup) (r p : ℕ) (before : RouterPart) (taken : RouterTakes) (sent : List RouterSends) (after : RouterPart) : Type 0 where
+pub record GetsNext (setup : Setup) (r p : ℕ) (before : RouterPart) (taken : Option RouterTaken) (sent : List RouterSent) (after : RouterPart) : Type 0 where
   pub alone : Alone taken sent
   pub session : SessionValue
   pub order : Option Order
@@ -159,7 +159,7 @@ pub record GetsNext (setup : Setup) (r p : ℕ) (before : RouterPart) (taken : R
   pub follows : Follows setup r p before session next order after
 
 -- A round passes on a session whose hold time runs.
-pub record Ticks (setup : Setup) (r p round : ℕ) (before : RouterPart) (taken : RouterTakes) (sent : List RouterSends) (after : RouterPart) : Type 0 where
+pub record Ticks (setup : Setup) (r p round : ℕ) (before : RouterPart) (taken : Option RouterTaken) (sent : List RouterSent) (after : RouterPart) : Type 0 where
   pub alone : Alone taken sent
   pub session : SessionValue
   pub order : Option Order

@@ -13,7 +13,7 @@ use Rattle.graft_model.specs.Sets.{has, Adds, Drops}
 use Rattle.graft_model.specs.Setups.{Setup, routers_in}
 use Rattle.graft_model.specs.Parts.{Place, Vacant, Live, Frozen, Shadow, RouterPart, Tellings, Mesh, Told}
 use Rattle.graft_model.specs.Decisions.{chosen}
-use Rattle.graft_model.specs.RouterRows.{RouterTakes, FromRouter, TakesNothing, RouterSends, ToRouter, Alone}
+use Rattle.graft_model.specs.RouterRows.{RouterTaken, MeshIn, RouterSent, MeshTo, Alone}
 
 abbrev pub is_established : SessionState → Bool
 is_established OpenSent = false
@@ -38,7 +38,7 @@ pub record DueEverywhere (setup : Setup) (r : ℕ) (prefix : PrefixValue) (befor
   pub peerings : (p : ℕ) → Adds (before.due_out p) (only prefix (holds_established (before.places p))) (after.due_out p)
 
 -- A dirty prefix gets the chosen route. Where that is another one, it is due to be told.
-pub record Decides (setup : Setup) (r : ℕ) (prefix : PrefixValue) (before : RouterPart) (taken : RouterTakes) (sent : List RouterSends) (after : RouterPart) : Type 0 where
+pub record Decides (setup : Setup) (r : ℕ) (prefix : PrefixValue) (before : RouterPart) (taken : Option RouterTaken) (sent : List RouterSent) (after : RouterPart) : Type 0 where
   pub alone : Alone taken sent
   pub dirty : has before.dirty prefix ≡ true
   pub due : ((chosen setup r before prefix ≡ map.get before.best prefix) × (after.due_in ≡ before.due_in) × (after.due_out ≡ before.due_out))
@@ -51,11 +51,11 @@ pub record Decides (setup : Setup) (r : ℕ) (prefix : PrefixValue) (before : Ro
   }
 
 -- A router is told the best route to a prefix, where that is own or external, and else that there is none.
-pub record Tells (q : ℕ) (prefix : PrefixValue) (before : RouterPart) (taken : RouterTakes) (sent : List RouterSends) (after : RouterPart) : Type 0 where
+pub record Tells (q : ℕ) (prefix : PrefixValue) (before : RouterPart) (taken : Option RouterTaken) (sent : List RouterSent) (after : RouterPart) : Type 0 where
   pub due : has (before.due_in q) prefix ≡ true
   pub clean : has before.dirty prefix ≡ false
-  pub takes : taken ≡ TakesNothing
-  pub sends : sent ≡ ToRouter q (Told prefix (tell_in (map.get before.best prefix))) ∷ []
+  pub takes : taken ≡ None
+  pub sends : sent ≡ MeshTo q (Told prefix (tell_in (map.get before.best prefix))) ∷ []
   pub effect : after ≡ record before { due_in = at before.due_in q (map.remove (before.due_in q) prefix) }
 
 abbrev pub with_telling : Tellings → PrefixValue → Option Route → Tellings
@@ -63,10 +63,10 @@ with_telling tellings prefix None = map.remove tellings prefix
 with_telling tellings prefix (Some route) = map.insert tellings prefix route
 
 -- What another router tells is heard. The prefix is dirty where that is another route than before.
-pub record Hears (q : ℕ) (before : RouterPart) (taken : RouterTakes) (sent : List RouterSends) (after : RouterPart) : Type 0 where
+pub record Hears (q : ℕ) (before : RouterPart) (taken : Option RouterTaken) (sent : List RouterSent) (after : RouterPart) : Type 0 where
   pub prefix : PrefixValue
   pub route : Option Route
-  pub takes : taken ≡ FromRouter q (Told prefix route)
+  pub takes : taken ≡ Some (MeshIn q (Told prefix route))
   pub sends : sent ≡ []
   pub dirty : ((route ≡ map.get (before.tellings q) prefix) × (after.dirty ≡ before.dirty))
       ⊎ ((route ≢ map.get (before.tellings q) prefix) × (after.dirty ≡ map.insert before.dirty prefix tt))
