@@ -7,15 +7,15 @@ use Rattle.graft_steps.specs.declared.rest.Pending.{Pending}
 use Rattle.graft_steps.specs.declared.rest.Pending.TheVariants.{Script, Graft, Channel, Bag, Stream, Dirty, DueIn, DueOut}
 
 -- the place of its kind among the kinds
-abbrev pub kind_of : Pending → ℕ
-kind_of Script = 0
-kind_of (Graft k) = 1
-kind_of (Channel a b) = 2
-kind_of (Bag p) = 3
-kind_of (Stream p) = 4
-kind_of (Dirty r) = 5
-kind_of (DueIn r q) = 6
-kind_of (DueOut p) = 7
+abbrev pub kind_place : Pending → ℕ
+kind_place Script = 0
+kind_place (Graft k) = 1
+kind_place (Channel a b) = 2
+kind_place (Bag p) = 3
+kind_place (Stream p) = 4
+kind_place (Dirty r) = 5
+kind_place (DueIn r q) = 6
+kind_place (DueOut p) = 7
 
 -- the numbers that it names, from the left
 abbrev pub numbers_of : Pending → List ℕ
@@ -30,4 +30,4 @@ numbers_of (DueOut p) = p.0 ∷ []
 
 -- by kind, and then by numbers
 abbrev pub pending_cmp : Pending → Pending → Ordering
-pending_cmp p q = ordering_then (nat_cmp (kind_of p) (kind_of q)) (slice_cmp nat_cmp (numbers_of p) (numbers_of q))
+pending_cmp p q = ordering_then (nat_cmp (kind_place p) (kind_place q)) (slice_cmp nat_cmp (numbers_of p) (numbers_of q))

@@ -15,7 +15,7 @@ pub enum Item<C> {
     PointAt {
         graft: u32,
     },
-    /// From a router to another: my route to this prefix, or that I have none for you.
+    /// From a router to another: the route to this prefix that it tells, or that it tells none.
     Told {
         prefix: Prefix,
         route: Option<Route>,
@@ -51,4 +51,12 @@ pub enum Item<C> {
     SayOrder {
         step: u32,
     },
+}
+
+/// Asks of a type that its values may go to another thread.
+fn goes_to_threads<T: Send>() {}
+
+/// An item may go to another thread where its capsule may.
+pub fn items_go_to_threads<C: Send>() {
+    goes_to_threads::<Item<C>>()
 }

@@ -19,13 +19,14 @@ pub enum Pending {
     Channel(u16, u16),
     /// A segment is on the link of this peering.
     Bag(PeeringId),
-    /// Bytes of this peering's session aren't acknowledged, or a message of it isn't read.
+    /// Bytes of this peering's session, in either direction, aren't acknowledged, or a message that
+    /// came in isn't read.
     Stream(PeeringId),
     /// This router has a prefix to decide.
     Dirty(RouterId),
-    /// The first router has a route to tell the second.
+    /// The first router is to tell the second of a prefix.
     DueIn(RouterId, RouterId),
-    /// A route is to be told on the session of this peering.
+    /// A prefix is to be told on the session of this peering.
     DueOut(PeeringId),
 }
 
@@ -36,9 +37,9 @@ pub struct RouterRest {
     pub number: RouterId,
     /// Whether a prefix is to be decided.
     pub dirty: bool,
-    /// A router to which a route is to be told.
+    /// A router that is to be told of a prefix.
     pub due_in: Option<RouterId>,
-    /// A peering on whose session a route is to be told.
+    /// A peering on whose session a prefix is to be told.
     pub due_out: Option<PeeringId>,
     /// A graft that is ordered here, or whose session is frozen here, or was sent away from here and
     /// hasn't ended.
