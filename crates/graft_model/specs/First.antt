@@ -1,0 +1,43 @@
+-- The world that a laboratory begins with.
+use Rattle.std.specs.Prelude.{ℕ, ◌==◌, List, [], false, Option, Some, None, if◌then◌else◌, fold, slice_get}
+use Rattle.std.specs.FinMap as map
+use Rattle.tcp_seq.specs.Endpoint.{fresh_endpoint}
+use Rattle.session_value.specs.Sessions.{begun}
+use Rattle.graft_model.specs.Setups.{Setup, PeeringSetup, of_router}
+use Rattle.graft_model.specs.Sets.{Prefixes}
+use Rattle.graft_model.specs.Parts.{Place, Vacant, Live, RouterPart, FarPart, OperatorPart, World}
+
+-- Each session is held where it starts, with its OPEN put.
+abbrev pub place_in : ℕ → Option PeeringSetup → Place
+place_in r None = Vacant
+place_in r (Some peering) = if peering.start == r then Live (begun peering.config) None else Vacant
+
+abbrev pub first_router : Setup → ℕ → RouterPart
+first_router setup r = record {
+  places = λ p. place_in r (slice_get setup.peerings p);
+  entries = λ p. map.empty;
+  tellings = λ q. map.empty;
+  best = map.empty;
+  dirty = fold (λ prefixes network. map.insert prefixes network tt) map.empty (of_router (λ router. router.networks) [] setup r);
+  due_in = λ q. map.empty;
+  due_out = λ p. map.empty;
+}
+
+-- Its remote has said its opening, and the link points there.
+abbrev pub first_far : Option PeeringSetup → FarPart
+first_far None = record { end = fresh_endpoint; homeward = []; remoteward = []; pointer = 0; followed = 0; beats = 0; last_beat = 0 }
+first_far (Some peering) = record { end = record fresh_endpoint { stream = peering.opening }; homeward = []; remoteward = []; pointer = peering.start; followed = 0; beats = 0; last_beat = 0 }
+
+-- Nothing is on its way, nothing was issued, and the own networks are to be decided.
+abbrev pub first_world : Setup → World
+first_world setup = record {
+  router = first_router setup;
+  far = λ p. first_far (slice_get setup.peerings p);
+  operator = record { group = 0; issued = λ n. false; source = λ k. None; outcome = λ k. None };
+  mesh = λ a b. [];
+  outward = λ r p. [];
+  inward = λ p r. [];
+  orders = λ r. [];
+  reports = λ r. [];
+  says = λ p. [];
+}

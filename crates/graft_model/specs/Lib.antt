@@ -1,0 +1,17 @@
+pub mod Points
+pub mod Sets
+pub mod Setups
+pub mod Parts
+pub mod Slices
+pub mod Decisions
+pub mod RouterRows
+pub mod TableRows
+pub mod GraftRows
+pub mod FarRows
+pub mod OperatorRows
+pub mod Quiet
+pub mod Steps
+pub mod First
+pub mod Claims
+pub mod Codes
+pub mod Laws

@@ -1,0 +1,119 @@
+-- The actors' parts of the world, and the items that go between them.
+use Rattle.std.specs.Prelude.{ℕ, Bool, List, Option}
+use Rattle.std.specs.FinMap as map
+use Rattle.bgp_types.specs.declared.attrs.Route.{Route}
+use Rattle.bgp_types.specs.Prefixes.{PrefixValue}
+use Rattle.bgp_types.specs.Tables.{prefix_cmp}
+use Rattle.route_policy.specs.declared.best.Best.{Best}
+use Rattle.tcp_seq.specs.Endpoint.{Endpoint, PlacedSegment}
+use Rattle.graft_steps.specs.declared.refusal.Refusal.{Refusal}
+use Rattle.graft_steps.specs.declared.refusal.Outcome.{Outcome}
+use Rattle.session_value.specs.Sessions.{SessionValue}
+use Rattle.graft_model.specs.Sets.{Prefixes}
+
+-- ---- a router
+
+-- a graft that is ordered: its number and the router that the session is to go to
+pub record Order : Type 0 where
+  pub graft : ℕ
+  pub target : ℕ
+
+-- A router's place for a peering: nothing is there; the session is held, with the graft that is stored for it; the session is
+-- held and frozen for a graft, so that nothing but its leaving can happen to it; or the session has left in a graft, and its routes
+-- stay as a shadow until the graft has ended.
+pub data Place : Type 0 where
+  Vacant : Place
+  Live : SessionValue → Option Order → Place
+  Frozen : SessionValue → Order → Place
+  Shadow : (graft : ℕ) → Place
+
+-- what a peering brought in for a prefix: the route as the import policy left it, and the identifier and the address of the remote
+pub record Entry : Type 0 where
+  pub route : Route
+  pub identifier : ℕ
+  pub address : ℕ
+
+abbrev pub Entries : Type 0
+Entries = map.FinMap prefix_cmp Entry
+
+-- the routes that another router told
+abbrev pub Tellings : Type 0
+Tellings = map.FinMap prefix_cmp Route
+
+abbrev pub BestRoutes : Type 0
+BestRoutes = map.FinMap prefix_cmp Best
+
+-- A home router: its places by peering; the entries by peering and by router; the best route to each prefix; the prefixes that are
+-- to be decided again; and those that are due to be told to each router and on each peering.
+pub record RouterPart : Type 0 where
+  pub places : ℕ → Place
+  pub entries : ℕ → Entries
+  pub tellings : ℕ → Tellings
+  pub best : BestRoutes
+  pub dirty : Prefixes
+  pub due_in : ℕ → Prefixes
+  pub due_out : ℕ → Prefixes
+
+-- ---- a far side
+
+-- A far side: the remote's endpoint, the segments that the link holds each way, the router that the link points at and the graft
+-- by which it was last pointed, and how often and in which round the remote said a KEEPALIVE by its timer.
+pub record FarPart : Type 0 where
+  pub end : Endpoint
+  pub homeward : List PlacedSegment
+  pub remoteward : List PlacedSegment
+  pub pointer : ℕ
+  pub followed : ℕ
+  pub beats : ℕ
+  pub last_beat : ℕ
+
+-- ---- the operator
+
+-- The operator: the group of the script that is at work; which steps were issued; and the log of grafts by number, with the router at
+-- which a graft was ordered and the outcome that was reported.
+pub record OperatorPart : Type 0 where
+  pub group : ℕ
+  pub issued : ℕ → Bool
+  pub source : ℕ → Option ℕ
+  pub outcome : ℕ → Option Outcome
+
+-- ---- items
+
+-- from a router to a router: a route that is told, or that there is none; a session that moves, or comes back refused; word that a
+-- session has landed
+pub data Mesh : Type 0 where
+  Told : PrefixValue → Option Route → Mesh
+  Moved : (graft peering : ℕ) → SessionValue → Mesh
+  Back : (graft peering : ℕ) → SessionValue → Refusal → Mesh
+  Done : (graft peering : ℕ) → Mesh
+
+-- from a router to a far side: a segment, or word that the session landed here in this graft
+pub data Outward : Type 0 where
+  Seg : PlacedSegment → Outward
+  PointAt : (graft : ℕ) → Outward
+
+-- from the operator to a router
+pub record GraftOrder : Type 0 where
+  pub graft : ℕ
+  pub peering : ℕ
+  pub target : ℕ
+
+-- from a router to the operator
+pub record Report : Type 0 where
+  pub graft : ℕ
+  pub outcome : Outcome
+
+-- ---- the world
+
+-- The parts of all actors, and the channel from each to each, its next item first. From a far side to a router go segments, and from the
+-- operator to a far side the numbers of steps that it is to say.
+pub record World : Type 0 where
+  pub router : ℕ → RouterPart
+  pub far : ℕ → FarPart
+  pub operator : OperatorPart
+  pub mesh : ℕ → ℕ → List Mesh
+  pub outward : ℕ → ℕ → List Outward
+  pub inward : ℕ → ℕ → List PlacedSegment
+  pub orders : ℕ → List GraftOrder
+  pub reports : ℕ → List Report
+  pub says : ℕ → List ℕ

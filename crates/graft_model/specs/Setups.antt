@@ -1,0 +1,189 @@
+-- What a laboratory is given: the home network, the peerings, and the script of the operator.
+use Rattle.std.specs.Prelude.{ℕ, ◌==◌, ◌+◌, Bool, true, false, List, [], ◌∷◌, length, take, filter, map, min, ◌/◌, ◌^◌, All, ◌<◌, ◌≤◌, ◌≡◌, Option, Some, None, option_map, unwrap_or, is_none, if◌then◌else◌, slice_get}
+use Rattle.std.specs.List.{list_any, find, flat_map, range_with_len, last_or}
+use Rattle.std.specs.Str.{bytes_eq}
+use Rattle.bgp_types.specs.Prefixes.{PrefixValue, IsPrefix, same_prefix}
+use Rattle.bgp_types.specs.Values.{is_no_host}
+use Rattle.route_policy.specs.declared.rule.Rule.{Rule}
+use Rattle.bgp_story.specs.Legal.{IsPeering}
+use Rattle.session_value.specs.declared.config.SessionConfig.{SessionConfig}
+use Rattle.session_value.specs.Sessions.{peering_of}
+
+-- a policy by its name
+pub record NamedRules : Type 0 where
+  pub name : List ℕ
+  pub rules : List Rule
+
+-- a home router: its BGP Identifier, for how many sessions it has room, the interior cost to each router by number, the
+-- networks of its own, and its policies
+pub record RouterSetup : Type 0 where
+  pub identifier : ℕ
+  pub room : ℕ
+  pub costs : List ℕ
+  pub networks : List PrefixValue
+  pub policies : List NamedRules
+
+-- a peering: the router at which its session starts, what the session begins with, the bytes that its remote says first, the hold time that
+-- the remote's OPEN offers, and whether the remote says a KEEPALIVE again and again
+pub record PeeringSetup : Type 0 where
+  pub start : ℕ
+  pub config : SessionConfig
+  pub opening : List ℕ
+  pub hold : ℕ
+  pub beats : Bool
+
+-- After so many rounds the remote says a KEEPALIVE again: a third of the hold time in force (RFC 4271, section 4.4), 0 where it doesn't.
+abbrev pub beat_of : PeeringSetup → ℕ
+beat_of peering = if peering.beats then min peering.config.home_hold peering.hold / 3 else 0
+
+-- a step of the script: a remote says bytes, a graft of a peering to a target, or the end of a group
+pub data ScriptStep : Type 0 where
+  SayStep : (peering : ℕ) → List ℕ → ScriptStep
+  MoveStep : (peering : ℕ) → (target : ℕ) → ScriptStep
+  SettleStep : ScriptStep
+
+pub record Setup : Type 0 where
+  pub home_as : ℕ
+  pub routers : List RouterSetup
+  pub peerings : List PeeringSetup
+  pub steps : List ScriptStep
+
+-- ---- by number
+
+abbrev pub routers_in : Setup → ℕ
+routers_in setup = length setup.routers
+
+abbrev pub peerings_in : Setup → ℕ
+peerings_in setup = length setup.peerings
+
+-- the numbers of the routers, and of the peerings
+abbrev pub router_numbers : Setup → List ℕ
+router_numbers setup = range_with_len 0 (routers_in setup)
+
+abbrev pub peering_numbers : Setup → List ℕ
+peering_numbers setup = range_with_len 0 (peerings_in setup)
+
+abbrev pub of_router : {A : Type 0} → (RouterSetup → A) → A → Setup → ℕ → A
+of_router field none setup r = unwrap_or (option_map field (slice_get setup.routers r)) none
+
+abbrev pub identifier_of : Setup → ℕ → ℕ
+identifier_of setup r = of_router (λ router. router.identifier) 0 setup r
+
+abbrev pub room_of : Setup → ℕ → ℕ
+room_of setup r = of_router (λ router. router.room) 0 setup r
+
+-- the interior cost from one router to another: 1 where none is given
+abbrev pub cost_between : Setup → ℕ → ℕ → ℕ
+cost_between setup r q = unwrap_or (slice_get (of_router (λ router. router.costs) [] setup r) q) 1
+
+-- whether a network is a router's own
+abbrev pub has_network : Setup → ℕ → PrefixValue → Bool
+has_network setup r prefix = list_any (same_prefix prefix) (of_router (λ router. router.networks) [] setup r)
+
+-- the rules of a router's policy of this name, if it has one
+abbrev pub rules_named : Setup → ℕ → List ℕ → Option (List Rule)
+rules_named setup r name = option_map (λ policy. policy.rules) (find (λ policy. bytes_eq name policy.name) (of_router (λ router. router.policies) [] setup r))
+
+-- the rules that a router has for a session's name; none where the session names no policy
+abbrev pub rules_for : Setup → ℕ → Option (List ℕ) → Option (List Rule)
+rules_for setup r None = None
+rules_for setup r (Some name) = rules_named setup r name
+
+-- a name for which the router has no policy
+abbrev pub unknown : Setup → ℕ → Option (List ℕ) → Option (List ℕ)
+unknown setup r None = None
+unknown setup r (Some name) = if is_none (rules_named setup r name) then Some name else None
+
+abbrev pub first_of : Option (List ℕ) → Option (List ℕ) → Option (List ℕ)
+first_of None other = other
+first_of (Some name) other = Some name
+
+-- the first policy that a session names and a router doesn't have: the import policy before the export policy
+abbrev pub missing_policy : Setup → ℕ → SessionConfig → Option (List ℕ)
+missing_policy setup r config = first_of (unknown setup r config.import) (unknown setup r config.export)
+
+-- what the session of a peering begins with
+abbrev pub config_of : Setup → ℕ → Option SessionConfig
+config_of setup p = option_map (λ peering. peering.config) (slice_get setup.peerings p)
+
+-- the router at which a peering's session starts
+abbrev pub start_of : Setup → ℕ → ℕ
+start_of setup p = unwrap_or (option_map (λ peering. peering.start) (slice_get setup.peerings p)) 0
+
+-- ---- the script
+
+abbrev pub is_settle : ScriptStep → Bool
+is_settle (SayStep peering bytes) = false
+is_settle (MoveStep peering target) = false
+is_settle SettleStep = true
+
+-- the group of a step, from 0: as many groups were ended before it
+abbrev pub group_of : Setup → ℕ → ℕ
+group_of setup step = length (filter is_settle (take step setup.steps))
+
+abbrev pub groups_in : Setup → ℕ
+groups_in setup = length (filter is_settle setup.steps)
+
+-- a graft of the script: its number, counted from 1 over the whole script, its peering and its target
+pub record ScriptGraft : Type 0 where
+  pub graft : ℕ
+  pub peering : ℕ
+  pub target : ℕ
+
+-- the grafts of steps, numbered from one above this number on
+abbrev pub grafts_after : ℕ → List ScriptStep → List ScriptGraft
+grafts_after k [] = []
+grafts_after k (SayStep peering bytes ∷ steps) = grafts_after k steps
+grafts_after k (SettleStep ∷ steps) = grafts_after k steps
+grafts_after k (MoveStep peering target ∷ steps) = record { graft = k + 1; peering = peering; target = target } ∷ grafts_after (k + 1) steps
+
+abbrev pub grafts_in : Setup → List ScriptGraft
+grafts_in setup = grafts_after 0 setup.steps
+
+-- the number that the graft at a step has, or would have
+abbrev pub graft_number : Setup → ℕ → ℕ
+graft_number setup step = length (grafts_after 0 (take step setup.steps)) + 1
+
+-- ---- what makes sense
+
+-- the bytes that a step has a remote say
+abbrev pub said_by : ℕ → ScriptStep → List ℕ
+said_by p (SayStep q bytes) = if q == p then bytes else []
+said_by p (MoveStep peering target) = []
+said_by p SettleStep = []
+
+-- how many bytes a remote says over the whole script, its opening with them, its timer's aside
+abbrev pub said_length : Setup → ℕ → PeeringSetup → ℕ
+said_length setup p peering = length peering.opening + length (flat_map (said_by p) setup.steps)
+
+-- A peering's session begins at one of the routers, with that router's identifier, and its numbers are those of the laboratory. Its OPEN can be put,
+-- and its address told as next hop. What its remote says has room in a stream of 1 MiB, with 27,594 KEEPALIVEs of 19 bytes where it beats.
+pub record IsPeeringSetup (setup : Setup) (p : ℕ) (peering : PeeringSetup) : Type 0 where
+  pub start : peering.start < routers_in setup
+  pub number : peering.config.peering.0 ≡ p
+  pub home_as : peering.config.home_as ≡ setup.home_as
+  pub identifier : peering.config.identifier ≡ identifier_of setup peering.start
+  pub valid : IsPeering (peering_of peering.config)
+  pub policies : missing_policy setup peering.start peering.config ≡ None
+  pub next_hop : is_no_host peering.config.local_address ≡ false
+  pub opening : length peering.opening ≤ 4096
+  pub said : said_length setup p peering ≤ 2 ^ 20
+  pub beats : 0 < beat_of peering → said_length setup p peering ≤ 524288
+
+-- how many of the peerings start at a router
+abbrev pub starting_at : Setup → ℕ → ℕ
+starting_at setup r = length (filter (λ peering. peering.start == r) setup.peerings)
+
+-- the peering and the target of a step are there
+abbrev pub IsStep : Setup → ScriptStep → Type 0
+IsStep setup (SayStep peering bytes) = peering < peerings_in setup
+IsStep setup (MoveStep peering target) = (peering < peerings_in setup) × (target < routers_in setup)
+IsStep setup SettleStep = Unit {0}
+
+-- What a laboratory can begin with: sound peerings, room for them where they start, and a script of sound steps whose last one ends a group.
+pub record IsSetup (setup : Setup) : Type 0 where
+  pub peerings : (p : ℕ) (peering : PeeringSetup) → slice_get setup.peerings p ≡ Some peering → IsPeeringSetup setup p peering
+  pub room : (r : ℕ) → r < routers_in setup → starting_at setup r ≤ room_of setup r
+  pub networks : All (λ router. All IsPrefix router.networks) setup.routers
+  pub steps : All (IsStep setup) setup.steps
+  pub ended : last_or None setup.steps ≡ Some SettleStep

@@ -1,0 +1,47 @@
+-- A home session as one value (RFC 4271, section 3.2; RFC 9293, section 3.4).
+use Rattle.std.specs.Prelude.{ℕ, [], ◌∷◌, List}
+use Rattle.std.specs.FinMap as map
+use Rattle.bgp_types.specs.declared.message.Message.TheVariants.{OpenMsg}
+use Rattle.bgp_types.specs.declared.message.SessionState.{SessionState}
+use Rattle.tcp_seq.specs.Endpoint.{Endpoint, fresh_endpoint, ready_bytes}
+use Rattle.bgp_story.specs.declared.line.Line.{Line}
+use Rattle.bgp_story.specs.declared.line.Line.TheVariants.{Put}
+use Rattle.bgp_story.specs.Legal.{Peering, hold}
+use Rattle.bgp_story.specs.Opens.{home_open}
+use Rattle.bgp_story.specs.Readings.{Routes, put_bytes}
+use Rattle.bgp_story.specs.States.{state_of}
+use Rattle.session_value.specs.declared.config.SessionConfig.{SessionConfig}
+
+-- what a session begins with; its story; the routes that it heard and told, its Adj-RIB-In and Adj-RIB-Out; and its endpoint, whose
+-- stream is what it put, and of whose received bytes it has read those that it got
+pub record SessionValue : Type 0 where
+  pub config : SessionConfig
+  pub story : List Line
+  pub heard : Routes
+  pub told : Routes
+  pub end : Endpoint
+
+-- what the stories of a session depend on: the OPEN that it puts, and the AS of the remote
+abbrev pub peering_of : SessionConfig → Peering
+peering_of config = record { first = home_open config.home_as config.home_hold config.identifier config.offered; remote_as = config.remote_as }
+
+abbrev pub state : SessionValue → SessionState
+state session = state_of session.story
+
+-- the bytes that were received and not got yet
+abbrev pub unread : SessionValue → List ℕ
+unread session = ready_bytes session.end
+
+-- the hold time in force: the smaller of the two that the OPENs offer, 0 before the remote's was got (RFC 4271, section 4.2)
+abbrev pub hold_time : SessionValue → ℕ
+hold_time session = hold (peering_of session.config) session.story
+
+-- The session has put its OPEN, and nothing of it was emitted.
+abbrev pub begun : SessionConfig → SessionValue
+begun config = let story : List Line = Put (OpenMsg (peering_of config).first) ∷ [] in record {
+  config = config;
+  story = story;
+  heard = map.empty;
+  told = map.empty;
+  end = record fresh_endpoint { stream = put_bytes (peering_of config) story };
+}
