@@ -67,7 +67,7 @@ fits_update wide u h lt =
     let second : length (counted attrs) ≡ 2 + length attrs = length-append (to_be_bytes w16 (length attrs)) attrs in
     record { withdrawn = omega arith; attrs = omega arith; each = fits_some wide u.attrs u.nlri h (omega arith) }
 
-spelled_size : (m : Message) (wide : Bool) → length (spell m wide) ≡ 19 + length (spell_body m wide)
+pub spelled_size : (m : Message) (wide : Bool) → length (spell m wide) ≡ 19 + length (spell_body m wide)
 unfolding spell
 spelled_size m wide = framed_size (kind_of m) (spell_body m wide)
 

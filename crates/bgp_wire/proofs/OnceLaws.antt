@@ -1,5 +1,5 @@
 -- Prefixes that a frame reads as: each is one, and none stands twice.
-use Rattle.std.proofs.Common.{◌≡◌, ℕ, zero, suc, ◌*◌, ◌/◌, ◌-◌, ◌^◌, ◌<◌, ◌≤◌, List, [], ◌∷◌, ◌++◌, length, map, drop, Bool, true, false, cond, refl, sym, ap, ◌∙◌, subst, arith}
+use Rattle.std.proofs.Common.{◌≡◌, ℕ, zero, suc, ◌*◌, ◌/◌, ◌-◌, ◌^◌, ◌<◌, ◌≤◌, List, [], ◌∷◌, ◌++◌, length, map, drop, Bool, true, false, cond, refl, sym, ap, subst, arith}
 use Rattle.std.specs.Prelude.{All, not, filter}
 use Rattle.std.specs.List.{flat_map, AllByRecursion, IsDistinct, list_any}
 use Rattle.std.proofs.lemmas.List.Elements.{All-from_recursion}
@@ -10,8 +10,8 @@ use Rattle.bgp_types.specs.Reads.{ReadsPrefixes}
 use Rattle.bgp_types.specs.UpdateBody.{apart}
 use Rattle.bgp_types.proofs.AttrLaws.{wide32, AreOctets-drop}
 use Rattle.bgp_types.proofs.ManyLaws.{either_false}
+use Rattle.bgp_types.proofs.OnceLaws.{each_once}
 use Rattle.bgp_wire.proofs.OctetLaws.{AreOctets-front, AreOctets-back, AreOctets-append}
-use Rattle.bgp_wire.proofs.SetLaws.{same_turned}
 
 -- ---- each is a prefix
 
@@ -48,38 +48,26 @@ all_push : {A : Type 0} (P : A → Type 0) (xs : List A) (x : A) → AllByRecurs
 all_push P [] x all here = (here, tt)
 all_push P (y ∷ xs) x all here = (all.0, all_push P xs x all.1 here)
 
--- the list so far
+put_each : (seen : List PrefixValue) (p : PrefixValue) → AllByRecursion IsPrefix seen → IsPrefix p → AllByRecursion IsPrefix (put_once seen p)
+put_each seen p each here = by_test (list_any (same_prefix p) seen) where
+  by_test : (t : Bool) → AllByRecursion IsPrefix (cond t seen (seen ++ p ∷ []))
+  by_test true = each
+  by_test false = all_push IsPrefix seen p each here
+
+once_each : (seen ps : List PrefixValue) → AllByRecursion IsPrefix seen → AllByRecursion IsPrefix ps → AllByRecursion IsPrefix (once_after seen ps)
+once_each seen [] each more = each
+once_each seen (p ∷ ps) each more = once_each (put_once seen p) ps (put_each seen p each more.0) more.1
+
+-- prefixes that a field reads as
 pub record IsOnce (ps : List PrefixValue) : Type 0 where
   pub each : AllByRecursion IsPrefix ps
   pub once : IsDistinct same_prefix ps
 
-unlike_all : (seen : List PrefixValue) (p : PrefixValue) → list_any (same_prefix p) seen ≡ false → AllByRecursion (λ q. same_prefix q p ≡ false) seen
-unlike_all [] p none = tt
-unlike_all (q ∷ seen) p none =
-    let both = either_false (same_prefix p q) (list_any (same_prefix p) seen) none in
-    (same_turned q p ∙ both.0, unlike_all seen p both.1)
-
-distinct_push : (seen : List PrefixValue) (p : PrefixValue) → IsDistinct same_prefix seen → AllByRecursion (λ q. same_prefix q p ≡ false) seen → IsDistinct same_prefix (seen ++ p ∷ [])
-unfolding IsDistinct
-distinct_push [] p d unlike = (tt, tt)
-distinct_push (q ∷ seen) p d unlike = (all_push (λ y. same_prefix q y ≡ false) seen p d.0 unlike.0, distinct_push seen p d.1 unlike.1)
-
-put_is : (seen : List PrefixValue) (p : PrefixValue) → IsOnce seen → IsPrefix p → IsOnce (put_once seen p)
-put_is seen p s here = by_test (list_any (same_prefix p) seen) refl where
-  by_test : (t : Bool) → list_any (same_prefix p) seen ≡ t → IsOnce (cond t seen (seen ++ p ∷ []))
-  by_test true e = s
-  by_test false e = record { each = all_push IsPrefix seen p s.each here; once = distinct_push seen p s.once (unlike_all seen p e) }
-
-once_is : (seen ps : List PrefixValue) → IsOnce seen → AllByRecursion IsPrefix ps → IsOnce (once_after seen ps)
-once_is seen [] s all = s
-once_is seen (p ∷ ps) s all = once_is (put_once seen p) ps (put_is seen p s all.0) all.1
-
-no_prefixes : IsOnce []
-unfolding IsDistinct
-no_prefixes = record { each = tt; once = tt }
-
 pub read_is : (field : List ℕ) (prefixes : List PrefixValue) → AreOctets field → ReadsPrefixes field prefixes → IsOnce prefixes
-read_is field prefixes octets r = subst IsOnce (sym r.says) (once_is [] (map prefix_said r.spelled) no_prefixes (all_said r.spelled (subst AreOctets r.octets octets) r.each))
+read_is field prefixes octets r =
+    let said : List PrefixValue = map prefix_said r.spelled in
+    let each : AllByRecursion IsPrefix (once_after [] said) = once_each [] said tt (all_said r.spelled (subst AreOctets r.octets octets) r.each) in
+    record { each = subst (AllByRecursion IsPrefix) (sym r.says) each; once = ((each_once said prefixes).0 r.says).distinct }
 
 -- ---- those that are withdrawn, and then those that are announced
 

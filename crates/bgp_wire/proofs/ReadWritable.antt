@@ -13,12 +13,12 @@ use Rattle.bgp_types.specs.Header.{frame_at}
 use Rattle.bgp_types.specs.OctetLists.{AreOctets}
 use Rattle.bgp_types.specs.Prefixes.{PrefixValue}
 use Rattle.bgp_types.specs.Reads.{Reads, ReadsBody, ReadsUpdate, ReadsOpen}
-use Rattle.bgp_types.specs.Spelling.{counted, cap_octets, param_octets, framed, kind_of, spell_open, spell_body, spell}
+use Rattle.bgp_types.specs.Spelling.{counted, cap_octets, param_octets, framed, kind_of, spell_open, spell}
 use Rattle.bgp_types.specs.Writable.{IsWritable, IsWritableBody, IsWritableOpen, IsWritableUpdate}
 use Rattle.bgp_types.proofs.AttrLaws.{AreOctets-drop}
-use Rattle.bgp_types.proofs.Lengths.{framed_size}
 use Rattle.bgp_types.proofs.MessageLaws.{message_read}
 use Rattle.bgp_wire.specs.Written.{written_limit}
+use Rattle.bgp_wire.proofs.FrameLaws.{spelled_size}
 use Rattle.bgp_wire.proofs.OctetLaws.{AreOctets-front, AreOctets-back}
 use Rattle.bgp_wire.proofs.OnceLaws.{AreApart, read_is, apart_is}
 use Rattle.bgp_wire.proofs.ReadAttrs.{read_good, attrs_for}
@@ -41,10 +41,6 @@ update_is wide body u octets r =
 
 open_is : (body : List ℕ) (o : OpenMsg) → ReadsOpen body o → length (flat_map (λ cap. param_octets (cap_octets cap)) o.caps) < 256 → IsWritableOpen o
 open_is body o r lt = record { as_number = r.as_number; hold = r.hold; hold_time = r.hold_time; identifier = r.host; params = lt }
-
-spelled_size : (m : Message) (wide : Bool) → length (spell m wide) ≡ 19 + length (spell_body m wide)
-unfolding spell
-spelled_size m wide = framed_size (kind_of m) (spell_body m wide)
 
 -- how long an OPEN is
 open_size : (o : OpenMsg) → length (spell_open o) ≡ 10 + length (flat_map (λ cap. param_octets (cap_octets cap)) o.caps)

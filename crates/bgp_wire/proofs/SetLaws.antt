@@ -1,12 +1,12 @@
 -- Prefixes in a set and in a list.
-use Rattle.std.proofs.Common.{◌≡◌, ℕ, List, [], ◌∷◌, ◌++◌, Bool, true, false, cond, eqb, ltb, refl, sym, ap, ◌∙◌, arith}
-use Rattle.std.specs.Prelude.{◌&&◌, ◌||◌}
+use Rattle.std.proofs.Common.{◌≡◌, List, [], ◌∷◌, ◌++◌, Bool, true, false, cond, eqb, ltb, refl, sym, ap, ◌∙◌, arith}
+use Rattle.std.specs.Prelude.{◌||◌}
 use Rattle.std.specs.List.{list_any}
 use Rattle.std.specs.Ordering.{is_eq}
-use Rattle.std.proofs.lemmas.Bool.{eqb-true}
 use Rattle.std.proofs.lemmas.Bool.Decides.{nat_tests}
 use Rattle.bgp_types.specs.Prefixes.{PrefixValue, same_prefix, put_once}
 use Rattle.bgp_types.specs.Tables.{prefix_cmp}
+use Rattle.bgp_types.proofs.OnceLaws as once
 use Rattle.bgp_wire.specs.declared.set.PrefixSet.{PrefixSet}
 use Rattle.bgp_wire.specs.Sets.{has, IsSetOf}
 
@@ -15,27 +15,6 @@ pub is_same : (p q : PrefixValue) → is_eq (prefix_cmp p q) ≡ same_prefix p q
 is_same p q = by_test (ltb p.address q.address) (eqb p.address q.address) (ltb p.len q.len) (eqb p.len q.len) refl refl refl refl where
   by_test : (a b c d : Bool) → ltb p.address q.address ≡ a → eqb p.address q.address ≡ b → ltb p.len q.len ≡ c → eqb p.len q.len ≡ d → is_eq (prefix_cmp p q) ≡ same_prefix p q
   by_test a b c d e f g h = grind (arith, nat_tests)
-
-pub same_turned : (p q : PrefixValue) → same_prefix p q ≡ same_prefix q p
-same_turned p q = both (eqb p.address q.address) (eqb q.address p.address) (eqb p.len q.len) (eqb q.len p.len) (turned p.address q.address) (turned p.len q.len) where
-  turned : (m n : ℕ) → eqb m n ≡ eqb n m
-  turned m n = grind (arith, nat_tests)
-
-  both : (a b c d : Bool) → a ≡ b → c ≡ d → (a && c) ≡ (b && d)
-  both a b c d e f = cc
-
-both_true : (a b : Bool) → (a && b) ≡ true → (a ≡ true) × (b ≡ true)
-both_true true true e = (refl, refl)
-both_true true false e = absurd cc
-both_true false b e = absurd cc
-
-are_same : (p q : PrefixValue) → same_prefix p q ≡ true → p ≡ q
-are_same p q e =
-    let t = both_true (eqb p.address q.address) (eqb p.len q.len) e in
-    same_record p.address q.address p.len q.len (eqb-true _ _ t.0) (eqb-true _ _ t.1)
-  where
-    same_record : (a b l m : ℕ) → a ≡ b → l ≡ m → (let x : PrefixValue = record { address = a; len = l } in let y : PrefixValue = record { address = b; len = m } in x ≡ y)
-    same_record a b l m e f = cc
 
 any_last : (p q : PrefixValue) (ps : List PrefixValue) → list_any (same_prefix p) (ps ++ q ∷ []) ≡ cond (same_prefix p q) true (list_any (same_prefix p) ps)
 any_last p q [] = by_test (same_prefix p q) where
@@ -59,7 +38,7 @@ set_pushed old new q ps s put p = put p ∙ (ap (λ (t : Bool). cond (same_prefi
 pub set_same : (old new : PrefixSet) (q : PrefixValue) (ps : List PrefixValue) → IsSetOf old ps → IsPut old new q → has old q ≡ true → IsSetOf new ps
 set_same old new q ps s put there p = put p ∙ by_test (same_prefix p q) refl where
   by_test : (t : Bool) → same_prefix p q ≡ t → cond t true (has old p) ≡ list_any (same_prefix p) ps
-  by_test true e = sym (sym (s p) ∙ (ap (has old) (are_same p q e) ∙ there))
+  by_test true e = sym (sym (s p) ∙ (ap (has old) (once.is_same p q e) ∙ there))
   by_test false e = s p
 
 pub not_there : (set : PrefixSet) (q : PrefixValue) (ps : List PrefixValue) → IsSetOf set ps → (new : Bool) → has set q ≡ new → put_once ps q ≡ cond new ps (ps ++ q ∷ [])
