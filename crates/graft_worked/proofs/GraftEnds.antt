@@ -1,0 +1,228 @@
+-- The worlds before and after the worked graft are quiet, and the last one solves.
+use Rattle.std.proofs.Common.{◌≡◌, ◌≢◌, ℕ, zero, suc, ◌<◌, ◌==◌, Bool, true, false, cond, List, [], ◌∷◌, ◌++◌, drop, length, Option, Some, None, is_some, refl, sym, ap, ◌∙◌, inl, inr, lit<, arith}
+use Rattle.std.specs.Prelude.{slice_get, unwrap_or}
+use Rattle.std.specs.FinMap as map
+use Rattle.std.specs.List.{enumerate_from}
+use Rattle.std.specs.Ordering.{nat_cmp}
+use Rattle.bgp_types.specs.declared.attrs.Attrs.{Attrs}
+use Rattle.bgp_types.specs.FirstFault.{body_of, message_of}
+use Rattle.bgp_types.specs.Header.{header_fault, frame_at}
+use Rattle.bgp_types.specs.Many.{many, many_within}
+use Rattle.bgp_types.specs.OpenBody.{cap_at, caps_of, params_of, open_of}
+use Rattle.bgp_types.specs.PathOctets.{path_octets}
+use Rattle.bgp_types.specs.Prefixes.{PrefixValue}
+use Rattle.bgp_types.specs.Spelling.{spell, spell_attrs, attrs_written}
+use Rattle.bgp_types.specs.Tables.{prefix_cmp}
+use Rattle.bgp_story.specs.Legal.{IsGot}
+use Rattle.bgp_story.specs.Readings.{put_bytes}
+use Rattle.bgp_story.specs.WorkedSessions.{ten, heard_lines}
+use Rattle.decision_core.specs.Choice.{keep, left_of, choice}
+use Rattle.route_policy.specs.declared.best.Best.{Best}
+use Rattle.route_policy.specs.Candidates.{candidates}
+use Rattle.route_policy.specs.Telling.{tell_in}
+use Rattle.tcp_seq.specs.Endpoint.{Endpoint, received_bytes, received, run_from}
+use Rattle.session_value.specs.Sessions.{peering_of, state, unread}
+use Rattle.graft_model.specs.Points.{at}
+use Rattle.graft_model.specs.Setups.{ScriptStep, SayStep, SettleStep, MoveStep, group_of, graft_number, identifier_of, cost_between, has_network}
+use Rattle.graft_model.specs.Parts.{Place, Vacant, Live, Entry, RouterPart, FarPart, OperatorPart}
+use Rattle.graft_model.specs.Decisions.{session_route, to_tell, remote_identifier}
+use Rattle.graft_model.specs.Quiet.{Quiet, IsIdle, BeginsNothing, HasRead, AllAcked}
+use Rattle.graft_model.specs.Claims.{Solves, SolvesOn, session_routes, router_routes, while_established}
+use Rattle.graft_worked.specs.Base.{base, config}
+use Rattle.graft_worked.specs.Places.{idle_router, idle_far, nothing, world_of}
+use Rattle.graft_worked.specs.Graft.{put_all, said_all, from_zero, home_end, remote_end, at_ten, heard_attrs, route, entry, over_peering, over_router, session, a_before, b_before, far_before, operator_before, a_after, b_after, far_after, operator_after, before_graft, after_graft, with_entry_kept}
+use Rattle.graft_worked.proofs.Points.{two_all, at_all, empty_at, empty_two, empty_one}
+use Rattle.graft_worked.proofs.Setup.{below_two, below_one}
+use Rattle.graft_worked.proofs.Tens.{is_ten, got_none, got_ten, got_it}
+use Rattle.graft_worked.proofs.GraftRows.{state_is, tells_none}
+
+-- ---- what was received
+
+home_received : received_bytes home_end ≡ said_all
+home_received = ap (run_from 0) (map.entries-from_sorted nat_cmp (enumerate_from 0 said_all) tt)
+
+remote_received : received_bytes remote_end ≡ put_all
+remote_received = ap (run_from 0) (map.entries-from_sorted nat_cmp (enumerate_from 0 put_all) tt)
+
+nothing_begins : BeginsNothing []
+unfolding frame_at
+nothing_begins [] rest e (inl f) = absurd cc
+nothing_begins [] rest e (inr f) = let n : ◌≡◌ {A = ℕ} 0 19 = f.0 in absurd cc
+nothing_begins (x ∷ xs) rest e got = absurd cc
+
+all_read : unread session ≡ []
+all_read = ap (drop 91) home_received
+
+has_read : HasRead session
+has_read = inr (rw all_read nothing_begins)
+
+acked : AllAcked home_end remote_end × AllAcked remote_end home_end
+acked = (record { received = ap length remote_received; acked = refl }, record { received = ap length home_received; acked = refl })
+
+idle_place : (far : FarPart) → far.end ≡ remote_end → (t : Bool) → IsIdle (cond t far idle_far).end (cond t (Live session None) Vacant)
+idle_place far e true = rw e (has_read, acked.0, acked.1)
+idle_place far e false = tt
+
+-- ---- quiet
+
+-- a router that has nothing left to do
+record Calm (far : FarPart) (part : RouterPart) : Type 0 where
+  dirty : part.dirty ≡ map.empty
+  due_in : (q : ℕ) → part.due_in q ≡ map.empty
+  due_out : (p : ℕ) → part.due_out p ≡ map.empty
+  places : (p : ℕ) → IsIdle (at (λ p. idle_far) 0 far p).end (part.places p)
+
+abbrev Issued : OperatorPart → Type 0
+Issued o = (n : ℕ) (step : ScriptStep) → slice_get base.steps n ≡ Some step → step ≢ SettleStep → group_of base n ≡ o.group → o.issued n ≡ true
+
+abbrev Ended : OperatorPart → Type 0
+Ended o = (n p target : ℕ) → slice_get base.steps n ≡ Some (MoveStep p target) → group_of base n ≡ o.group → o.outcome (graft_number base n) ≢ None
+
+calm_world : (a b : RouterPart) (far : FarPart) (o : OperatorPart) → Calm far a → Calm far b → far.homeward ≡ [] → far.remoteward ≡ [] → Issued o → Ended o → Quiet base (world_of a b far o nothing)
+calm_world a b far o x y home remote issued ended = record {
+  mesh = empty_two 1 0;
+  outward = empty_two 0 0;
+  inward = empty_one;
+  orders = empty_at 0;
+  reports = empty_at 0;
+  says = empty_at 0;
+  homeward = at_all (λ (f : FarPart). f.homeward ≡ []) idle_far 0 far refl home;
+  remoteward = at_all (λ (f : FarPart). f.remoteward ≡ []) idle_far 0 far refl remote;
+  decided = two_all (λ (part : RouterPart). part.dirty ≡ map.empty) idle_router a b refl x.dirty y.dirty;
+  told_in = λ r q. two_all (λ (part : RouterPart). part.due_in q ≡ map.empty) idle_router a b refl (x.due_in q) (y.due_in q) r;
+  told_out = λ r p. two_all (λ (part : RouterPart). part.due_out p ≡ map.empty) idle_router a b refl (x.due_out p) (y.due_out p) r;
+  places = λ r p. two_all (λ (part : RouterPart). IsIdle (at (λ p. idle_far) 0 far p).end (part.places p)) idle_router a b tt (x.places p) (y.places p) r;
+  issued = issued;
+  ended = ended;
+}
+
+with_session : (far : FarPart) → far.end ≡ remote_end → (p : ℕ) → IsIdle (at (λ p. idle_far) 0 far p).end (at (λ p. Vacant) 0 (Live session None) p)
+with_session far e p = idle_place far e (p == 0)
+
+settle_apart : (step : ScriptStep) → ◌≡◌ {A = Option ScriptStep} (Some SettleStep) (Some step) → step ≢ SettleStep → ⊥
+settle_apart step e apart = apart (sym (ap (λ o. unwrap_or o step) e))
+
+issued_before : Issued operator_before
+issued_before zero step e apart g = refl
+issued_before (suc zero) step e apart g = absurd (settle_apart step e apart)
+issued_before (suc (suc zero)) step e apart g = let h : ◌≡◌ {A = ℕ} 1 0 = g in absurd cc
+issued_before (suc (suc (suc zero))) step e apart g = absurd (settle_apart step e apart)
+issued_before (suc (suc (suc (suc n)))) step e apart g = let h : ◌≡◌ {A = Bool} false true = ap is_some e in absurd cc
+
+issued_after : Issued operator_after
+issued_after zero step e apart g = refl
+issued_after (suc zero) step e apart g = absurd (settle_apart step e apart)
+issued_after (suc (suc zero)) step e apart g = refl
+issued_after (suc (suc (suc zero))) step e apart g = absurd (settle_apart step e apart)
+issued_after (suc (suc (suc (suc n)))) step e apart g = let h : ◌≡◌ {A = Bool} false true = ap is_some e in absurd cc
+
+abbrev is_move : Option ScriptStep → Bool
+is_move None = false
+is_move (Some (SayStep p bytes)) = false
+is_move (Some (MoveStep p target)) = true
+is_move (Some SettleStep) = false
+
+ended_before : Ended operator_before
+ended_before zero p target e g = let h : ◌≡◌ {A = Bool} false true = ap is_move e in absurd cc
+ended_before (suc zero) p target e g = let h : ◌≡◌ {A = Bool} false true = ap is_move e in absurd cc
+ended_before (suc (suc zero)) p target e g = let h : ◌≡◌ {A = ℕ} 1 0 = g in absurd cc
+ended_before (suc (suc (suc zero))) p target e g = let h : ◌≡◌ {A = Bool} false true = ap is_move e in absurd cc
+ended_before (suc (suc (suc (suc n)))) p target e g = let h : ◌≡◌ {A = Bool} false true = ap is_move e in absurd cc
+
+ended_after : Ended operator_after
+ended_after zero p target e g = let h : ◌≡◌ {A = Bool} false true = ap is_move e in absurd cc
+ended_after (suc zero) p target e g = let h : ◌≡◌ {A = Bool} false true = ap is_move e in absurd cc
+ended_after (suc (suc zero)) p target e g = λ s. let h : ◌≡◌ {A = Bool} true false = ap is_some s in cc
+ended_after (suc (suc (suc zero))) p target e g = let h : ◌≡◌ {A = Bool} false true = ap is_move e in absurd cc
+ended_after (suc (suc (suc (suc n)))) p target e g = let h : ◌≡◌ {A = Bool} false true = ap is_move e in absurd cc
+
+pub quiet_before : Quiet base before_graft
+quiet_before = calm_world a_before b_before far_before operator_before
+    (record { dirty = refl; due_in = λ q. refl; due_out = λ p. refl; places = with_session far_before refl })
+    (record { dirty = refl; due_in = λ q. refl; due_out = λ p. refl; places = λ p. tt })
+    refl refl issued_before ended_before
+
+pub quiet_after : Quiet base after_graft
+quiet_after = calm_world a_after b_after far_after operator_after
+    (record { dirty = refl; due_in = λ q. refl; due_out = λ p. refl; places = λ p. tt })
+    (record { dirty = refl; due_in = λ q. refl; due_out = λ p. refl; places = with_session far_after refl })
+    refl refl issued_after ended_after
+
+-- ---- solves
+
+from_b : PrefixValue → Option Best → Option Best
+from_b prefix best = choice (candidates 65000 prefix false [] (record { router = record { 0 = 1 }; identifier = identifier_of base 1; cost = cost_between base 0 1; told = tell_in best } ∷ []))
+
+from_both : PrefixValue → Option Attrs → Option Best → Option Best
+from_both prefix heard best = choice (candidates 65000 prefix false (record {
+    peering = config.peering; remote_as = 65001; identifier = remote_identifier session; address = 0xC0000201; import_rules = None; heard = heard;
+  } ∷ []) (record { router = record { 0 = 0 }; identifier = identifier_of base 0; cost = cost_between base 1 0; told = tell_in best } ∷ []))
+
+from_b_is : (prefix : PrefixValue) (t : Bool) → from_b prefix (cond t (Some over_peering) None) ≡ cond t (Some (over_router 1)) None
+unfolding from_b choice left_of keep
+from_b_is prefix true = refl
+from_b_is prefix false = refl
+
+from_both_is : (prefix : PrefixValue) (t : Bool) → from_both prefix (cond t (Some heard_attrs) None) (cond t (Some (over_router 1)) None) ≡ cond t (Some over_peering) None
+unfolding from_both choice left_of keep message_of header_fault frame_at body_of open_of many many_within cap_at caps_of params_of
+from_both_is prefix true = refl
+from_both_is prefix false = refl
+
+routes_at_a : (prefix : PrefixValue) → choice (candidates 65000 prefix (has_network base 0 prefix) (session_routes base after_graft 0 prefix) (router_routes base after_graft 0 prefix)) ≡ from_b prefix (map.get b_after.best prefix)
+unfolding from_b
+routes_at_a prefix = refl
+
+routes_at_b : (prefix : PrefixValue) → choice (candidates 65000 prefix (has_network base 1 prefix) (session_routes base after_graft 1 prefix) (router_routes base after_graft 1 prefix)) ≡ from_both prefix (map.get session.heard prefix) (map.get a_after.best prefix)
+unfolding from_both
+routes_at_b prefix = refl
+
+best_at_a : (prefix : PrefixValue) → map.get a_after.best prefix ≡ from_b prefix (map.get b_after.best prefix)
+best_at_a prefix = got_ten (over_router 1) prefix ∙ sym (ap (from_b prefix) (got_ten over_peering prefix) ∙ from_b_is prefix (is_ten prefix))
+
+best_at_b : (prefix : PrefixValue) → map.get b_after.best prefix ≡ from_both prefix (map.get session.heard prefix) (map.get a_after.best prefix)
+best_at_b prefix = got_ten over_peering prefix ∙ sym ((λ i. from_both prefix (got_ten heard_attrs prefix i) (got_ten (over_router 1) prefix i)) ∙ from_both_is prefix (is_ten prefix))
+
+told_to_b : (t : Bool) → None ≡ tell_in (cond t (Some (over_router 1)) None)
+told_to_b true = refl
+told_to_b false = refl
+
+told_to_a : (t : Bool) → cond t (Some route) None ≡ tell_in (cond t (Some over_peering) None)
+told_to_a true = refl
+told_to_a false = refl
+
+puts_all : put_bytes (peering_of config) (heard_lines 0) ≡ put_all
+unfolding message_of header_fault frame_at body_of open_of many many_within cap_at caps_of params_of spell spell_attrs attrs_written path_octets
+puts_all = refl
+
+nothing_told : (prefix : PrefixValue) → None ≡ while_established (state session) (to_tell base 1 b_after session prefix)
+nothing_told prefix = sym (ap (λ s. while_established s (to_tell base 1 b_after session prefix)) state_is ∙ tells_none prefix)
+
+peering_solves : SolvesOn base after_graft 0
+unfolding frame_at header_fault
+peering_solves = record {
+  session = session;
+  placed = refl;
+  linked = refl;
+  told = λ prefix. got_none prefix ∙ nothing_told prefix;
+  received = remote_received ∙ sym puts_all;
+  got = record { rest = []; is = refl; whole = (tt, (inl refl, (tt, (inl refl, (inl refl, tt))))); end = inr nothing_begins };
+  elsewhere = below_two (λ r. r ≢ 1 → ((after_graft.router r).places 0 ≡ Vacant) × ((after_graft.router r).entries 0 ≡ map.empty)) (λ other. (refl, refl)) (λ other. absurd (other refl));
+}
+
+pub solves_after : Solves base after_graft
+solves_after = record {
+  best = λ r prefix lt. below_two (λ r. map.get (after_graft.router r).best prefix ≡ choice (candidates 65000 prefix (has_network base r prefix) (session_routes base after_graft r prefix) (router_routes base after_graft r prefix)))
+      (best_at_a prefix ∙ sym (routes_at_a prefix)) (best_at_b prefix ∙ sym (routes_at_b prefix)) r lt;
+  tellings = λ r q prefix lr lq. below_two (λ r. r ≢ q → map.get ((after_graft.router q).tellings r) prefix ≡ tell_in (map.get (after_graft.router r).best prefix))
+      (below_two (λ q. 0 ≢ q → map.get ((after_graft.router q).tellings 0) prefix ≡ tell_in (map.get (after_graft.router 0).best prefix))
+          (λ other. absurd (other refl)) (λ other. got_none prefix ∙ (told_to_b (is_ten prefix) ∙ ap tell_in (sym (got_ten (over_router 1) prefix)))) q lq)
+      (below_two (λ q. 1 ≢ q → map.get ((after_graft.router q).tellings 1) prefix ≡ tell_in (map.get (after_graft.router 1).best prefix))
+          (λ other. got_ten route prefix ∙ (told_to_a (is_ten prefix) ∙ ap tell_in (sym (got_ten over_peering prefix)))) (λ other. absurd (other refl)) q lq)
+      r lr;
+  peerings = below_one (SolvesOn base after_graft) peering_solves;
+}
+
+pub entry_kept_solves_nothing : Solves base with_entry_kept → ⊥
+entry_kept_solves_nothing s =
+    let gone = ((s.peerings 0 (lit< tt)).elsewhere 0 (lit< tt) (λ e. cc)).1 in
+    let apart : ◌≡◌ {A = Bool} true false = ap is_some (sym (got_it entry) ∙ (ap (λ (m : map.FinMap prefix_cmp Entry). map.get m ten) gone ∙ got_none ten)) in cc

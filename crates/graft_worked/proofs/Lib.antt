@@ -1,0 +1,9 @@
+pub mod Points
+pub mod Tens
+pub mod Setup
+pub mod First
+pub mod GraftRows
+pub mod GraftRun
+pub mod GraftEnds
+pub mod StartRows
+pub mod Moves

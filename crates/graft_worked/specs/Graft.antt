@@ -1,0 +1,197 @@
+-- The graft of the worked laboratory, from the quiet world before it to the quiet world after it.
+use Rattle.std.specs.Prelude.{ℕ, ◌==◌, List, [], ◌∷◌, ◌++◌, Bool, Option, Some, None, true, false}
+use Rattle.std.specs.FinMap as map
+use Rattle.std.specs.List.{enumerate_from}
+use Rattle.bgp_types.specs.declared.attrs.Attrs.{Attrs}
+use Rattle.bgp_types.specs.declared.attrs.Origin.TheVariants.{Igp}
+use Rattle.bgp_types.specs.declared.attrs.Route.{Route}
+use Rattle.bgp_types.specs.declared.path.PathPart.TheVariants.{Sequence}
+use Rattle.bgp_types.specs.declared.rank.From.TheVariants as from
+use Rattle.bgp_types.specs.Spelling.{framed}
+use Rattle.bgp_types.specs.Tables.{prefix_cmp}
+use Rattle.route_policy.specs.declared.best.Best.{Best}
+use Rattle.tcp_seq.specs.Endpoint.{Bytes, Endpoint}
+use Rattle.graft_steps.specs.declared.refusal.Outcome.TheVariants.{Accepted}
+use Rattle.bgp_story.specs.WorkedSessions.{ten, open_bytes, keepalive_bytes, update_bytes, heard_lines}
+use Rattle.session_value.specs.Sessions.{SessionValue}
+use Rattle.graft_model.specs.Points.{at}
+use Rattle.graft_model.specs.Sets.{Prefixes}
+use Rattle.graft_model.specs.Parts.{Order as StoredOrder, Vacant, Live, Frozen, Shadow, Entry, RouterPart, FarPart, OperatorPart, Told, Moved, Done, PointAt, World}
+use Rattle.graft_model.specs.Steps.{Event, ByRouter, ByFar, ByOperator, Go, Order, Admit, Freeze, Leave, Land, Point, Clear, Note, Decide, Put, Tell, Hear}
+use Rattle.graft_worked.specs.Base.{config}
+use Rattle.graft_worked.specs.Places.{OnTheWay, nothing, world_of}
+
+-- ---- what both sides said
+
+-- home: its OPEN, without a hold time, and a KEEPALIVE
+abbrev pub put_all : List ℕ
+put_all = framed 1 (0x04 ∷ 0xFD ∷ 0xE8 ∷ 0x00 ∷ 0x00 ∷ 0x0A ∷ 0xFF ∷ 0x00 ∷ 0x01 ∷ 0x00 ∷ []) ++ keepalive_bytes
+
+-- the remote: its OPEN, a KEEPALIVE, and the UPDATE that announces 10.0.0.0/8
+abbrev pub said_all : List ℕ
+said_all = open_bytes ++ (keepalive_bytes ++ update_bytes)
+
+-- bytes that stand from place 0 on
+abbrev pub from_zero : List ℕ → Bytes
+from_zero bytes = map.from_sorted (enumerate_from 0 bytes)
+
+-- Each has all that the other sent, 91 and 48 bytes, and knows that the other has all.
+abbrev pub home_end : Endpoint
+home_end = record { stream = put_all; emitted = 48; acked = 48; arrived = from_zero said_all; read = 91; owed = true }
+
+abbrev pub remote_end : Endpoint
+remote_end = record { stream = said_all; emitted = 91; acked = 91; arrived = from_zero put_all; read = 0; owed = false }
+
+-- ---- tables with one prefix, 10.0.0.0/8
+
+abbrev pub at_ten : {A : Type 0} → A → map.FinMap prefix_cmp A
+at_ten value = map.insert map.empty ten value
+
+abbrev pub ten_alone : Prefixes
+ten_alone = at_ten tt
+
+-- the attributes that the remote said: ORIGIN IGP, path 65001, next hop 192.0.2.1
+abbrev pub heard_attrs : Attrs
+heard_attrs = record { origin = Igp; path = Sequence (65001 ∷ []) ∷ []; next_hop = 0xC0000201; med = None; atomic = false; aggregator = None; unknown = [] }
+
+abbrev pub route : Route
+route = record { attrs = heard_attrs; pref = 100 }
+
+abbrev pub entry : Entry
+entry = record { route = route; identifier = 0xC0000201; address = 0xC0000201 }
+
+abbrev pub over_peering : Best
+over_peering = record { from = from.Peering (record { 0 = 0 }); route = route }
+
+abbrev pub over_router : ℕ → Best
+over_router r = record { from = from.Router (record { 0 = r }); route = route }
+
+-- the established session, which heard one route and told none
+abbrev pub session : SessionValue
+session = record { config = config; story = heard_lines 0; heard = at_ten heard_attrs; told = map.empty; end = home_end }
+
+-- ---- the parts
+
+-- router a holds the session, has its route, and has the best route from it
+abbrev pub a_before : RouterPart
+a_before = record {
+  places = at (λ p. Vacant) 0 (Live session None);
+  entries = at (λ p. map.empty) 0 (at_ten entry);
+  tellings = λ q. map.empty;
+  best = at_ten over_peering;
+  dirty = map.empty;
+  due_in = λ q. map.empty;
+  due_out = λ p. map.empty;
+}
+
+-- router b has the route that a told
+abbrev pub b_before : RouterPart
+b_before = record {
+  places = λ p. Vacant;
+  entries = λ p. map.empty;
+  tellings = at (λ q. map.empty) 0 (at_ten route);
+  best = at_ten (over_router 0);
+  dirty = map.empty;
+  due_in = λ q. map.empty;
+  due_out = λ p. map.empty;
+}
+
+abbrev pub far_before : FarPart
+far_before = record { end = remote_end; homeward = []; remoteward = []; pointer = 0; followed = 0; beats = 0; last_beat = 0 }
+
+-- the first step, that the remote is to announce, was issued
+abbrev pub operator_before : OperatorPart
+operator_before = record { group = 0; issued = at (λ n. false) 0 true; source = λ k. None; outcome = λ k. None }
+
+abbrev pub before_graft : World
+before_graft = world_of a_before b_before far_before operator_before nothing
+
+-- the graft: number 1, to router b
+abbrev pub to_b : StoredOrder
+to_b = record { graft = 1; target = 1 }
+
+abbrev pub a_ordered : RouterPart
+a_ordered = record a_before { places = at (λ p. Vacant) 0 (Live session (Some to_b)) }
+
+abbrev pub a_frozen : RouterPart
+a_frozen = record a_before { places = at (λ p. Vacant) 0 (Frozen session to_b) }
+
+abbrev pub a_left : RouterPart
+a_left = record a_before { places = at (λ p. Vacant) 0 (Shadow 1) }
+
+abbrev pub a_cleared : RouterPart
+a_cleared = record a_before { places = λ p. Vacant; entries = λ p. map.empty; dirty = ten_alone }
+
+abbrev pub a_told : RouterPart
+a_told = record a_cleared { tellings = at (λ q. map.empty) 1 (at_ten route) }
+
+abbrev pub a_decided : RouterPart
+a_decided = record a_told { best = at_ten (over_router 1); dirty = map.empty; due_in = at (λ q. map.empty) 1 ten_alone }
+
+abbrev pub a_after : RouterPart
+a_after = record a_decided { due_in = λ q. map.empty }
+
+abbrev pub b_landed : RouterPart
+b_landed = record b_before {
+  places = at (λ p. Vacant) 0 (Live session None);
+  entries = at (λ p. map.empty) 0 (at_ten entry);
+  dirty = ten_alone;
+  due_out = at (λ p. map.empty) 0 ten_alone;
+}
+
+abbrev pub b_decided : RouterPart
+b_decided = record b_landed { best = at_ten over_peering; dirty = map.empty; due_in = at (λ q. map.empty) 0 ten_alone }
+
+abbrev pub b_put : RouterPart
+b_put = record b_decided { due_out = λ p. map.empty }
+
+abbrev pub b_told : RouterPart
+b_told = record b_put { due_in = λ q. map.empty }
+
+abbrev pub b_heard : RouterPart
+b_heard = record b_told { tellings = λ q. map.empty; dirty = ten_alone }
+
+abbrev pub b_after : RouterPart
+b_after = record b_told { tellings = λ q. map.empty }
+
+abbrev pub far_after : FarPart
+far_after = record far_before { pointer = 1; followed = 1 }
+
+abbrev pub operator_begun : OperatorPart
+operator_begun = record operator_before { group = 1 }
+
+abbrev pub operator_ordered : OperatorPart
+operator_ordered = record operator_begun { issued = at operator_before.issued 2 true; source = at (λ k. None) 1 (Some 0) }
+
+abbrev pub operator_after : OperatorPart
+operator_after = record operator_ordered { outcome = at (λ k. None) 1 (Some Accepted) }
+
+abbrev pub after_graft : World
+after_graft = world_of a_after b_after far_after operator_after nothing
+
+-- ---- the events
+
+abbrev pub graft_events : List Event
+graft_events =
+    ByOperator Go
+    ∷ ByOperator (Order 2)
+    ∷ ByRouter 0 (Admit 1)
+    ∷ ByRouter 0 (Freeze 1)
+    ∷ ByRouter 0 (Leave 1)
+    ∷ ByRouter 1 (Land 0)
+    ∷ ByFar 0 (Point 1)
+    ∷ ByRouter 0 (Clear 1)
+    ∷ ByOperator (Note 0)
+    ∷ ByRouter 1 (Decide ten)
+    ∷ ByRouter 1 (Put 0 0)
+    ∷ ByRouter 1 (Tell 0 ten)
+    ∷ ByRouter 0 (Hear 1)
+    ∷ ByRouter 0 (Decide ten)
+    ∷ ByRouter 0 (Tell 1 ten)
+    ∷ ByRouter 1 (Hear 0)
+    ∷ ByRouter 1 (Decide ten)
+    ∷ []
+
+-- the last world, with the source's entry kept: the shadow's routes never went
+abbrev pub with_entry_kept : World
+with_entry_kept = world_of (record a_after { entries = at (λ p. map.empty) 0 (at_ten entry) }) b_after far_after operator_after nothing

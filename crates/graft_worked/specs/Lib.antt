@@ -1,0 +1,5 @@
+pub mod Base
+pub mod Places
+pub mod First
+pub mod Graft
+pub mod Start

@@ -1,0 +1,31 @@
+//! What holds of the worked worlds.
+
+ghost use Rattle.std.specs.Prelude.{◌≡◌};
+ghost use Rattle.graft_model.specs.Claims.{Solves};
+ghost use Rattle.graft_model.specs.First.{first_world};
+ghost use Rattle.graft_model.specs.Quiet.{Quiet};
+ghost use Rattle.graft_model.specs.Setups.{IsSetup};
+ghost use Rattle.graft_model.specs.Steps.{Run};
+ghost use Rattle.graft_worked.specs.Base.{base};
+ghost use Rattle.graft_worked.specs.First.{first};
+ghost use Rattle.graft_worked.specs.Graft.{before_graft, graft_events, after_graft, with_entry_kept};
+
+/// A laboratory may begin with the worked setup.
+pub fn base_is_a_setup()
+    ensures setup { IsSetup base }
+{}
+
+/// The worked setup begins with its session at router a, its OPEN put and not emitted, the remote's OPEN and KEEPALIVE said, the link to a,
+/// and nothing dirty, due or on its way.
+pub fn base_begins()
+    ensures world { first_world base ≡ first }
+{}
+
+/// The worked graft, from one quiet world to another. The last world solves, and it doesn't where the source's entry is kept.
+pub fn a_graft_runs_to_its_end()
+    ensures before { Quiet base before_graft }
+    ensures run { Run base before_graft graft_events after_graft }
+    ensures quiet { Quiet base after_graft }
+    ensures solves { Solves base after_graft }
+    ensures entry_kept { ¬ Solves base with_entry_kept }
+{}

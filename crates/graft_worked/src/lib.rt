@@ -1,0 +1,7 @@
+//! The world of `graft_model` tried on worked worlds: a laboratory of two routers and one peering, from its first world over a graft to
+//! its end, every event written out.
+#![tactic(auto)]
+
+mod laws;
+
+pub use laws::{a_graft_runs_to_its_end, base_begins, base_is_a_setup};
