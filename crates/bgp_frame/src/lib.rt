@@ -7,4 +7,3 @@ mod laws;
 pub use bgp_types::HeaderFault;
 pub use framer::{Frame, FrameStop, Framer};
 pub use laws::{any_pieces, fault_stays};
-
