@@ -1,6 +1,6 @@
 -- What a far side's event sends and leaves is determined.
-use Rattle.std.proofs.Common.{◌≡◌, ℕ, ◌+◌, ◌<◌, Bool, true, false, List, [], ◌∷◌, ◌++◌, length, Option, Some, None, refl, sym, ap, ◌∙◌, subst, inl, inr}
-use Rattle.std.specs.Prelude.{◌⊎◌, max, nat_lt, if◌then◌else◌, slice_get}
+use Rattle.std.proofs.Common.{◌≡◌, ℕ, Bool, List, [], ◌∷◌, ◌++◌, Option, Some, sym, ap, ◌∙◌, subst}
+use Rattle.std.specs.Prelude.{max, nat_lt, if◌then◌else◌}
 use Rattle.tcp_seq.specs.Endpoint.{Endpoint, PlacedSegment, TakesSegment}
 use Rattle.tcp_seq.proofs.Arriving.{leaves_one}
 use Rattle.session_value.specs.Cases.{sending}

@@ -1,10 +1,9 @@
 -- What a router's event sends and leaves is determined.
-use Rattle.std.proofs.Common.{◌≡◌, ℕ, zero, suc, ◌+◌, ◌<◌, Bool, true, false, List, [], ◌∷◌, ◌++◌, length, Option, Some, None, refl, sym, ap, ◌∙◌, subst, inl, inr}
-use Rattle.std.specs.Prelude.{◌≢◌, ◌⊎◌, not, ◌&&◌, nat_lt, ◌==◌}
+use Rattle.std.proofs.Common.{◌≡◌, ℕ, zero, suc, List, [], ◌∷◌, Option, Some, None, refl, sym, ap, ◌∙◌, subst, inl, inr}
+use Rattle.std.specs.Prelude.{◌≢◌, ◌⊎◌}
 use Rattle.std.specs.FinMap as map
 use Rattle.bgp_types.specs.declared.attrs.Route.{Route}
 use Rattle.bgp_types.specs.Prefixes.{PrefixValue}
-use Rattle.bgp_types.specs.Tables.{prefix_cmp}
 use Rattle.graft_steps.specs.declared.refusal.Refusal.{Refusal}
 use Rattle.graft_steps.specs.declared.refusal.Outcome.TheVariants.{Accepted, Refused}
 use Rattle.loc_rib.specs.Values.{with_best}
@@ -14,12 +13,12 @@ use Rattle.session_value.specs.Sessions.{SessionValue, state}
 use Rattle.graft_model.specs.Points.{at}
 use Rattle.graft_model.specs.Sets.{Prefixes, has}
 use Rattle.graft_model.specs.Slices.{EmitsAt}
-use Rattle.graft_model.specs.Setups.{Setup, routers_in}
-use Rattle.graft_model.specs.Parts.{Order, Place, Live, Frozen, Shadow, Vacant, RouterPart, Entries, Mesh, Told, Moved, Back, Done, Seg, PointAt, GraftOrder}
+use Rattle.graft_model.specs.Setups.{Setup}
+use Rattle.graft_model.specs.Parts.{Order, Place, Live, Frozen, Shadow, Vacant, RouterPart, Entries, Told, Moved, Back, Done, Seg, PointAt}
 use Rattle.graft_model.specs.Decisions.{chosen}
 use Rattle.graft_model.specs.RouterRows.{RouterTaken, OrderIn, SegmentIn, MeshIn, RouterSent, MeshTo, OutwardTo, ReportOut, PutsNothing, Emits, Arrives, Strays, GetsNext, Ticks, Follows, BringsIn}
 use Rattle.graft_model.specs.TableRows.{Decides, Tells, Hears, DueEverywhere, with_telling}
-use Rattle.graft_model.specs.GraftRows.{Admits, Refuses, Freezes, Leaves, Comes, Lands, TurnsBack, Returns, Clears, DueAgain, refusal_of}
+use Rattle.graft_model.specs.GraftRows.{Admits, Refuses, Freezes, Leaves, Lands, TurnsBack, Returns, Clears, DueAgain, refusal_of}
 use Rattle.graft_model.specs.Steps.{RouterEvent, Put, Emit, Arrive, Stray, Got, Decide, Tell, Hear, Admit, Refuse, Freeze, Leave, Land, TurnBack, Return, Clear, Tick, router_row}
 use Rattle.graft_model.specs.Laws.{HasGraft, HasOnce, HasOneOutcome}
 use Rattle.graft_model.proofs.Same.{same_table, same_set, same_marks, same_session, same_order, live_here, same_segment, same_end, same_next, same_round, same_due}

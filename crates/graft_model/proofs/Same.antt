@@ -1,6 +1,6 @@
 -- When two tables, two sets, two endpoints or two sessions are the same.
-use Rattle.std.proofs.Common.{◌≡◌, ℕ, ◌+◌, ◌<◌, ◌≤◌, Bool, true, false, List, [], ◌∷◌, ◌++◌, length, Option, Some, None, refl, sym, ap, ◌∙◌, subst, inl, inr, arith}
-use Rattle.std.specs.Prelude.{◌≢◌, ◌⊎◌, is_some, IsSome, max}
+use Rattle.std.proofs.Common.{◌≡◌, ℕ, ◌+◌, ◌≤◌, Bool, true, false, List, [], ◌∷◌, ◌++◌, length, Option, Some, None, refl, sym, ap, ◌∙◌, subst, inl, inr, arith}
+use Rattle.std.specs.Prelude.{◌⊎◌, is_some, IsSome, max}
 use Rattle.std.specs.FinMap as map
 use Rattle.bgp_types.specs.declared.message.SessionState.{SessionState}
 use Rattle.bgp_types.specs.declared.message.SessionState.TheVariants.{OpenSent, OpenConfirm, Established, Closed}
@@ -18,9 +18,9 @@ use Rattle.bgp_types.specs.FirstFault.{message_of}
 use Rattle.tcp_seq.specs.Endpoint.{Endpoint, PlacedSegment, EmitsSlice, EmitsEmpty, slice_at}
 use Rattle.session_value.specs.Sessions.{SessionValue, peering_of, state}
 use Rattle.session_value.specs.Cases.{GetsFrame, PassesRound, put_by, reading, sending}
-use Rattle.graft_model.specs.Sets.{Prefixes, has, Adds, Drops, Marks}
+use Rattle.graft_model.specs.Sets.{Prefixes, has, Marks}
 use Rattle.graft_model.specs.Slices.{EmitsAt}
-use Rattle.graft_model.specs.Parts.{Order, Place, Live, Frozen, RouterPart, BestRoutes}
+use Rattle.graft_model.specs.Parts.{Order, Live, RouterPart, BestRoutes}
 use Rattle.graft_model.specs.RouterRows.{IsLive, DueThen}
 
 -- ---- tables and sets

@@ -1,6 +1,6 @@
 -- In a quiet world only such events happen as may happen when nothing is left to do.
-use Rattle.std.proofs.Common.{◌≡◌, ℕ, zero, suc, ◌<◌, Bool, true, false, List, [], ◌∷◌, length, Option, Some, None, refl, sym, ap, ◌∙◌, subst, inl, inr, arith}
-use Rattle.std.specs.Prelude.{◌≢◌, ◌⊎◌, slice_get, is_some}
+use Rattle.std.proofs.Common.{◌≡◌, ℕ, zero, suc, ◌<◌, Bool, true, false, List, [], ◌∷◌, length, Option, Some, None, ap, ◌∙◌, subst, inl, inr, arith}
+use Rattle.std.specs.Prelude.{slice_get, is_some}
 use Rattle.std.specs.FinMap as map
 use Rattle.bgp_types.specs.Prefixes.{PrefixValue}
 use Rattle.bgp_types.specs.Tables.{prefix_cmp}
@@ -9,13 +9,13 @@ use Rattle.session_value.specs.Sessions.{SessionValue}
 use Rattle.session_value.specs.Cases.{GetsFrame}
 use Rattle.graft_model.specs.Sets.{Prefixes, has}
 use Rattle.graft_model.specs.Setups.{Setup, SayStep, MoveStep}
-use Rattle.graft_model.specs.Parts.{Order, Place, Live, Frozen, RouterPart, World}
+use Rattle.graft_model.specs.Parts.{Order, Place, Live, World}
 use Rattle.graft_model.specs.RouterRows.{RouterTaken, OrderIn, SegmentIn, MeshIn}
 use Rattle.graft_model.specs.FarRows.{FarTaken, OutwardIn, SayIn, Way, Homeward, Remoteward, link}
 use Rattle.graft_model.specs.OperatorRows.{OperatorTaken, ReportIn, OrdersSay, OrdersGraft}
 use Rattle.graft_model.specs.Steps.{RouterEvent, Put, Emit, Arrive, Stray, Got, Decide, Tell, Hear, Admit, Refuse, Freeze, Leave, Land, TurnBack, Return, Clear, Tick, FarEvent, Say, Send, Take, Pass, Reach, Lose, Point, Beat, OperatorEvent, Go, Note, Event, ByRouter, ByFar, ByOperator, RouterTook, FarTook, OperatorTook, RouterStep, FarStep, OperatorStep, Step}
 use Rattle.graft_model.specs.Steps.{Order as OrderOf}
-use Rattle.graft_model.specs.Quiet.{Quiet, IsIdle, HasRead}
+use Rattle.graft_model.specs.Quiet.{Quiet, IsIdle}
 use Rattle.graft_model.specs.Laws.{MayStillHappen}
 
 -- ---- nothing can be taken

@@ -84,7 +84,7 @@ sent_on p (MeshTo q item) = sessions_on p item
 sent_on p (OutwardTo q item) = []
 sent_on p (ReportOut report) = []
 
--- The event changes no session. All others but five are such: those put, emit, take, get or answer something on a session.
+-- The event changes no session: all but the five by which a session puts, emits, takes in, gets or has a round pass.
 abbrev pub KeepsSessions : RouterEvent → Type 0
 KeepsSessions (Put p n) = ⊥
 KeepsSessions (Emit p from len) = ⊥
