@@ -164,20 +164,20 @@ clears = record {
 -- ---- the tables
 
 -- the choice of a router by its entry and the two tellings
-chosen_from : ℕ → Option Entry → Option Route → Option Route → Option Best
+unfoldable pub chosen_from : ℕ → Option Entry → Option Route → Option Route → Option Best
 chosen_from r entry one two = choice (
     filter_map (λ p. entry_candidate 65000 p entry) (0 ∷ [])
     ++ filter_map (λ q. telling_candidate base r q (cond (q == 0) one two)) (0 ∷ 1 ∷ []))
 
-at_a : (part : RouterPart) → chosen base 0 part ten ≡ chosen_from 0 (map.get (part.entries 0) ten) (map.get (part.tellings 0) ten) (map.get (part.tellings 1) ten)
+pub at_a : (part : RouterPart) → chosen base 0 part ten ≡ chosen_from 0 (map.get (part.entries 0) ten) (map.get (part.tellings 0) ten) (map.get (part.tellings 1) ten)
 unfolding chosen_from
 at_a part = refl
 
-at_b : (part : RouterPart) → chosen base 1 part ten ≡ chosen_from 1 (map.get (part.entries 0) ten) (map.get (part.tellings 0) ten) (map.get (part.tellings 1) ten)
+pub at_b : (part : RouterPart) → chosen base 1 part ten ≡ chosen_from 1 (map.get (part.entries 0) ten) (map.get (part.tellings 0) ten) (map.get (part.tellings 1) ten)
 unfolding chosen_from
 at_b part = refl
 
-by_parts : (r : ℕ) {e e' : Option Entry} {s s' t t' : Option Route} → e ≡ e' → s ≡ s' → t ≡ t' → chosen_from r e s t ≡ chosen_from r e' s' t'
+pub by_parts : (r : ℕ) {e e' : Option Entry} {s s' t t' : Option Route} → e ≡ e' → s ≡ s' → t ≡ t' → chosen_from r e s t ≡ chosen_from r e' s' t'
 by_parts r p q s = λ i. chosen_from r (p i) (q i) (s i)
 
 entry_or_route : chosen_from 1 (Some entry) (Some route) None ≡ Some over_peering

@@ -6,4 +6,8 @@ pub mod GraftRows
 pub mod GraftRun
 pub mod GraftEnds
 pub mod StartRows
+pub mod Arrivals
+pub mod StartTables
+pub mod StartRun
+pub mod Others
 pub mod Moves

@@ -180,7 +180,14 @@ module _ (a b : RouterPart) (far : FarPart) (o : OperatorPart) (way : OnTheWay) 
     is = refl;
   }
 
-  -- ---- segments and sayings
+  -- ---- segments, reports and sayings
+
+  pub a_reports : (event : RouterEvent) (a' : RouterPart) (report : Report) → router_row base 0 event a None (ReportOut report ∷ []) a'
+      → Step base (ByRouter 0 event) (world_of a b far o way) (world_of a' b far o (record way { reported = way.reported ++ report ∷ [] }))
+  a_reports event a' report row = record {
+    known = lit< tt; taken = None; sent = ReportOut report ∷ []; part = a'; row = row; without = world_of a b far o way; took = refl;
+    is = λ i. record (world_of a b far o way) { router = sym (two-0 idle_router a b a') i; reports = sym (at-at (λ r. []) 0 way.reported (way.reported ++ report ∷ [])) i };
+  }
 
   pub a_to_far : (event : RouterEvent) (a' : RouterPart) (out : Outward) → router_row base 0 event a None (OutwardTo 0 out ∷ []) a'
       → Step base (ByRouter 0 event) (world_of a b far o way) (world_of a' b far o (record way { out_a = way.out_a ++ out ∷ [] }))

@@ -51,13 +51,13 @@ len_zero : {A : Type 0} (xs : List A) → length xs ≡ 0 → xs ≡ []
 len_zero [] e = refl
 len_zero (x ∷ xs) e = absurd (omega arith)
 
-abbrev none_yet : Bytes
+abbrev pub none_yet : Bytes
 none_yet = map.empty
 
-received_none : bytes_in_order none_yet ≡ []
+pub received_none : bytes_in_order none_yet ≡ []
 received_none = ap (run_from 0) (len_zero (map.entries none_yet) (sym (map.len-entries none_yet) ∙ map.len-empty nat_cmp ℕ))
 
-received_said : bytes_in_order (from_zero said_all) ≡ said_all
+pub received_said : bytes_in_order (from_zero said_all) ≡ said_all
 received_said = ap (run_from 0) (map.entries-from_sorted nat_cmp (enumerate_from 0 said_all) tt)
 
 received_put : bytes_in_order (from_zero put_all) ≡ put_all

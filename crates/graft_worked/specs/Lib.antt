@@ -3,3 +3,4 @@ pub mod Places
 pub mod First
 pub mod Graft
 pub mod Start
+pub mod Others

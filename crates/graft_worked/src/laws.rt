@@ -1,6 +1,6 @@
 //! What holds of the worked worlds.
 
-ghost use Rattle.std.specs.Prelude.{◌≡◌};
+ghost use Rattle.std.specs.Prelude.{◌≡◌, ◌++◌};
 ghost use Rattle.graft_model.specs.Claims.{Solves};
 ghost use Rattle.graft_model.specs.First.{first_world};
 ghost use Rattle.graft_model.specs.Quiet.{Quiet};
@@ -9,6 +9,7 @@ ghost use Rattle.graft_model.specs.Steps.{Run};
 ghost use Rattle.graft_worked.specs.Base.{base};
 ghost use Rattle.graft_worked.specs.First.{first};
 ghost use Rattle.graft_worked.specs.Graft.{before_graft, graft_events, after_graft, with_entry_kept};
+ghost use Rattle.graft_worked.specs.Start.{start_events};
 
 /// A laboratory may begin with the worked setup.
 pub fn base_is_a_setup()
@@ -28,4 +29,10 @@ pub fn a_graft_runs_to_its_end()
     ensures quiet { Quiet base after_graft }
     ensures solves { Solves base after_graft }
     ensures entry_kept { ¬ Solves base with_entry_kept }
+{}
+
+/// The worked run from the first world: the session comes up, the remote announces and all settles; and the graft after it.
+pub fn base_runs_to_its_end()
+    ensures start { Run base (first_world base) start_events before_graft }
+    ensures whole { Run base (first_world base) (start_events ++ graft_events) after_graft }
 {}
