@@ -5,6 +5,3 @@ mod changes;
 mod rib;
 
 pub use rib::AdjRib;
-
-#[cfg(test)]
-mod tests;

@@ -5,6 +5,3 @@
 mod rib;
 
 pub use rib::LocRib;
-
-#[cfg(test)]
-mod tests;

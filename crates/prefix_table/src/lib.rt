@@ -4,6 +4,3 @@
 mod sorted;
 
 pub use sorted::SortedTable;
-
-#[cfg(test)]
-mod tests;

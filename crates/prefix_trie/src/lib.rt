@@ -5,6 +5,3 @@ mod node;
 mod trie;
 
 pub use trie::TrieTable;
-
-#[cfg(test)]
-mod tests;

@@ -425,17 +425,22 @@ fn tidy<V: Drop>(tree: &mut Tree<V>, spares: &mut Spares<V>)
     }
 }
 
-/// Keeps a node for later, where there is memory for that.
+/// Keeps a node for later, where the list has a place for it. It asks for no memory.
 fn keep<V: Drop>(tree: Tree<V>, spares: &mut Spares<V>)
     ensures { length spares.old.items ≤ length spares.new.items }
 {
-    if let Tree::Fork(node) = tree {
+    if let Tree::Fork(node) = tree
+        && spares.len() < spares.capacity()
+    {
         let _ = spares.push(node);
     }
 }
 
-/// Takes memory for nodes, two for each of so many prefixes. For want of memory the spare nodes stay
-/// as they are.
+/// How many prefixes there are: of each length from 0 to 32, one for each value of so many bits.
+const ALL_PREFIXES: usize = (1 << 33) - 1;
+
+/// Takes memory for nodes, two for each of so many prefixes. If memory runs out, the spare nodes stay as they are; more
+/// prefixes than there are at all are refused at once.
 pub fn reserve<V: Drop>(alloc: Global, spares: &mut Spares<V>, more: usize) -> Result<(), NoMemory>
     ensures ok { OnOk result (more ≤ length spares.new.items / 2) }
     ensures kept { OnOk result (length spares.old.items ≤ length spares.new.items) }
@@ -446,7 +451,7 @@ pub fn reserve<V: Drop>(alloc: Global, spares: &mut Spares<V>, more: usize) -> R
     if more <= before / 2 {
         return Ok(());
     }
-    if more > usize::MAX / 2 {
+    if more > ALL_PREFIXES {
         return Err(NoMemory);
     }
     match fill(alloc, spares, more * 2) {

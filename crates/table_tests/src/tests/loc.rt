@@ -1,5 +1,5 @@
-use super::*;
 use bgp_types::{AsPath, Attrs, From, Origin, Prefix, RawAttrs, Route};
+use loc_rib::LocRib;
 use route_policy::Best;
 use std::alloc::Global;
 use std::test::Fail;

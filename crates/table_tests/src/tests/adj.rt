@@ -1,4 +1,4 @@
-use super::*;
+use adj_rib::AdjRib;
 use bgp_types::{AsPath, Attrs, Origin, Prefix, PrefixList, RawAttrs, Update};
 use std::alloc::Global;
 use std::process::Abort;

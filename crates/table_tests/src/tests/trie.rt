@@ -1,5 +1,5 @@
-use crate::TrieTable;
 use bgp_types::{Prefix, SpareTable, Table};
+use prefix_trie::TrieTable;
 use std::alloc::Global;
 use std::process::Abort;
 use std::test::Fail;
@@ -151,11 +151,15 @@ fn a_walk_meets_the_shorter_first(rt: HostRuntime) -> Result<(), Fail> {
     Ok(())
 }
 
-/// The two halves and what they share are three nodes; where one of them goes, its branch is joined with
-/// what stays, and two nodes are free.
+/// The two halves and what they share are three nodes, of four that were taken ahead; where one of them goes, its branch is
+/// joined with what stays, and two nodes are free.
 #[test]
 fn a_removal_joins_branches(rt: HostRuntime) -> Result<(), Fail> {
-    let mut table = table_of(rt.alloc(), &[LOW_HALF, HIGH_HALF, INNER])?;
+    let mut table: TrieTable<u8> = TrieTable::new(rt.alloc());
+    table.reserve(2)?;
+    for at in &[LOW_HALF, HIGH_HALF, INNER] {
+        table.set(prefix(*at)?, at.1)?;
+    }
     assert_eq!(rt; table.spare(), 0);
     assert_eq!(rt; table.remove(prefix(TEN)?), None);
     assert_eq!(rt; table.remove(prefix(HIGH_HALF)?), Some(9));
@@ -175,6 +179,8 @@ fn memory_that_was_taken_ahead_is_used(rt: HostRuntime) -> Result<(), Fail> {
     let mut table = table_of(rt.alloc(), &[LOW_HALF])?;
     table.reserve(2)?;
     assert_eq!(rt; table.spare(), 2);
+    // more than there are prefixes
+    assert!(rt; table.reserve(1 << 33).is_err());
     assert_eq!(rt; table.set_reserved(prefix(LOW_HALF)?, 1), Some(9));
     assert_eq!(rt; table.spare(), 2);
     assert_eq!(rt; table.set_reserved(prefix(HIGH_HALF)?, 2), None);

@@ -1,5 +1,5 @@
-use super::*;
 use bgp_types::{Prefix, Table};
+use prefix_table::SortedTable;
 use std::alloc::Global;
 use std::test::Fail;
 

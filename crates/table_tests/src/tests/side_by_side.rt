@@ -1,0 +1,148 @@
+use bgp_types::{NoMemory, Prefix, Table};
+use prefix_table::SortedTable;
+use prefix_trie::TrieTable;
+use std::alloc::{AllocError, Global};
+use std::process::Abort;
+use std::test::Fail;
+
+/// A linear congruential generator, of which the upper bits are used (Knuth's MMIX).
+#[derive(Drop)]
+struct Numbers {
+    state: u64,
+}
+
+impl Numbers {
+    fn next(&mut self) -> u32 {
+        self.state = self
+            .state
+            .wrapping_mul(6_364_136_223_846_793_005)
+            .wrapping_add(1_442_695_040_888_963_407);
+        (self.state >> 32) as u32
+    }
+}
+
+/// One of four addresses, or one that differs from it in a bit: so many prefixes of them are equal,
+/// cover one another or part at some bit.
+fn any_address(numbers: &mut Numbers) -> u32 {
+    let base = numbers.next() % 4 * 0x5555_5555;
+    let bit = numbers.next() % 64;
+    if bit < 32 { base ^ 1 << bit } else { base }
+}
+
+/// A prefix of any length.
+fn any_prefix(numbers: &mut Numbers) -> Option<Prefix> {
+    let address = any_address(numbers);
+    Prefix::new(address, (numbers.next() % 33) as u8)
+}
+
+#[derive(Debug, Drop)]
+enum Command {
+    Set(Prefix, u32),
+    Remove(Prefix),
+    Get(Prefix),
+    NextAfter(Prefix),
+}
+
+#[derive(Debug, Drop, PartialEq)]
+enum Answer {
+    Value(Option<u32>),
+    Next(Option<Prefix>),
+}
+
+fn any_command(numbers: &mut Numbers) -> Option<Command> {
+    let kind = numbers.next() % 8;
+    let prefix = any_prefix(numbers)?;
+    Some(match kind {
+        0..=3 => Command::Set(prefix, numbers.next()),
+        4 | 5 => Command::Remove(prefix),
+        6 => Command::Get(prefix),
+        _ => Command::NextAfter(prefix),
+    })
+}
+
+fn run<T: Table<u32>>(table: &mut T, command: &Command) -> Result<Answer, NoMemory> {
+    Ok(match command {
+        Command::Set(prefix, value) => match table.set(*prefix, *value) {
+            Ok(before) => Answer::Value(before),
+            Err(_) => return Err(NoMemory),
+        },
+        Command::Remove(prefix) => Answer::Value(table.remove(*prefix)),
+        Command::Get(prefix) => Answer::Value(table.get(*prefix).copied()),
+        Command::NextAfter(prefix) => Answer::Next(table.next_after(Some(*prefix))),
+    })
+}
+
+/// The longest prefix of a table that covers an address, by a walk over all of them.
+fn longest<T: Table<u32>>(table: &T, address: u32) -> Option<Prefix> {
+    let host = Prefix::new(address, 32)?;
+    let mut longest = None;
+    let mut len = 0;
+    let mut at = None;
+    for _ in 0..table.len() {
+        let Some(prefix) = table.next_after(at) else {
+            return longest;
+        };
+        let bits = prefix.len();
+        if bits >= len && prefix.covers(&host) {
+            longest = Some(prefix);
+            len = bits;
+        }
+        at = Some(prefix);
+    }
+    longest
+}
+
+/// What a walk through a table passes, at most one more than there are.
+fn passed<T: Table<u32>>(alloc: Global, table: &T) -> Result<Vec<(Prefix, u32)>, AllocError> {
+    let mut passed = Vec::new(alloc);
+    let mut at = None;
+    for _ in 0..=table.len() {
+        let Some(prefix) = table.next_after(at) else {
+            return Ok(passed);
+        };
+        if let Some(value) = table.get(prefix) {
+            passed.push((prefix, *value))?;
+        }
+        at = Some(prefix);
+    }
+    Ok(passed)
+}
+
+/// Gives two empty tables so many commands, which are to be answered alike.
+fn run_both<R: Abort>(
+    rt: &R,
+    alloc: Global,
+    numbers: &mut Numbers,
+    commands: u32,
+) -> Result<(), Fail> {
+    let mut plain = SortedTable::new(alloc);
+    let mut trie = TrieTable::new(alloc);
+    for at in 0..commands {
+        let command = any_command(numbers).ok_or("a length is at most 32")?;
+        let want = run(&mut plain, &command)?;
+        assert_eq!(rt; run(&mut trie, &command)?, want, "{at}: {command:?}");
+        assert_eq!(rt; trie.len(), plain.len());
+        let address = any_address(numbers);
+        assert_eq!(rt; trie.longest_match(address), longest(&plain, address));
+        if at % 20 == 19 {
+            let entries = passed(alloc, &plain)?;
+            assert_eq!(rt; entries.len(), plain.len());
+            assert_eq!(rt; passed(alloc, &trie)?, entries);
+        }
+    }
+    Ok(())
+}
+
+#[test]
+fn a_long_run_is_answered_alike(rt: HostRuntime) -> Result<(), Fail> {
+    run_both(&rt, rt.alloc(), &mut Numbers { state: 1 }, 2_000)
+}
+
+#[test]
+fn short_runs_are_answered_alike(rt: HostRuntime) -> Result<(), Fail> {
+    let mut numbers = Numbers { state: 2 };
+    for _ in 0..100u8 {
+        run_both(&rt, rt.alloc(), &mut numbers, 20)?;
+    }
+    Ok(())
+}
