@@ -1,23 +1,25 @@
 -- Events that don't occur in the worked run.
-use Rattle.std.proofs.Common.{◌≡◌, ℕ, ◌+◌, ◌<◌, ◌||◌, Bool, true, false, List, [], ◌∷◌, Option, Some, None, is_some, refl, sym, ap, ◌∙◌, lit<, arith, unwrap_or}
+use Rattle.std.proofs.Common.{◌≡◌, ℕ, ◌+◌, ◌<◌, ◌||◌, ◌++◌, Bool, true, false, List, [], ◌∷◌, Option, Some, None, is_some, refl, sym, ap, ◌∙◌, lit<, arith, unwrap_or}
 use Rattle.std.specs.FinMap as map
 use Rattle.bgp_types.specs.Prefixes.{PrefixValue}
+use Rattle.bgp_types.specs.Spelling.{spell}
+use Rattle.bgp_story.specs.WorkedSessions.{keepalive_bytes}
 use Rattle.graft_steps.specs.declared.refusal.Refusal.TheVariants.{SameRouter, RouterFull}
 use Rattle.graft_steps.specs.declared.refusal.Outcome.TheVariants.{Refused}
 use Rattle.graft_model.specs.Points.{at}
 use Rattle.graft_model.specs.Sets.{has}
-use Rattle.graft_model.specs.Parts.{Vacant, Live, Shadow, Back, World}
-use Rattle.graft_model.specs.RouterRows.{SegmentIn, MeshIn, ReportOut, Strays}
-use Rattle.graft_model.specs.GraftRows.{Refuses, Returns, is_taken}
-use Rattle.graft_model.specs.FarRows.{Homeward, Loses}
-use Rattle.graft_model.specs.Steps.{Stray, Refuse, Return, Lose, Go, Beat, ByRouter, ByFar, ByOperator, Step}
+use Rattle.graft_model.specs.Parts.{Vacant, Live, Shadow, Moved, Back, World}
+use Rattle.graft_model.specs.RouterRows.{SegmentIn, MeshIn, MeshTo, ReportOut, Strays}
+use Rattle.graft_model.specs.GraftRows.{Refuses, TurnsBack, Returns, is_taken}
+use Rattle.graft_model.specs.FarRows.{Homeward, Loses, Beats}
+use Rattle.graft_model.specs.Steps.{Stray, Refuse, TurnBack, Return, Lose, Go, Beat, ByRouter, ByFar, ByOperator, Step}
 use Rattle.graft_worked.specs.Base.{base}
-use Rattle.graft_worked.specs.Places.{nothing, world_of, idle_router}
+use Rattle.graft_worked.specs.Places.{nothing, world_of, idle_router, idle_far}
 use Rattle.graft_worked.specs.First.{a_first}
-use Rattle.graft_worked.specs.Graft.{ten_alone, over_peering, session, a_before, b_before, far_before, operator_before, a_left, a_after, b_after, far_after, operator_ordered, operator_after, after_graft}
+use Rattle.graft_worked.specs.Graft.{ten_alone, over_peering, session, a_before, b_before, far_before, operator_before, a_left, a_after, b_after, far_after, operator_ordered, operator_after, before_graft, after_graft, said_all, remote_end}
 use Rattle.graft_worked.specs.Start.{ack_segment, far_sent, far_emitted}
-use Rattle.graft_worked.specs.Others.{with_stray, without_stray, a_to_itself, with_back, a_returned, with_segment, without_segment}
-use Rattle.graft_worked.proofs.Points.{at-at}
+use Rattle.graft_worked.specs.Others.{with_stray, without_stray, a_to_itself, with_self_order, with_refusal, full_at_b, with_session, with_turned, beating, with_beat, with_back, a_returned, with_returned, with_segment, without_segment}
+use Rattle.graft_worked.proofs.Points.{at-at, two-1, two2-0, two2-1}
 use Rattle.graft_worked.proofs.Tens.{some_at_ten, some_in_none}
 use Rattle.graft_worked.proofs.Moves.{a_ends, a_reports, a_from_far, far_alone}
 
@@ -68,3 +70,29 @@ no_beat round after step =
     let none : ◌≡◌ {A = ℕ} 0 step.row.beat = ap (λ o. unwrap_or o 0) step.row.is in
     let some : 0 < step.row.beat = step.row.some in
     absurd (omega arith)
+
+-- ---- in another setup
+
+turns : TurnsBack full_at_b 1 0 b_before (Some (MeshIn 0 (Moved 1 0 session))) (MeshTo 0 (Back 1 0 session (RouterFull 0)) ∷ []) b_before
+turns = record {
+  comes = record { graft = 1; peering = 0; session = session; takes = refl; known = lit< tt; vacant = refl };
+  refusal = RouterFull 0; cause = refl; sends = refl; stays = refl;
+}
+
+pub may_turn_back : Step full_at_b (ByRouter 1 (TurnBack 0)) with_session with_turned
+may_turn_back = record {
+  known = lit< tt; taken = Some (MeshIn 0 (Moved 1 0 session)); sent = MeshTo 0 (Back 1 0 session (RouterFull 0)) ∷ []; part = b_before; row = turns;
+  without = world_of a_left b_before far_before operator_ordered nothing;
+  took = (record { rest = []; is = refl }, λ i. record with_session { mesh = sym (two2-0 [] 1 0 (Moved 1 0 session ∷ []) [] []) i });
+  is = λ i. record with_turned { router = sym (two-1 idle_router a_left b_before b_before) i; mesh = sym (two2-1 [] 1 0 [] [] (Back 1 0 session (RouterFull 0) ∷ [])) i };
+}
+
+beats : Beats beating 0 30 far_before None [] (record far_before { end = record remote_end { stream = said_all ++ keepalive_bytes }; beats = 1; last_beat = 30 })
+unfolding spell
+beats = record { beat = 30; is = refl; some = lit< tt; multiple = refl; later = lit< tt; few = lit< tt; takes = refl; sends = refl; effect = refl }
+
+pub may_beat : Step beating (ByFar 0 (Beat 30)) before_graft with_beat
+may_beat = record {
+  known = lit< tt; taken = None; sent = []; part = record far_before { end = record remote_end { stream = said_all ++ keepalive_bytes }; beats = 1; last_beat = 30 }; row = beats; without = before_graft; took = refl;
+  is = λ i. record before_graft { far = sym (at-at (λ p. idle_far) 0 far_before (record far_before { end = record remote_end { stream = said_all ++ keepalive_bytes }; beats = 1; last_beat = 30 })) i };
+}
