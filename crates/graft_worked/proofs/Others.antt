@@ -1,12 +1,11 @@
 -- Events that don't occur in the worked run.
-use Rattle.std.proofs.Common.{◌≡◌, ℕ, ◌+◌, ◌<◌, ◌||◌, ◌++◌, Bool, true, false, List, [], ◌∷◌, Option, Some, None, is_some, refl, sym, ap, ◌∙◌, lit<, arith, unwrap_or}
+use Rattle.std.proofs.Common.{◌≡◌, ℕ, ◌<◌, ◌||◌, ◌++◌, Bool, true, false, [], ◌∷◌, Some, None, is_some, refl, sym, ap, ◌∙◌, lit<, arith, unwrap_or}
 use Rattle.std.specs.FinMap as map
 use Rattle.bgp_types.specs.Prefixes.{PrefixValue}
 use Rattle.bgp_types.specs.Spelling.{spell}
 use Rattle.bgp_story.specs.WorkedSessions.{keepalive_bytes}
 use Rattle.graft_steps.specs.declared.refusal.Refusal.TheVariants.{SameRouter, RouterFull}
 use Rattle.graft_steps.specs.declared.refusal.Outcome.TheVariants.{Refused}
-use Rattle.graft_model.specs.Points.{at}
 use Rattle.graft_model.specs.Sets.{has}
 use Rattle.graft_model.specs.Parts.{Vacant, Live, Shadow, Moved, Back, World}
 use Rattle.graft_model.specs.RouterRows.{SegmentIn, MeshIn, MeshTo, ReportOut, Strays}
@@ -18,7 +17,7 @@ use Rattle.graft_worked.specs.Places.{nothing, world_of, idle_router, idle_far}
 use Rattle.graft_worked.specs.First.{a_first}
 use Rattle.graft_worked.specs.Graft.{ten_alone, over_peering, session, a_before, b_before, far_before, operator_before, a_left, a_after, b_after, far_after, operator_ordered, operator_after, before_graft, after_graft, said_all, remote_end}
 use Rattle.graft_worked.specs.Start.{ack_segment, far_sent, far_emitted}
-use Rattle.graft_worked.specs.Others.{with_stray, without_stray, a_to_itself, with_self_order, with_refusal, full_at_b, with_session, with_turned, beating, with_beat, with_back, a_returned, with_returned, with_segment, without_segment}
+use Rattle.graft_worked.specs.Others.{with_stray, without_stray, a_to_itself, full_at_b, with_session, with_turned, beating, with_beat, with_back, a_returned, with_segment, without_segment}
 use Rattle.graft_worked.proofs.Points.{at-at, two-1, two2-0, two2-1}
 use Rattle.graft_worked.proofs.Tens.{some_at_ten, some_in_none}
 use Rattle.graft_worked.proofs.Moves.{a_ends, a_reports, a_from_far, far_alone}

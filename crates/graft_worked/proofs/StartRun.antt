@@ -1,5 +1,5 @@
 -- The worked run from the first world to the quiet world before the graft, and the whole of it.
-use Rattle.std.proofs.Common.{◌≡◌, ℕ, List, [], ◌∷◌, ◌++◌, Some, None, refl, sym, ap, subst, inl, inr, false}
+use Rattle.std.proofs.Common.{List, [], ◌∷◌, ◌++◌, Some, None, refl, sym, subst, inl, false}
 use Rattle.bgp_story.specs.WorkedSessions.{ten}
 use Rattle.graft_model.specs.First.{first_world}
 use Rattle.graft_model.specs.Parts.{Told, Seg, World}

@@ -1,26 +1,23 @@
 -- The rows by which the worked route is decided and told before the graft, each computed.
-use Rattle.std.proofs.Common.{◌≡◌, ◌≢◌, ℕ, ◌==◌, ◌&&◌, ◌||◌, Bool, true, false, cond, List, [], ◌∷◌, Option, Some, None, is_some, refl, sym, ap, ◌∙◌, inl, inr}
-use Rattle.std.specs.FinMap as map
-use Rattle.bgp_types.specs.declared.attrs.Route.{Route}
+use Rattle.std.proofs.Common.{◌≡◌, ◌≢◌, ◌==◌, ◌&&◌, ◌||◌, Bool, true, false, cond, [], ◌∷◌, Option, Some, None, is_some, refl, sym, ap, ◌∙◌, inl, inr}
 use Rattle.bgp_types.specs.Header.{header_fault}
 use Rattle.bgp_types.specs.Prefixes.{PrefixValue, same_prefix}
 use Rattle.decision_core.specs.Choice.{keep, left_of, choice}
-use Rattle.route_policy.specs.declared.best.Best.{Best}
 use Rattle.route_policy.specs.Telling.{tell_in, tell_out}
 use Rattle.loc_rib.specs.Values.{with_best}
 use Rattle.bgp_story.specs.WorkedSessions.{ten}
 use Rattle.graft_model.specs.Points.{at}
 use Rattle.graft_model.specs.Sets.{has}
-use Rattle.graft_model.specs.Parts.{Vacant, Live, RouterPart, Told}
+use Rattle.graft_model.specs.Parts.{Vacant, Live, Told}
 use Rattle.graft_model.specs.Decisions.{chosen, to_tell, out_side}
 use Rattle.graft_model.specs.RouterRows.{MeshIn, MeshTo, PutsNothing}
 use Rattle.graft_model.specs.TableRows.{Decides, Tells, Hears, DueEverywhere, holds_established}
 use Rattle.graft_worked.specs.Base.{base, config}
 use Rattle.graft_worked.specs.Places.{idle_router}
-use Rattle.graft_worked.specs.Graft.{at_ten, ten_alone, route, entry, over_peering, over_router, session, a_before, b_before}
+use Rattle.graft_worked.specs.Graft.{ten_alone, route, entry, over_peering, over_router, session, a_before, b_before}
 use Rattle.graft_worked.specs.Start.{a_got, a_chosen, a_put, b_dirty, b_chosen}
-use Rattle.graft_worked.proofs.Points.{at-at, at-same, at-back, other_of_0, other_of_1}
-use Rattle.graft_worked.proofs.Tens.{empty, is_ten, got_none, got_ten, got_it, again, gone, still_none, some_in_none, has_ten, adds_ten, keeps_none, drops_ten}
+use Rattle.graft_worked.proofs.Points.{at-same, at-back, other_of_0, other_of_1}
+use Rattle.graft_worked.proofs.Tens.{empty, is_ten, got_none, got_ten, got_it, gone, still_none, some_in_none, adds_ten, keeps_none, drops_ten}
 use Rattle.graft_worked.proofs.GraftRows.{state_is, chosen_from, at_a, at_b, by_parts}
 
 entry_alone : chosen_from 0 (Some entry) None None ≡ Some over_peering

@@ -1,5 +1,5 @@
 -- Worlds for events that don't occur in the worked run.
-use Rattle.std.specs.Prelude.{ℕ, [], ◌∷◌, ◌++◌, Some, None, true}
+use Rattle.std.specs.Prelude.{[], ◌∷◌, ◌++◌, Some, true}
 use Rattle.std.specs.FinMap as map
 use Rattle.graft_steps.specs.declared.refusal.Refusal.TheVariants.{SameRouter, RouterFull}
 use Rattle.graft_steps.specs.declared.refusal.Outcome.TheVariants.{Refused}
