@@ -15,7 +15,7 @@ use Rattle.route_policy.specs.Telling.{tell_in}
 use Rattle.tcp_seq.specs.Endpoint.{received_bytes}
 use Rattle.session_value.specs.Sessions.{SessionValue, peering_of, state}
 use Rattle.graft_model.specs.Setups.{Setup, routers_in, peerings_in, router_numbers, peering_numbers, identifier_of, cost_between, has_network, config_of}
-use Rattle.graft_model.specs.Parts.{Order, Place, Vacant, Live, Frozen, Shadow, Mesh, Told, Moved, Back, Done, World}
+use Rattle.graft_model.specs.Parts.{Place, Vacant, Live, Frozen, Shadow, Mesh, Told, Moved, Back, Done, World}
 use Rattle.graft_model.specs.Decisions.{session_route, to_tell}
 use Rattle.graft_model.specs.OperatorRows.{placement}
 use Rattle.graft_model.specs.Steps.{RouterEvent, Refuse, Freeze, Land, Return, Event, ByRouter, Step, Run}

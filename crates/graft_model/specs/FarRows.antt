@@ -1,5 +1,5 @@
 -- The events of a far side: what the remote says and sends, what the link holds, loses and delivers, and where it points.
-use Rattle.std.specs.Prelude.{◌≡◌, ℕ, ◌+◌, ◌%◌, ◌^◌, ◌<◌, ◌≤◌, List, [], ◌∷◌, ◌++◌, length, take, drop, Option, Some, None, Bool, true, false, max, nat_lt, if◌then◌else◌, slice_get, option_map}
+use Rattle.std.specs.Prelude.{◌≡◌, ℕ, ◌+◌, ◌%◌, ◌^◌, ◌<◌, ◌≤◌, List, [], ◌∷◌, ◌++◌, length, take, drop, Option, Some, None, Bool, false, max, nat_lt, if◌then◌else◌, slice_get, option_map}
 use Rattle.bgp_types.specs.declared.message.Message.TheVariants.{KeepaliveMsg}
 use Rattle.bgp_types.specs.Spelling.{spell}
 use Rattle.tcp_seq.specs.Endpoint.{Endpoint, PlacedSegment, TakesSegment}

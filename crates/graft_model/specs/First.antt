@@ -1,11 +1,10 @@
 -- The world that a laboratory begins with.
-use Rattle.std.specs.Prelude.{ℕ, ◌==◌, List, [], false, Option, Some, None, if◌then◌else◌, fold, slice_get}
+use Rattle.std.specs.Prelude.{ℕ, ◌==◌, [], false, Option, Some, None, if◌then◌else◌, fold, slice_get}
 use Rattle.std.specs.FinMap as map
 use Rattle.tcp_seq.specs.Endpoint.{fresh_endpoint}
 use Rattle.session_value.specs.Sessions.{begun}
 use Rattle.graft_model.specs.Setups.{Setup, PeeringSetup, of_router}
-use Rattle.graft_model.specs.Sets.{Prefixes}
-use Rattle.graft_model.specs.Parts.{Place, Vacant, Live, RouterPart, FarPart, OperatorPart, World}
+use Rattle.graft_model.specs.Parts.{Place, Vacant, Live, RouterPart, FarPart, World}
 
 -- Each session is held where it starts, with its OPEN put.
 abbrev pub place_in : ℕ → Option PeeringSetup → Place

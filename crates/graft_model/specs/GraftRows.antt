@@ -1,17 +1,16 @@
 -- The events of a router in a graft: the order, the freeze, the way out, the landing or the way back, and the end. No standard knows
 -- them.
-use Rattle.std.specs.Prelude.{◌≡◌, ◌≢◌, ℕ, ◌<◌, List, [], ◌∷◌, length, filter, Option, Some, None, Bool, true, false, ◌||◌, is_some}
+use Rattle.std.specs.Prelude.{◌≡◌, ℕ, ◌<◌, List, [], ◌∷◌, length, filter, Option, Some, None, Bool, true, false, ◌||◌, is_some}
 use Rattle.std.specs.FinMap as map
 use Rattle.bgp_types.specs.Prefixes.{PrefixValue}
 use Rattle.graft_steps.specs.declared.refusal.Refusal.{Refusal}
-use Rattle.graft_steps.specs.declared.refusal.Outcome.{Outcome}
 use Rattle.graft_steps.specs.declared.refusal.Outcome.TheVariants.{Accepted, Refused}
 use Rattle.graft_steps.specs.Refusals.{freeze_refusal, admit_refusal}
 use Rattle.session_value.specs.Sessions.{SessionValue, state, hold_time}
 use Rattle.graft_model.specs.Points.{at}
 use Rattle.graft_model.specs.Sets.{Prefixes, has, Marks}
 use Rattle.graft_model.specs.Setups.{Setup, routers_in, peerings_in, peering_numbers, room_of, missing_policy}
-use Rattle.graft_model.specs.Parts.{Order, Place, Vacant, Live, Frozen, Shadow, RouterPart, Entries, Mesh, Moved, Back, Done, PointAt, GraftOrder, Report}
+use Rattle.graft_model.specs.Parts.{Place, Vacant, Live, Frozen, Shadow, RouterPart, Moved, Back, Done, PointAt}
 use Rattle.graft_model.specs.RouterRows.{RouterTaken, OrderIn, MeshIn, RouterSent, MeshTo, OutwardTo, ReportOut, Alone, IsLive, BringsIn}
 
 -- The order of a graft is stored with the live session that it is for.

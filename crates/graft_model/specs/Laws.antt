@@ -1,7 +1,10 @@
--- What a step leaves as it is, and what may happen in a quiet world.
-use Rattle.std.specs.Prelude.{ℕ, ◌≡◌, ◌≢◌}
-use Rattle.graft_model.specs.Parts.{World}
-use Rattle.graft_model.specs.Steps.{Emit, Tick, Send, Beat, Go, Event, ByRouter, ByFar, ByOperator}
+-- What a step leaves as it is, what may happen in a quiet world, and of which events the laws of rows speak.
+use Rattle.std.specs.Prelude.{ℕ, suc, ◌≡◌, ◌≢◌, List, [], Option, Some, None}
+use Rattle.session_value.specs.Sessions.{SessionValue}
+use Rattle.graft_model.specs.Parts.{Place, Vacant, Live, Frozen, Shadow, RouterPart, World}
+use Rattle.graft_model.specs.RouterRows.{RouterTaken, OrderIn, SegmentIn, MeshIn, RouterSent, MeshTo, OutwardTo, ReportOut}
+use Rattle.graft_model.specs.Claims.{sessions_on}
+use Rattle.graft_model.specs.Steps.{RouterEvent, Put, Emit, Arrive, Got, Refuse, Freeze, Leave, Tick, Send, Beat, Go, Event, ByRouter, ByFar, ByOperator}
 
 -- A router's event changes that router's part, and channels from it or to it.
 pub record LeavesByRouter (r : ℕ) (before after : World) : Type 0 where
@@ -43,3 +46,49 @@ MayStillHappen (ByFar p (Send from len)) = Unit {0}
 MayStillHappen (ByFar p (Beat round)) = Unit {0}
 MayStillHappen (ByOperator Go) = Unit {0}
 MayStillHappen event = ⊥
+
+-- ---- one outcome
+
+-- a graft of this number is stored with the session of a place, or the session is frozen for it
+abbrev pub HasGraft : ℕ → Place → Type 0
+HasGraft k Vacant = ⊥
+HasGraft k (Live session None) = ⊥
+HasGraft k (Live session (Some order)) = order.graft ≡ k
+HasGraft k (Frozen session order) = order.graft ≡ k
+HasGraft k (Shadow graft) = ⊥
+
+-- no two places of a router have the graft
+abbrev pub HasOnce : ℕ → RouterPart → Type 0
+HasOnce k part = (p q : ℕ) → HasGraft k (part.places p) → HasGraft k (part.places q) → p ≡ q
+
+-- An event of a router with one outcome. One that names its place by a graft alone has it where the graft is at one place; a put of some
+-- prefixes is left open here.
+abbrev pub HasOneOutcome : RouterEvent → RouterPart → Type 0
+HasOneOutcome (Put p (suc n)) part = ⊥
+HasOneOutcome (Refuse k) part = HasOnce k part
+HasOneOutcome (Freeze k) part = HasOnce k part
+HasOneOutcome (Leave k) part = HasOnce k part
+HasOneOutcome event part = Unit {0}
+
+-- ---- sessions on their way
+
+-- the sessions of a peering in what a router takes, and in an item that it sends
+abbrev pub taken_on : ℕ → Option RouterTaken → List SessionValue
+taken_on p None = []
+taken_on p (Some (OrderIn order)) = []
+taken_on p (Some (SegmentIn q segment)) = []
+taken_on p (Some (MeshIn q item)) = sessions_on p item
+
+abbrev pub sent_on : ℕ → RouterSent → List SessionValue
+sent_on p (MeshTo q item) = sessions_on p item
+sent_on p (OutwardTo q item) = []
+sent_on p (ReportOut report) = []
+
+-- The event changes no session: all but the five by which a session puts, emits, takes in, gets or has a round pass.
+abbrev pub KeepsSessions : RouterEvent → Type 0
+KeepsSessions (Put p n) = ⊥
+KeepsSessions (Emit p from len) = ⊥
+KeepsSessions (Arrive p) = ⊥
+KeepsSessions (Got p) = ⊥
+KeepsSessions (Tick p round) = ⊥
+KeepsSessions event = Unit {0}

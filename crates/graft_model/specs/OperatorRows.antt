@@ -4,7 +4,7 @@ use Rattle.std.specs.List.{last_or}
 use Rattle.graft_steps.specs.declared.refusal.Outcome.{Outcome}
 use Rattle.graft_steps.specs.declared.refusal.Outcome.TheVariants.{Accepted, Refused}
 use Rattle.graft_model.specs.Points.{at}
-use Rattle.graft_model.specs.Setups.{Setup, ScriptStep, SayStep, MoveStep, start_of, group_of, grafts_in, graft_number, groups_in}
+use Rattle.graft_model.specs.Setups.{Setup, SayStep, MoveStep, start_of, group_of, grafts_in, graft_number, groups_in}
 use Rattle.graft_model.specs.Parts.{OperatorPart, GraftOrder, Report}
 
 -- what the operator may take: the next report of a router

@@ -1,5 +1,5 @@
 -- When nothing is left to do.
-use Rattle.std.specs.Prelude.{ℕ, ◌≡◌, ◌≢◌, List, [], ◌++◌, length, Option, Some, None, Bool, true, ◌⊎◌, slice_get}
+use Rattle.std.specs.Prelude.{ℕ, ◌≡◌, ◌≢◌, List, [], ◌++◌, length, Some, None, true, ◌⊎◌, slice_get}
 use Rattle.std.specs.FinMap as map
 use Rattle.bgp_types.specs.declared.message.SessionState.TheVariants.{Closed}
 use Rattle.bgp_story.specs.Legal.{IsGot}

@@ -1,12 +1,12 @@
 -- The events of a router on its sessions: messages, segments and rounds (RFC 4271, sections 6, 8.2.2 and 9.2; RFC 9293, section 3.4).
 -- Each row says what the event takes, what it sends, and the router's part after it; what isn't named stays.
-use Rattle.std.specs.Prelude.{◌≡◌, ◌≢◌, ℕ, ◌<◌, List, [], ◌∷◌, ◌++◌, length, All, Option, Some, None, Bool, true, false, ◌⊎◌, is_some, not, ◌&&◌}
+use Rattle.std.specs.Prelude.{◌≡◌, ◌≢◌, ℕ, List, [], ◌∷◌, ◌++◌, length, Option, Some, None, true, false, is_some, not}
 use Rattle.std.specs.FinMap as map
 use Rattle.std.specs.List.{list_any}
 use Rattle.std.specs.Ordering.{is_lt}
 use Rattle.bgp_types.specs.declared.attrs.Attrs.{Attrs}
 use Rattle.bgp_types.specs.declared.message.SessionState.{SessionState}
-use Rattle.bgp_types.specs.declared.message.SessionState.TheVariants.{OpenSent, OpenConfirm, Established, Closed}
+use Rattle.bgp_types.specs.declared.message.SessionState.TheVariants.{OpenConfirm, Established, Closed}
 use Rattle.bgp_types.specs.declared.message.Update.{Update}
 use Rattle.bgp_types.specs.Prefixes.{PrefixValue, same_prefix}
 use Rattle.bgp_types.specs.Tables.{prefix_cmp}
@@ -15,9 +15,9 @@ use Rattle.session_value.specs.Sessions.{SessionValue, state}
 use Rattle.session_value.specs.Cases.{GetsFrame, PutsUpdate, PassesRound}
 use Rattle.graft_model.specs.Points.{at}
 use Rattle.graft_model.specs.Slices.{EmitsAt}
-use Rattle.graft_model.specs.Sets.{Prefixes, has, Adds, Drops, Marks, Lists}
+use Rattle.graft_model.specs.Sets.{Prefixes, has, Drops, Marks, Lists}
 use Rattle.graft_model.specs.Setups.{Setup}
-use Rattle.graft_model.specs.Parts.{Order, Place, Live, RouterPart, Entry, Entries, BestRoutes, Mesh, Outward, Seg, GraftOrder, Report}
+use Rattle.graft_model.specs.Parts.{Order, Live, RouterPart, Entries, BestRoutes, Mesh, Outward, Seg, GraftOrder, Report}
 use Rattle.graft_model.specs.Decisions.{entry_of, to_tell}
 
 -- what a router may take: the next item of the operator's channel, of a far side's, or of another router's

@@ -1,10 +1,9 @@
 -- Events of the world: an actor's row, with what it takes from the heads of channels and sends to their ends; and runs of events.
-use Rattle.std.specs.Prelude.{ℕ, zero, suc, fold, ◌≡◌, ◌<◌, ◌+◌, List, [], ◌∷◌, ◌++◌, Bool, Option, Some, None, ◌⊎◌}
+use Rattle.std.specs.Prelude.{ℕ, zero, suc, fold, ◌≡◌, ◌<◌, List, [], ◌∷◌, ◌++◌, Bool, Option, Some, None, ◌⊎◌}
 use Rattle.bgp_types.specs.Prefixes.{PrefixValue}
-use Rattle.tcp_seq.specs.Endpoint.{PlacedSegment}
 use Rattle.graft_model.specs.Points.{at, at2}
 use Rattle.graft_model.specs.Setups.{Setup, routers_in, peerings_in}
-use Rattle.graft_model.specs.Parts.{RouterPart, FarPart, OperatorPart, Mesh, Outward, GraftOrder, Report, World}
+use Rattle.graft_model.specs.Parts.{RouterPart, FarPart, OperatorPart, World}
 use Rattle.graft_model.specs.RouterRows.{RouterTaken, OrderIn, SegmentIn, MeshIn, RouterSent, MeshTo, OutwardTo, ReportOut, PutsNothing, PutsSome, Emits, Arrives, Strays, GetsNext, Ticks}
 use Rattle.graft_model.specs.TableRows.{Decides, Tells, Hears}
 use Rattle.graft_model.specs.GraftRows.{Admits, Refuses, Freezes, Leaves, Lands, TurnsBack, Returns, Clears}

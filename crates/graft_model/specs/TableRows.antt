@@ -1,5 +1,5 @@
 -- The events of a router on its tables: deciding, telling other routers, hearing from them (RFC 4271, sections 9.1.2 and 9.1.3).
-use Rattle.std.specs.Prelude.{◌≡◌, ◌≢◌, ℕ, ◌<◌, ◌==◌, List, [], ◌∷◌, Option, Some, None, Bool, true, false, not, ◌&&◌, ◌⊎◌, nat_lt}
+use Rattle.std.specs.Prelude.{◌≡◌, ◌≢◌, ℕ, ◌==◌, List, [], ◌∷◌, Option, Some, None, Bool, true, false, not, ◌&&◌, ◌⊎◌, nat_lt}
 use Rattle.std.specs.FinMap as map
 use Rattle.bgp_types.specs.declared.attrs.Route.{Route}
 use Rattle.bgp_types.specs.declared.message.SessionState.{SessionState}
@@ -7,11 +7,11 @@ use Rattle.bgp_types.specs.declared.message.SessionState.TheVariants.{OpenSent, 
 use Rattle.bgp_types.specs.Prefixes.{PrefixValue, same_prefix}
 use Rattle.route_policy.specs.Telling.{tell_in}
 use Rattle.loc_rib.specs.Values.{with_best}
-use Rattle.session_value.specs.Sessions.{SessionValue, state}
+use Rattle.session_value.specs.Sessions.{state}
 use Rattle.graft_model.specs.Points.{at}
-use Rattle.graft_model.specs.Sets.{has, Adds, Drops}
+use Rattle.graft_model.specs.Sets.{has, Adds}
 use Rattle.graft_model.specs.Setups.{Setup, routers_in}
-use Rattle.graft_model.specs.Parts.{Place, Vacant, Live, Frozen, Shadow, RouterPart, Tellings, Mesh, Told}
+use Rattle.graft_model.specs.Parts.{Place, Vacant, Live, Frozen, Shadow, RouterPart, Tellings, Told}
 use Rattle.graft_model.specs.Decisions.{chosen}
 use Rattle.graft_model.specs.RouterRows.{RouterTaken, MeshIn, RouterSent, MeshTo, Alone}
 

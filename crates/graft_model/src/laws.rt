@@ -1,12 +1,22 @@
-//! What holds of every step of the world.
+//! What holds of every event and every step of the world.
 
-ghost use Rattle.std.specs.Prelude.{◌≡◌, ◌≢◌, ℕ, List, []};
+ghost use Rattle.std.specs.Prelude.{◌≡◌, ◌≢◌, ℕ, List, [], ◌∷◌, ◌++◌, Option, Some, None};
+ghost use Rattle.std.specs.List.{flat_map};
+ghost use Rattle.std.specs.FinMap as map;
+ghost use Rattle.graft_steps.specs.declared.refusal.Refusal.{Refusal};
+ghost use Rattle.graft_steps.specs.declared.refusal.Outcome.TheVariants.{Accepted, Refused};
+ghost use Rattle.session_value.specs.Sessions.{SessionValue};
+ghost use Rattle.graft_model.specs.declared.kind.EventKind.{EventKind};
 ghost use Rattle.graft_model.specs.Setups.{Setup};
-ghost use Rattle.graft_model.specs.Parts.{World, Shadow};
-ghost use Rattle.graft_model.specs.Steps.{Event, Step, RouterEvent, FarEvent, OperatorEvent, RouterStep, FarStep, OperatorStep};
+ghost use Rattle.graft_model.specs.Parts.{RouterPart, FarPart, OperatorPart, World, Order, Vacant, Live, Frozen, Shadow, Moved, Back, Done, PointAt};
+ghost use Rattle.graft_model.specs.RouterRows.{RouterTaken, MeshIn, RouterSent, MeshTo, OutwardTo, ReportOut};
+ghost use Rattle.graft_model.specs.FarRows.{FarTaken, FarSent};
+ghost use Rattle.graft_model.specs.OperatorRows.{OperatorTaken, OperatorSent};
+ghost use Rattle.graft_model.specs.Steps.{Event, Step, RouterEvent, Stray, Leave, Land, TurnBack, Return, Clear, FarEvent, OperatorEvent, RouterStep, FarStep, OperatorStep, router_row, far_row, operator_row};
 ghost use Rattle.graft_model.specs.Quiet.{Quiet};
-ghost use Rattle.graft_model.specs.Codes.{router_code, far_code, operator_code};
-ghost use Rattle.graft_model.specs.Laws.{LeavesByRouter, LeavesByFar, LeavesByOperator, MayStillHappen};
+ghost use Rattle.graft_model.specs.Claims.{sessions_at};
+ghost use Rattle.graft_model.specs.Codes.{number_of, router_code, far_code, operator_code};
+ghost use Rattle.graft_model.specs.Laws.{LeavesByRouter, LeavesByFar, LeavesByOperator, MayStillHappen, HasOnce, HasOneOutcome, taken_on, sent_on, KeepsSessions};
 
 /// An event leaves the parts of all other actors as they are, and every channel that its actor has no end of.
 pub fn steps_leave_the_rest()
@@ -27,4 +37,53 @@ pub fn nothing_moves_at_quiet()
     ensures still { (setup : Setup) (event : Event) (before after : World) → Quiet setup before → Step setup event before after → MayStillHappen event }
     ensures no_shadow { (setup : Setup) (w : World) (r p k : ℕ) → Quiet setup w → (w.router r).places p ≢ Shadow k }
     ensures no_link { (setup : Setup) (w : World) (p : ℕ) → Quiet setup w → ((w.far p).homeward ≡ []) × ((w.far p).remoteward ≡ []) }
+{}
+
+/// The number of a kind tells it apart from every other kind.
+pub fn kinds_are_exact()
+    ensures { (one other : EventKind) → number_of one ≡ number_of other → one ≡ other }
+{}
+
+/// What an actor sends and its part after an event are determined by the event, its part before and what it takes.
+pub fn rows_are_exact()
+    ensures router { (setup : Setup) (r : ℕ) (event : RouterEvent) (before after other : RouterPart) (taken : Option RouterTaken) (sent items : List RouterSent)
+        → HasOneOutcome event before → router_row setup r event before taken sent after → router_row setup r event before taken items other
+        → (items ≡ sent) × (other ≡ after) }
+    ensures far { (setup : Setup) (p : ℕ) (event : FarEvent) (before after other : FarPart) (taken : Option FarTaken) (sent items : List FarSent)
+        → far_row setup p event before taken sent after → far_row setup p event before taken items other → (items ≡ sent) × (other ≡ after) }
+    ensures operator { (setup : Setup) (event : OperatorEvent) (before after other : OperatorPart) (taken : Option OperatorTaken) (sent items : List OperatorSent)
+        → operator_row setup event before taken sent after → operator_row setup event before taken items other → (items ≡ sent) × (other ≡ after) }
+{}
+
+/// In a graft no session is made, lost or changed: what a router held of a peering and took, it holds or sent then, in every field.
+pub fn grafts_keep_sessions()
+    ensures { (setup : Setup) (r p : ℕ) (event : RouterEvent) (before after : RouterPart) (taken : Option RouterTaken) (sent : List RouterSent)
+        → KeepsSessions event → router_row setup r event before taken sent after
+        → sessions_at (after.places p) ++ flat_map (sent_on p) sent ≡ taken_on p taken ++ sessions_at (before.places p) }
+{}
+
+/// Where a session is after an event of its graft. It leaves for the target of the order for which it was frozen, and its shadow stays. It is live where
+/// it lands and where it comes back; at its source nothing of it is left when the graft ends. Word of a landing goes to the far side and to the
+/// source, and word of the outcome to the operator.
+pub fn grafts_move_sessions()
+    ensures left { (setup : Setup) (r k p : ℕ) (session : SessionValue) (order : Order) (before after : RouterPart) (taken : Option RouterTaken) (sent : List RouterSent)
+        → HasOnce k before → before.places p ≡ Frozen session order → order.graft ≡ k → router_row setup r (Leave k) before taken sent after
+        → (sent ≡ MeshTo order.target (Moved k p session) ∷ []) × (after.places p ≡ Shadow k) }
+    ensures landed { (setup : Setup) (r q k p : ℕ) (session : SessionValue) (before after : RouterPart) (sent : List RouterSent)
+        → router_row setup r (Land q) before (Some (MeshIn q (Moved k p session))) sent after
+        → (after.places p ≡ Live session None) × (sent ≡ OutwardTo p (PointAt k) ∷ MeshTo q (Done k p) ∷ []) }
+    ensures back { (setup : Setup) (r q k p : ℕ) (session : SessionValue) (refusal : Refusal) (before after : RouterPart) (sent : List RouterSent)
+        → router_row setup r (Return q) before (Some (MeshIn q (Back k p session refusal))) sent after
+        → (after.places p ≡ Live session None) × (sent ≡ ReportOut (record { graft = k; outcome = Refused refusal }) ∷ []) }
+    ensures cleared { (setup : Setup) (r q k p : ℕ) (before after : RouterPart) (sent : List RouterSent)
+        → router_row setup r (Clear q) before (Some (MeshIn q (Done k p))) sent after
+        → (after.places p ≡ Vacant) × (after.entries p ≡ map.empty) × (sent ≡ ReportOut (record { graft = k; outcome = Accepted }) ∷ []) }
+{}
+
+/// A segment that strays and a session that is turned back leave the router as it is.
+pub fn refused_items_change_nothing()
+    ensures strays { (setup : Setup) (r p : ℕ) (before after : RouterPart) (taken : Option RouterTaken) (sent : List RouterSent)
+        → router_row setup r (Stray p) before taken sent after → (after ≡ before) × (sent ≡ []) }
+    ensures turned_back { (setup : Setup) (r q : ℕ) (before after : RouterPart) (taken : Option RouterTaken) (sent : List RouterSent)
+        → router_row setup r (TurnBack q) before taken sent after → after ≡ before }
 {}

@@ -6,4 +6,7 @@ mod kind;
 mod laws;
 
 pub use kind::{EventKind, args_prefix, kind_of, prefix_args};
-pub use laws::{codes_are_exact, nothing_moves_at_quiet, steps_leave_the_rest};
+pub use laws::{
+    codes_are_exact, grafts_keep_sessions, grafts_move_sessions, kinds_are_exact,
+    nothing_moves_at_quiet, refused_items_change_nothing, rows_are_exact, steps_leave_the_rest,
+};

@@ -1,0 +1,5 @@
+mod Still
+mod KindNumbers
+mod Same
+mod OneOutcome
+mod FarOutcome

@@ -1,0 +1,339 @@
+-- What a router's event sends and leaves is determined.
+use Rattle.std.proofs.Common.{◌≡◌, ℕ, zero, suc, List, [], ◌∷◌, Option, Some, None, refl, sym, ap, ◌∙◌, subst, inl, inr}
+use Rattle.std.specs.Prelude.{◌≢◌, ◌⊎◌}
+use Rattle.std.specs.FinMap as map
+use Rattle.bgp_types.specs.declared.attrs.Route.{Route}
+use Rattle.bgp_types.specs.Prefixes.{PrefixValue}
+use Rattle.graft_steps.specs.declared.refusal.Refusal.{Refusal}
+use Rattle.graft_steps.specs.declared.refusal.Outcome.TheVariants.{Accepted, Refused}
+use Rattle.loc_rib.specs.Values.{with_best}
+use Rattle.tcp_seq.specs.Endpoint.{Endpoint, PlacedSegment, TakesSegment}
+use Rattle.tcp_seq.proofs.Arriving.{leaves_one}
+use Rattle.session_value.specs.Sessions.{SessionValue, state}
+use Rattle.graft_model.specs.Points.{at}
+use Rattle.graft_model.specs.Sets.{Prefixes, has}
+use Rattle.graft_model.specs.Slices.{EmitsAt}
+use Rattle.graft_model.specs.Setups.{Setup}
+use Rattle.graft_model.specs.Parts.{Order, Place, Live, Frozen, Shadow, Vacant, RouterPart, Entries, Told, Moved, Back, Done, Seg, PointAt}
+use Rattle.graft_model.specs.Decisions.{chosen}
+use Rattle.graft_model.specs.RouterRows.{RouterTaken, OrderIn, SegmentIn, MeshIn, RouterSent, MeshTo, OutwardTo, ReportOut, PutsNothing, Emits, Arrives, Strays, GetsNext, Ticks, Follows, BringsIn}
+use Rattle.graft_model.specs.TableRows.{Decides, Tells, Hears, DueEverywhere, with_telling}
+use Rattle.graft_model.specs.GraftRows.{Admits, Refuses, Freezes, Leaves, Lands, TurnsBack, Returns, Clears, DueAgain, refusal_of}
+use Rattle.graft_model.specs.Steps.{RouterEvent, Put, Emit, Arrive, Stray, Got, Decide, Tell, Hear, Admit, Refuse, Freeze, Leave, Land, TurnBack, Return, Clear, Tick, router_row}
+use Rattle.graft_model.specs.Laws.{HasGraft, HasOnce, HasOneOutcome}
+use Rattle.graft_model.proofs.Same.{same_table, same_set, same_marks, same_session, same_order, live_here, same_segment, same_end, same_next, same_round, same_due}
+
+module _ (setup : Setup) (r : ℕ) (before a b : RouterPart) (taken : Option RouterTaken) (sent items : List RouterSent) where
+  abbrev Same : Type 0
+  Same = (items ≡ sent) × (b ≡ a)
+
+  one_nothing : (p : ℕ) → PutsNothing setup r p before taken sent a → PutsNothing setup r p before taken items b → Same
+  one_nothing p x y =
+      let due : b.due_out p ≡ a.due_out p = same_set (b.due_out p) (a.due_out p) (λ q. y.due.members q ∙ sym (x.due.members q)) in
+      (y.alone.1 ∙ sym x.alone.1, y.effect ∙ (ap (λ (d : Prefixes). let v : RouterPart = record before { due_out = at before.due_out p d } in v) due ∙ sym x.effect))
+
+  abbrev with_end : ℕ → SessionValue → Option Order → Endpoint → RouterPart
+  with_end p s o e = record before { places = at before.places p (Live (record s { end = e }) o) }
+
+  same_end_part : (p : ℕ) (s t : SessionValue) (o u : Option Order) (e f : Endpoint) → Live s o ≡ Live t u → e ≡ f → with_end p s o e ≡ with_end p t u f
+  same_end_part p s t o u e f l is =
+      ap (λ (x : SessionValue). with_end p x o e) (same_session s t o u l)
+      ∙ (ap (λ (x : Option Order). with_end p t x e) (same_order s t o u l) ∙ ap (λ (x : Endpoint). with_end p t u x) is)
+
+  one_emits : (p from len : ℕ) → Emits p from len before taken sent a → Emits p from len before taken items b → Same
+  one_emits p from len x y =
+      let l = live_here before p y.session x.session y.order x.order y.live x.live in
+      let s : y.session ≡ x.session = same_session y.session x.session y.order x.order l in
+      let e : EmitsAt from len x.session.end y.segment y.end = subst (λ (z : SessionValue). EmitsAt from len z.end y.segment y.end) s y.emits in (
+        y.sends ∙ (ap (λ (g : PlacedSegment). OutwardTo p (Seg g) ∷ []) (same_segment from len x.session.end y.end x.end y.segment x.segment e x.emits) ∙ sym x.sends),
+        y.effect ∙ (same_end_part p y.session x.session y.order x.order y.end x.end l (same_end from len x.session.end y.end x.end y.segment x.segment e x.emits) ∙ sym x.effect),
+      )
+
+  same_seg : (p : ℕ) (g h : PlacedSegment) → Some (SegmentIn p g) ≡ Some (SegmentIn p h) → g ≡ h
+  same_seg p g h e = cc
+
+  one_arrives : (p : ℕ) → Arrives p before taken sent a → Arrives p before taken items b → Same
+  one_arrives p x y =
+      let l = live_here before p y.session x.session y.order x.order y.live x.live in
+      let s : y.session ≡ x.session = same_session y.session x.session y.order x.order l in
+      let g : y.segment ≡ x.segment = same_seg p y.segment x.segment (sym y.takes ∙ x.takes) in
+      let t : TakesSegment x.session.end x.segment y.end = subst (λ (z : PlacedSegment). TakesSegment x.session.end z y.end) g (subst (λ (z : SessionValue). TakesSegment z.end y.segment y.end) s y.arrives) in (
+        y.sends ∙ sym x.sends,
+        y.effect ∙ (same_end_part p y.session x.session y.order x.order y.end x.end l (leaves_one x.session.end y.end x.end x.segment t x.arrives) ∙ sym x.effect),
+      )
+
+  one_strays : (p : ℕ) → Strays p before taken sent a → Strays p before taken items b → Same
+  one_strays p x y = (y.sends ∙ sym x.sends, y.stays ∙ sym x.stays)
+
+  -- ---- got, and rounds
+
+  abbrev followed : ℕ → SessionValue → Option Order → Entries → Prefixes → Prefixes → RouterPart
+  followed p s o entries dirty due = record before { places = at before.places p (Live s o); entries = at before.entries p entries; dirty = dirty; due_out = at before.due_out p due }
+
+  one_follows : (p : ℕ) (s n : SessionValue) (o : Option Order) → Follows setup r p before s n o a → Follows setup r p before s n o b → b ≡ a
+  one_follows p s n o x y =
+      let e : b.entries p ≡ a.entries p = same_table (b.entries p) (a.entries p) (λ q. y.entries q ∙ sym (x.entries q)) in
+      let d : b.dirty ≡ a.dirty = same_marks before.dirty b.dirty a.dirty (before.entries p) (a.entries p) (subst (λ (z : Entries). Rattle.graft_model.specs.Sets.Marks before.dirty (before.entries p) z b.dirty) e y.dirty) x.dirty in
+      let u : b.due_out p ≡ a.due_out p = same_due (state s) (state n) before.best (before.due_out p) (b.due_out p) (a.due_out p) y.due x.due in
+      y.effect ∙ (ap (λ (z : Entries). followed p n o z b.dirty (b.due_out p)) e ∙ (ap (λ (z : Prefixes). followed p n o (a.entries p) z (b.due_out p)) d ∙ (ap (λ (z : Prefixes). followed p n o (a.entries p) a.dirty z) u ∙ sym x.effect)))
+
+  moved_follows : (p : ℕ) (s t n m : SessionValue) (o u : Option Order) → s ≡ t → n ≡ m → o ≡ u → Follows setup r p before s n o b → Follows setup r p before t m u b
+  moved_follows p s t n m o u e f g x =
+      subst (λ (z : SessionValue). Follows setup r p before z m u b) e
+      (subst (λ (z : SessionValue). Follows setup r p before s z u b) f
+      (subst (λ (z : Option Order). Follows setup r p before s n z b) g x))
+
+  one_gets : (p : ℕ) → GetsNext setup r p before taken sent a → GetsNext setup r p before taken items b → Same
+  one_gets p x y =
+      let l = live_here before p y.session x.session y.order x.order y.live x.live in
+      let s : y.session ≡ x.session = same_session y.session x.session y.order x.order l in
+      let n : y.next ≡ x.next = same_next x.session y.next x.next y.bytes x.bytes (subst (λ (z : SessionValue). Rattle.session_value.specs.Cases.GetsFrame z y.bytes y.next) s y.gets) x.gets in
+      (y.alone.1 ∙ sym x.alone.1, one_follows p x.session x.next x.order x.follows (moved_follows p y.session x.session y.next x.next y.order x.order s n (same_order y.session x.session y.order x.order l) y.follows))
+
+  one_ticks : (p round : ℕ) → Ticks setup r p round before taken sent a → Ticks setup r p round before taken items b → Same
+  one_ticks p round x y =
+      let l = live_here before p y.session x.session y.order x.order y.live x.live in
+      let s : y.session ≡ x.session = same_session y.session x.session y.order x.order l in
+      let n : y.next ≡ x.next = same_round x.session y.next x.next round (subst (λ (z : SessionValue). Rattle.session_value.specs.Cases.PassesRound z round y.next) s y.passes) x.passes in
+      (y.alone.1 ∙ sym x.alone.1, one_follows p x.session x.next x.order x.follows (moved_follows p y.session x.session y.next x.next y.order x.order s n (same_order y.session x.session y.order x.order l) y.follows))
+
+  -- ---- tables
+
+  abbrev decided : PrefixValue → (ℕ → Prefixes) → (ℕ → Prefixes) → RouterPart
+  decided prefix to_routers to_peerings = record before {
+    best = with_best before.best prefix (chosen setup r before prefix);
+    dirty = map.remove before.dirty prefix;
+    due_in = to_routers;
+    due_out = to_peerings;
+  }
+
+  abbrev Due : PrefixValue → RouterPart → Type 0
+  Due prefix v = ((chosen setup r before prefix ≡ map.get before.best prefix) × (v.due_in ≡ before.due_in) × (v.due_out ≡ before.due_out))
+      ⊎ ((chosen setup r before prefix ≢ map.get before.best prefix) × DueEverywhere setup r prefix before v)
+
+  one_decides : (prefix : PrefixValue) → Decides setup r prefix before taken sent a → Decides setup r prefix before taken items b → Same
+  one_decides prefix x y = (y.alone.1 ∙ sym x.alone.1, y.effect ∙ (ap (λ (d : ℕ → Prefixes). decided prefix d b.due_out) (to_routers y.due x.due) ∙ (ap (λ (d : ℕ → Prefixes). decided prefix a.due_in d) (to_peerings y.due x.due) ∙ sym x.effect))) where
+    to_routers : Due prefix b → Due prefix a → b.due_in ≡ a.due_in
+    to_routers (inl s) (inl t) = s.1 ∙ sym t.1
+    to_routers (inl s) (inr t) = absurd (t.0 s.0)
+    to_routers (inr s) (inl t) = absurd (s.0 t.0)
+    to_routers (inr s) (inr t) = λ i q. same_set (b.due_in q) (a.due_in q) (λ z. (s.1.routers q).members z ∙ sym ((t.1.routers q).members z)) i
+
+    to_peerings : Due prefix b → Due prefix a → b.due_out ≡ a.due_out
+    to_peerings (inl s) (inl t) = s.2 ∙ sym t.2
+    to_peerings (inl s) (inr t) = absurd (t.0 s.0)
+    to_peerings (inr s) (inl t) = absurd (s.0 t.0)
+    to_peerings (inr s) (inr t) = λ i q. same_set (b.due_out q) (a.due_out q) (λ z. (s.1.peerings q).members z ∙ sym ((t.1.peerings q).members z)) i
+
+  one_tells : (q : ℕ) (prefix : PrefixValue) → Tells q prefix before taken sent a → Tells q prefix before taken items b → Same
+  one_tells q prefix x y = (y.sends ∙ sym x.sends, y.effect ∙ sym x.effect)
+
+  told_prefix : (q : ℕ) (x y : PrefixValue) (s t : Option Route) → Some (MeshIn q (Told x s)) ≡ Some (MeshIn q (Told y t)) → x ≡ y
+  told_prefix q x y s t e = cc
+
+  told_route : (q : ℕ) (x y : PrefixValue) (s t : Option Route) → Some (MeshIn q (Told x s)) ≡ Some (MeshIn q (Told y t)) → s ≡ t
+  told_route q x y s t e = cc
+
+  abbrev DirtyIf : ℕ → PrefixValue → Option Route → RouterPart → Type 0
+  DirtyIf q prefix route v = ((route ≡ map.get (before.tellings q) prefix) × (v.dirty ≡ before.dirty)) ⊎ ((route ≢ map.get (before.tellings q) prefix) × (v.dirty ≡ map.insert before.dirty prefix tt))
+
+  same_dirty : (q : ℕ) (prefix : PrefixValue) (route : Option Route) → DirtyIf q prefix route b → DirtyIf q prefix route a → b.dirty ≡ a.dirty
+  same_dirty q prefix route (inl s) (inl t) = s.1 ∙ sym t.1
+  same_dirty q prefix route (inl s) (inr t) = absurd (t.0 s.0)
+  same_dirty q prefix route (inr s) (inl t) = absurd (s.0 t.0)
+  same_dirty q prefix route (inr s) (inr t) = s.1 ∙ sym t.1
+
+  abbrev heard_with : ℕ → PrefixValue → Option Route → Prefixes → RouterPart
+  heard_with q prefix route dirty = record before { tellings = at before.tellings q (with_telling (before.tellings q) prefix route); dirty = dirty }
+
+  one_hears : (q : ℕ) → Hears q before taken sent a → Hears q before taken items b → Same
+  one_hears q x y =
+      let t : Some (MeshIn q (Told y.prefix y.route)) ≡ Some (MeshIn q (Told x.prefix x.route)) = sym y.takes ∙ x.takes in
+      let p : y.prefix ≡ x.prefix = told_prefix q y.prefix x.prefix y.route x.route t in
+      let o : y.route ≡ x.route = told_route q y.prefix x.prefix y.route x.route t in
+      let d : DirtyIf q x.prefix x.route b = subst (λ (z : PrefixValue). DirtyIf q z x.route b) p (subst (λ (z : Option Route). DirtyIf q y.prefix z b) o y.dirty) in (
+        y.sends ∙ sym x.sends,
+        y.effect ∙ (ap (λ (z : PrefixValue). heard_with q z y.route b.dirty) p ∙ (ap (λ (z : Option Route). heard_with q x.prefix z b.dirty) o ∙ (ap (λ (z : Prefixes). heard_with q x.prefix x.route z) (same_dirty q x.prefix x.route d x.dirty) ∙ sym x.effect))),
+      )
+
+  -- ---- grafts
+
+  abbrev peering_in : Option RouterTaken → ℕ
+  peering_in (Some (OrderIn o)) = o.peering
+  peering_in x = 0
+
+  abbrev target_in : Option RouterTaken → ℕ
+  target_in (Some (OrderIn o)) = o.target
+  target_in x = 0
+
+  same_ordered : (k p q s t : ℕ) → Some (OrderIn (record { graft = k; peering = p; target = s })) ≡ Some (OrderIn (record { graft = k; peering = q; target = t })) → (p ≡ q) × (s ≡ t)
+  same_ordered k p q s t e = (ap (λ (x : Option RouterTaken). peering_in x) e, ap (λ (x : Option RouterTaken). target_in x) e)
+
+  abbrev with_order : ℕ → ℕ → ℕ → SessionValue → RouterPart
+  with_order k p t s = record before { places = at before.places p (Live s (Some (record { graft = k; target = t }))) }
+
+  one_admits : (k : ℕ) → Admits setup k before taken sent a → Admits setup k before taken items b → Same
+  one_admits k x y =
+      let t = same_ordered k y.peering x.peering y.target x.target (sym y.takes ∙ x.takes) in
+      let l = subst (λ (z : ℕ). before.places z ≡ Live y.session None) t.0 y.live.is in
+      let s : y.session ≡ x.session = same_session y.session x.session None None (sym l ∙ x.live.is) in (
+        y.sends ∙ sym x.sends,
+        y.effect ∙ (ap (λ (z : ℕ). with_order k z y.target y.session) t.0 ∙ (ap (λ (z : ℕ). with_order k x.peering z y.session) t.1 ∙ (ap (λ (z : SessionValue). with_order k x.peering x.target z) s ∙ sym x.effect))),
+      )
+
+  has_live : (k p t : ℕ) (s : SessionValue) → before.places p ≡ Live s (Some (record { graft = k; target = t })) → HasGraft k (before.places p)
+  has_live k p t s e = subst (λ (z : Place). HasGraft k z) (sym e) refl
+
+  has_frozen : (k p t : ℕ) (s : SessionValue) → before.places p ≡ Frozen s (record { graft = k; target = t }) → HasGraft k (before.places p)
+  has_frozen k p t s e = subst (λ (z : Place). HasGraft k z) (sym e) refl
+
+  abbrev target_of : Option Order → ℕ
+  target_of None = 0
+  target_of (Some o) = o.target
+
+  order_target : (k t u : ℕ) (s v : SessionValue) → Live s (Some (record { graft = k; target = t })) ≡ Live v (Some (record { graft = k; target = u })) → t ≡ u
+  order_target k t u s v e = ap (λ (x : Option Order). target_of x) (same_order s v (Some (record { graft = k; target = t })) (Some (record { graft = k; target = u })) e)
+
+  abbrev session_in : SessionValue → Place → SessionValue
+  session_in s (Frozen z o) = z
+  session_in s x = s
+
+  abbrev frozen_target : Place → ℕ
+  frozen_target (Frozen z o) = o.target
+  frozen_target x = 0
+
+  frozen_session : (k t u : ℕ) (s v : SessionValue) → Frozen s (record { graft = k; target = t }) ≡ Frozen v (record { graft = k; target = u }) → (s ≡ v) × (t ≡ u)
+  frozen_session k t u s v e = (ap (λ (x : Place). session_in s x) e, ap (λ (x : Place). frozen_target x) e)
+
+  same_refusal : (x y : Refusal) → Some x ≡ Some y → x ≡ y
+  same_refusal x y e = cc
+
+  abbrev cause_of : ℕ → SessionValue → Option Refusal
+  cause_of t s = Rattle.graft_steps.specs.Refusals.freeze_refusal (record { 0 = r }) (record { 0 = t }) (state s) (Rattle.session_value.specs.Sessions.hold_time s)
+
+  abbrev alone_at : ℕ → SessionValue → RouterPart
+  alone_at p s = record before { places = at before.places p (Live s None) }
+
+  one_refuses : (k : ℕ) → HasOnce k before → Refuses r k before taken sent a → Refuses r k before taken items b → Same
+  one_refuses k once x y =
+      let p : y.peering ≡ x.peering = once y.peering x.peering (has_live k y.peering y.target y.session y.live.is) (has_live k x.peering x.target x.session x.live.is) in
+      let l = sym (subst (λ (z : ℕ). before.places z ≡ Live y.session (Some (record { graft = k; target = y.target }))) p y.live.is) ∙ x.live.is in
+      let s : y.session ≡ x.session = same_session y.session x.session (Some (record { graft = k; target = y.target })) (Some (record { graft = k; target = x.target })) l in
+      let t : y.target ≡ x.target = order_target k y.target x.target y.session x.session l in
+      let c = ap (λ (z : SessionValue). cause_of y.target z) s ∙ ap (λ (z : ℕ). cause_of z x.session) t in
+      let f : y.refusal ≡ x.refusal = same_refusal y.refusal x.refusal (sym y.cause ∙ (c ∙ x.cause)) in (
+        y.sends ∙ (ap (λ (z : Refusal). ReportOut (record { graft = k; outcome = Refused z }) ∷ []) f ∙ sym x.sends),
+        y.effect ∙ (ap (λ (z : ℕ). alone_at z y.session) p ∙ (ap (λ (z : SessionValue). alone_at x.peering z) s ∙ sym x.effect)),
+      )
+
+  abbrev frozen_at : ℕ → ℕ → SessionValue → ℕ → RouterPart
+  frozen_at k p s t = record before { places = at before.places p (Frozen s (record { graft = k; target = t })) }
+
+  one_freezes : (k : ℕ) → HasOnce k before → Freezes r k before taken sent a → Freezes r k before taken items b → Same
+  one_freezes k once x y =
+      let p : y.peering ≡ x.peering = once y.peering x.peering (has_live k y.peering y.target y.session y.live.is) (has_live k x.peering x.target x.session x.live.is) in
+      let l = sym (subst (λ (z : ℕ). before.places z ≡ Live y.session (Some (record { graft = k; target = y.target }))) p y.live.is) ∙ x.live.is in
+      let s : y.session ≡ x.session = same_session y.session x.session (Some (record { graft = k; target = y.target })) (Some (record { graft = k; target = x.target })) l in
+      let t : y.target ≡ x.target = order_target k y.target x.target y.session x.session l in (
+        y.alone.1 ∙ sym x.alone.1,
+        y.effect ∙ (ap (λ (z : ℕ). frozen_at k z y.session y.target) p ∙ (ap (λ (z : SessionValue). frozen_at k x.peering z y.target) s ∙ (ap (λ (z : ℕ). frozen_at k x.peering x.session z) t ∙ sym x.effect))),
+      )
+
+  one_leaves : (k : ℕ) → HasOnce k before → Leaves k before taken sent a → Leaves k before taken items b → Same
+  one_leaves k once x y =
+      let p : y.peering ≡ x.peering = once y.peering x.peering (has_frozen k y.peering y.target y.session y.frozen) (has_frozen k x.peering x.target x.session x.frozen) in
+      let f = frozen_session k y.target x.target y.session x.session (sym (subst (λ (z : ℕ). before.places z ≡ Frozen y.session (record { graft = k; target = y.target })) p y.frozen) ∙ x.frozen) in (
+        y.sends ∙ (ap (λ (z : ℕ). MeshTo y.target (Moved k z y.session) ∷ []) p ∙ (ap (λ (z : SessionValue). MeshTo y.target (Moved k x.peering z) ∷ []) f.0 ∙ (ap (λ (z : ℕ). MeshTo z (Moved k x.peering x.session) ∷ []) f.1 ∙ sym x.sends))),
+        y.effect ∙ (ap (λ (z : ℕ). let v : RouterPart = record before { places = at before.places z (Shadow k); due_out = at before.due_out z map.empty } in v) p ∙ sym x.effect),
+      )
+
+  -- an item that brings a session, or ends a graft
+  moved_is : (q k l p m : ℕ) (s t : SessionValue) → Some (MeshIn q (Moved k p s)) ≡ Some (MeshIn q (Moved l m t)) → (k ≡ l) × (p ≡ m) × (s ≡ t)
+  moved_is q k l p m s t e = (cc, cc, cc)
+
+  back_is : (q k l p m : ℕ) (s t : SessionValue) (f g : Refusal) → Some (MeshIn q (Back k p s f)) ≡ Some (MeshIn q (Back l m t g)) → (k ≡ l) × (p ≡ m) × (s ≡ t) × (f ≡ g)
+  back_is q k l p m s t f g e = (cc, cc, cc, cc)
+
+  done_is : (q k l p m : ℕ) → Some (MeshIn q (Done k p)) ≡ Some (MeshIn q (Done l m)) → (k ≡ l) × (p ≡ m)
+  done_is q k l p m e = (cc, cc)
+
+  abbrev landed_at : ℕ → SessionValue → Entries → Prefixes → Prefixes → RouterPart
+  landed_at p s entries dirty due = record before { places = at before.places p (Live s None); entries = at before.entries p entries; dirty = dirty; due_out = at before.due_out p due }
+
+  -- what landing leaves, of the peering and the session that came
+  record Landed (p : ℕ) (s : SessionValue) (v : RouterPart) : Type 0 where
+    entries : BringsIn setup r s (v.entries p)
+    dirty : Rattle.graft_model.specs.Sets.Marks before.dirty (before.entries p) (v.entries p) v.dirty
+    due : DueAgain before s (v.due_out p)
+    effect : v ≡ landed_at p s (v.entries p) v.dirty (v.due_out p)
+
+  one_landed : (p : ℕ) (s : SessionValue) → Landed p s a → Landed p s b → b ≡ a
+  one_landed p s x y =
+      let e : b.entries p ≡ a.entries p = same_table (b.entries p) (a.entries p) (λ q. y.entries q ∙ sym (x.entries q)) in
+      let d : b.dirty ≡ a.dirty = same_marks before.dirty b.dirty a.dirty (before.entries p) (a.entries p) (subst (λ (z : Entries). Rattle.graft_model.specs.Sets.Marks before.dirty (before.entries p) z b.dirty) e y.dirty) x.dirty in
+      let u : b.due_out p ≡ a.due_out p = same_set (b.due_out p) (a.due_out p) (λ q. y.due.members q ∙ sym (x.due.members q)) in
+      y.effect ∙ (ap (λ (z : Entries). landed_at p s z b.dirty (b.due_out p)) e ∙ (ap (λ (z : Prefixes). landed_at p s (a.entries p) z (b.due_out p)) d ∙ (ap (λ (z : Prefixes). landed_at p s (a.entries p) a.dirty z) u ∙ sym x.effect)))
+
+  abbrev landing_items : ℕ → ℕ → ℕ → List RouterSent
+  landing_items q k p = OutwardTo p (PointAt k) ∷ MeshTo q (Done k p) ∷ []
+
+  one_lands : (q : ℕ) → Lands setup r q before taken sent a → Lands setup r q before taken items b → Same
+  one_lands q x y =
+      let t = moved_is q y.comes.graft x.comes.graft y.comes.peering x.comes.peering y.comes.session x.comes.session (sym y.comes.takes ∙ x.comes.takes) in
+      let here : Landed y.comes.peering y.comes.session b = record { entries = y.entries; dirty = y.dirty; due = y.due; effect = y.effect } in
+      let there : Landed x.comes.peering x.comes.session a = record { entries = x.entries; dirty = x.dirty; due = x.due; effect = x.effect } in (
+        y.sends ∙ (ap (λ (k : ℕ). landing_items q k y.comes.peering) t.0 ∙ (ap (λ (p : ℕ). landing_items q x.comes.graft p) t.1 ∙ sym x.sends)),
+        one_landed x.comes.peering x.comes.session there (subst (λ (z : SessionValue). Landed x.comes.peering z b) t.2 (subst (λ (z : ℕ). Landed z y.comes.session b) t.1 here)),
+      )
+
+  one_turns_back : (q : ℕ) → TurnsBack setup r q before taken sent a → TurnsBack setup r q before taken items b → Same
+  one_turns_back q x y =
+      let t = moved_is q y.comes.graft x.comes.graft y.comes.peering x.comes.peering y.comes.session x.comes.session (sym y.comes.takes ∙ x.comes.takes) in
+      let f : y.refusal ≡ x.refusal = same_refusal y.refusal x.refusal (sym y.cause ∙ (ap (λ (s : SessionValue). refusal_of setup r before s) t.2 ∙ x.cause)) in (
+        y.sends ∙ (ap (λ (k : ℕ). MeshTo q (Back k y.comes.peering y.comes.session y.refusal) ∷ []) t.0 ∙ (ap (λ (p : ℕ). MeshTo q (Back x.comes.graft p y.comes.session y.refusal) ∷ []) t.1 ∙ (ap (λ (s : SessionValue). MeshTo q (Back x.comes.graft x.comes.peering s y.refusal) ∷ []) t.2 ∙ (ap (λ (z : Refusal). MeshTo q (Back x.comes.graft x.comes.peering x.comes.session z) ∷ []) f ∙ sym x.sends)))),
+        y.stays ∙ sym x.stays,
+      )
+
+  abbrev back_at : ℕ → SessionValue → Prefixes → RouterPart
+  back_at p s due = record before { places = at before.places p (Live s None); due_out = at before.due_out p due }
+
+  one_returns : (q : ℕ) → Returns q before taken sent a → Returns q before taken items b → Same
+  one_returns q x y =
+      let t = back_is q y.graft x.graft y.peering x.peering y.session x.session y.refusal x.refusal (sym y.takes ∙ x.takes) in
+      let here : DueAgain before x.session (b.due_out x.peering) = subst (λ (z : SessionValue). DueAgain before z (b.due_out x.peering)) t.2 (subst (λ (z : ℕ). DueAgain before y.session (b.due_out z)) t.1 y.due) in
+      let u : b.due_out x.peering ≡ a.due_out x.peering = same_set (b.due_out x.peering) (a.due_out x.peering) (λ q. here.members q ∙ sym (x.due.members q)) in (
+        y.sends ∙ (ap (λ (k : ℕ). ReportOut (record { graft = k; outcome = Refused y.refusal }) ∷ []) t.0 ∙ (ap (λ (z : Refusal). ReportOut (record { graft = x.graft; outcome = Refused z }) ∷ []) t.3 ∙ sym x.sends)),
+        y.effect ∙ (ap (λ (p : ℕ). back_at p y.session (b.due_out p)) t.1 ∙ (ap (λ (s : SessionValue). back_at x.peering s (b.due_out x.peering)) t.2 ∙ (ap (λ (z : Prefixes). back_at x.peering x.session z) u ∙ sym x.effect))),
+      )
+
+  abbrev cleared_at : ℕ → Prefixes → RouterPart
+  cleared_at p dirty = record before { places = at before.places p Vacant; entries = at before.entries p map.empty; dirty = dirty }
+
+  one_clears : (q : ℕ) → Clears q before taken sent a → Clears q before taken items b → Same
+  one_clears q x y =
+      let t = done_is q y.graft x.graft y.peering x.peering (sym y.takes ∙ x.takes) in
+      let d : b.dirty ≡ a.dirty = same_marks before.dirty b.dirty a.dirty (before.entries x.peering) map.empty (subst (λ (z : ℕ). Rattle.graft_model.specs.Sets.Marks before.dirty (before.entries z) map.empty b.dirty) t.1 y.dirty) x.dirty in (
+        y.sends ∙ (ap (λ (k : ℕ). ReportOut (record { graft = k; outcome = Accepted }) ∷ []) t.0 ∙ sym x.sends),
+        y.effect ∙ (ap (λ (p : ℕ). cleared_at p b.dirty) t.1 ∙ (ap (λ (z : Prefixes). cleared_at x.peering z) d ∙ sym x.effect)),
+      )
+
+pub one_router : (setup : Setup) (r : ℕ) (event : RouterEvent) (before a b : RouterPart) (taken : Option RouterTaken) (sent items : List RouterSent)
+    → HasOneOutcome event before → router_row setup r event before taken sent a → router_row setup r event before taken items b → (items ≡ sent) × (b ≡ a)
+one_router setup r (Put p zero) before a b taken sent items one x y = one_nothing setup r before a b taken sent items p x y
+one_router setup r (Put p (suc n)) before a b taken sent items one x y = absurd one
+one_router setup r (Emit p from len) before a b taken sent items one x y = one_emits setup r before a b taken sent items p from len x y
+one_router setup r (Arrive p) before a b taken sent items one x y = one_arrives setup r before a b taken sent items p x y
+one_router setup r (Stray p) before a b taken sent items one x y = one_strays setup r before a b taken sent items p x y
+one_router setup r (Got p) before a b taken sent items one x y = one_gets setup r before a b taken sent items p x y
+one_router setup r (Decide prefix) before a b taken sent items one x y = one_decides setup r before a b taken sent items prefix x y
+one_router setup r (Tell q prefix) before a b taken sent items one x y = one_tells setup r before a b taken sent items q prefix x y
+one_router setup r (Hear q) before a b taken sent items one x y = one_hears setup r before a b taken sent items q x y
+one_router setup r (Admit k) before a b taken sent items one x y = one_admits setup r before a b taken sent items k x y
+one_router setup r (Refuse k) before a b taken sent items one x y = one_refuses setup r before a b taken sent items k one x y
+one_router setup r (Freeze k) before a b taken sent items one x y = one_freezes setup r before a b taken sent items k one x y
+one_router setup r (Leave k) before a b taken sent items one x y = one_leaves setup r before a b taken sent items k one x y
+one_router setup r (Land q) before a b taken sent items one x y = one_lands setup r before a b taken sent items q x y
+one_router setup r (TurnBack q) before a b taken sent items one x y = one_turns_back setup r before a b taken sent items q x y
+one_router setup r (Return q) before a b taken sent items one x y = one_returns setup r before a b taken sent items q x y
+one_router setup r (Clear q) before a b taken sent items one x y = one_clears setup r before a b taken sent items q x y
+one_router setup r (Tick p round) before a b taken sent items one x y = one_ticks setup r before a b taken sent items p round x y
