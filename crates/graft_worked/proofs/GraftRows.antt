@@ -43,7 +43,7 @@ pub state_is : state session ≡ Established
 unfolding header_fault
 state_is = refl
 
-hold_is : hold_time session ≡ 0
+pub hold_is : hold_time session ≡ 0
 unfolding message_of header_fault frame_at body_of open_of many many_within cap_at caps_of params_of
 hold_is = refl
 

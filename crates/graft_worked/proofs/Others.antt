@@ -7,11 +7,16 @@ use Rattle.bgp_story.specs.WorkedSessions.{keepalive_bytes}
 use Rattle.graft_steps.specs.declared.refusal.Refusal.TheVariants.{SameRouter, RouterFull}
 use Rattle.graft_steps.specs.declared.refusal.Outcome.TheVariants.{Refused}
 use Rattle.graft_model.specs.Sets.{has}
-use Rattle.graft_model.specs.Parts.{Vacant, Live, Shadow, Moved, Back, World}
+use Rattle.graft_model.specs.Parts.{Place, Vacant, Live, Frozen, Shadow, Moved, Back, World}
 use Rattle.graft_model.specs.RouterRows.{SegmentIn, MeshIn, MeshTo, ReportOut, Strays}
 use Rattle.graft_model.specs.GraftRows.{Refuses, TurnsBack, Returns, is_taken}
 use Rattle.graft_model.specs.FarRows.{Homeward, Loses, Beats}
-use Rattle.graft_model.specs.Steps.{Stray, Refuse, TurnBack, Return, Lose, Go, Beat, ByRouter, ByFar, ByOperator, Step}
+use Rattle.graft_model.specs.Laws.{MayStillHappen}
+use Rattle.graft_model.proofs.Still.{still}
+use Rattle.graft_worked.proofs.GraftRows.{hold_is}
+use Rattle.graft_worked.proofs.GraftEnds.{quiet_after}
+use Rattle.session_value.specs.Sessions.{hold_time}
+use Rattle.graft_model.specs.Steps.{Event, Tick, Stray, Refuse, TurnBack, Return, Lose, Go, Beat, ByRouter, ByFar, ByOperator, Step}
 use Rattle.graft_worked.specs.Base.{base}
 use Rattle.graft_worked.specs.Places.{nothing, world_of, idle_router, idle_far}
 use Rattle.graft_worked.specs.First.{a_first}
@@ -69,6 +74,23 @@ no_beat round after step =
     let none : ◌≡◌ {A = ℕ} 0 step.row.beat = ap (λ o. unwrap_or o 0) step.row.is in
     let some : 0 < step.row.beat = step.row.some in
     absurd (omega arith)
+
+held_hold : Place → ℕ
+held_hold Vacant = 0
+held_hold (Live held order) = hold_time held
+held_hold (Frozen held order) = hold_time held
+held_hold (Shadow graft) = 0
+
+pub no_tick : (round : ℕ) (after : World) → Step base (ByRouter 1 (Tick 0 round)) after_graft after → ⊥
+unfolding held_hold
+no_tick round after step =
+    let same : hold_time session ≡ hold_time step.row.session = ap held_hold step.row.live.is in
+    let none : hold_time session ≡ 0 = hold_is in
+    let runs : 0 < hold_time step.row.session = step.row.passes.runs in
+    absurd (omega arith)
+
+pub little_moves : (event : Event) (after : World) → Step base event after_graft after → MayStillHappen event
+little_moves event after step = still base event after_graft after quiet_after step
 
 -- ---- in another setup
 

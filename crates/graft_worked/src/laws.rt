@@ -3,9 +3,10 @@
 ghost use Rattle.std.specs.Prelude.{◌≡◌, ◌++◌, ℕ};
 ghost use Rattle.graft_model.specs.Claims.{Solves};
 ghost use Rattle.graft_model.specs.First.{first_world};
+ghost use Rattle.graft_model.specs.Laws.{MayStillHappen};
 ghost use Rattle.graft_model.specs.Quiet.{Quiet};
 ghost use Rattle.graft_model.specs.Setups.{IsSetup};
-ghost use Rattle.graft_model.specs.Steps.{Run, Step, ByRouter, ByFar, ByOperator, Stray, Refuse, TurnBack, Return, Lose, Beat, Go};
+ghost use Rattle.graft_model.specs.Steps.{Run, Step, Event, Tick, ByRouter, ByFar, ByOperator, Stray, Refuse, TurnBack, Return, Lose, Beat, Go};
 ghost use Rattle.graft_model.specs.FarRows.{Homeward};
 ghost use Rattle.graft_model.specs.Parts.{World};
 ghost use Rattle.graft_worked.specs.Others as others;
@@ -50,8 +51,11 @@ pub fn other_events_may_happen()
     ensures beat { Step others.beating (ByFar 0 (Beat 30)) before_graft others.with_beat }
 {}
 
-/// At the end of the worked run no further group begins, and its remote never says a KEEPALIVE by a timer.
+/// At the end of the worked run no item is taken and nothing is put, said, delivered, decided or moved. No further group begins, no round
+/// passes on the session, which has no hold time, and its remote never says a KEEPALIVE by a timer.
 pub fn some_events_never_happen()
+    ensures others { (event : Event) (after : World) → Step base event after_graft after → MayStillHappen event }
     ensures go { (after : World) → ¬ Step base (ByOperator Go) after_graft after }
+    ensures tick { (round : ℕ) (after : World) → ¬ Step base (ByRouter 1 (Tick 0 round)) after_graft after }
     ensures beat { (round : ℕ) (after : World) → ¬ Step base (ByFar 0 (Beat round)) after_graft after }
 {}
