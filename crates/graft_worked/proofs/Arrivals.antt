@@ -95,8 +95,14 @@ ack_arrives = inr (record {
 
 pub all_arrives : Arrives 0 a_first (Some (SegmentIn 0 said_segment)) [] (a_with session_arrived)
 all_arrives = record {
-  session = session_first; order = None; live = record { is = refl }; segment = said_segment; takes = refl; sends = refl;
-  end = session_arrived.end; arrives = said_arrives;
+  session = session_first;
+  order = None;
+  live = record { is = refl };
+  segment = said_segment;
+  takes = refl;
+  sends = refl;
+  end = session_arrived.end;
+  arrives = said_arrives;
   effect = λ i. record (a_with session_arrived) { places = sym (at-at (λ p. Vacant) 0 (Live session_first None) (Live session_arrived None)) i };
 }
 
@@ -105,7 +111,13 @@ all_reaches = record { segment = put_segment; there = refl; end = far_reached.en
 
 pub acknowledged : Arrives 0 (a_got session_emitted) (Some (SegmentIn 0 ack_segment)) [] (a_got session)
 acknowledged = record {
-  session = session_emitted; order = None; live = record { is = refl }; segment = ack_segment; takes = refl; sends = refl;
-  end = session.end; arrives = ack_arrives;
+  session = session_emitted;
+  order = None;
+  live = record { is = refl };
+  segment = ack_segment;
+  takes = refl;
+  sends = refl;
+  end = session.end;
+  arrives = ack_arrives;
   effect = λ i. record (a_got session) { places = sym (at-at (λ p. Vacant) 0 (Live session_emitted None) (Live session None)) i };
 }

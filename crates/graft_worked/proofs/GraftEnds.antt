@@ -154,8 +154,13 @@ from_b prefix best = choice (candidates 65000 prefix false [] (record { router =
 
 from_both : PrefixValue → Option Attrs → Option Best → Option Best
 from_both prefix heard best = choice (candidates 65000 prefix false (record {
-    peering = config.peering; remote_as = 65001; identifier = remote_identifier session; address = 0xC0000201; import_rules = None; heard = heard;
-  } ∷ []) (record { router = record { 0 = 0 }; identifier = identifier_of base 0; cost = cost_between base 1 0; told = tell_in best } ∷ []))
+  peering = config.peering;
+  remote_as = 65001;
+  identifier = remote_identifier session;
+  address = 0xC0000201;
+  import_rules = None;
+  heard = heard;
+} ∷ []) (record { router = record { 0 = 0 }; identifier = identifier_of base 0; cost = cost_between base 1 0; told = tell_in best } ∷ []))
 
 from_b_is : (prefix : PrefixValue) (t : Bool) → from_b prefix (cond t (Some over_peering) None) ≡ cond t (Some (over_router 1)) None
 unfolding from_b choice left_of keep
@@ -214,9 +219,9 @@ solves_after = record {
       (best_at_a prefix ∙ sym (routes_at_a prefix)) (best_at_b prefix ∙ sym (routes_at_b prefix)) r lt;
   tellings = λ r q prefix lr lq. below_two (λ r. r ≢ q → map.get ((after_graft.router q).tellings r) prefix ≡ tell_in (map.get (after_graft.router r).best prefix))
       (below_two (λ q. 0 ≢ q → map.get ((after_graft.router q).tellings 0) prefix ≡ tell_in (map.get (after_graft.router 0).best prefix))
-          (λ other. absurd (other refl)) (λ other. got_none prefix ∙ (told_to_b (is_ten prefix) ∙ ap tell_in (sym (got_ten (over_router 1) prefix)))) q lq)
+      (λ other. absurd (other refl)) (λ other. got_none prefix ∙ (told_to_b (is_ten prefix) ∙ ap tell_in (sym (got_ten (over_router 1) prefix)))) q lq)
       (below_two (λ q. 1 ≢ q → map.get ((after_graft.router q).tellings 1) prefix ≡ tell_in (map.get (after_graft.router 1).best prefix))
-          (λ other. got_ten route prefix ∙ (told_to_a (is_ten prefix) ∙ ap tell_in (sym (got_ten over_peering prefix)))) (λ other. absurd (other refl)) q lq)
+      (λ other. got_ten route prefix ∙ (told_to_a (is_ten prefix) ∙ ap tell_in (sym (got_ten over_peering prefix)))) (λ other. absurd (other refl)) q lq)
       r lr;
   peerings = below_one (SolvesOn base after_graft) peering_solves;
 }

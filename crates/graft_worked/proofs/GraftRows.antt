@@ -88,21 +88,36 @@ vacant = λ p. Vacant
 
 pub admits : Admits base 1 a_before (Some (OrderIn (record { graft = 1; peering = 0; target = 1 }))) [] a_ordered
 admits = record {
-  peering = 0; target = 1; takes = refl; sends = refl; known = lit< tt; session = session; live = record { is = refl };
+  peering = 0;
+  target = 1;
+  takes = refl;
+  sends = refl;
+  known = lit< tt;
+  session = session;
+  live = record { is = refl };
   effect = λ i. record a_before { places = sym (at-at (λ p. Vacant) 0 (Live session None) (Live session (Some to_b))) i };
 }
 
 pub freezes : Freezes 0 1 a_ordered None [] a_frozen
 unfolding message_of header_fault frame_at body_of open_of many many_within cap_at caps_of params_of
 freezes = record {
-  alone = (refl, refl); peering = 0; target = 1; session = session; live = record { is = refl };
+  alone = (refl, refl);
+  peering = 0;
+  target = 1;
+  session = session;
+  live = record { is = refl };
   no_cause = refl;
   effect = λ i. record a_before { places = sym (at-at (λ p. Vacant) 0 (Live session (Some to_b)) (Frozen session to_b)) i };
 }
 
 pub leaves : Leaves 1 a_frozen None (MeshTo 1 (Moved 1 0 session) ∷ []) a_left
 leaves = record {
-  peering = 0; target = 1; session = session; frozen = refl; takes = refl; sends = refl;
+  peering = 0;
+  target = 1;
+  session = session;
+  frozen = refl;
+  takes = refl;
+  sends = refl;
   effect = λ i. record a_before { places = sym (at-at (λ p. Vacant) 0 (Frozen session to_b) (Shadow 1)) i; due_out = sym (at-same empty 0) i };
 }
 
@@ -136,7 +151,11 @@ points = record { graft = 1; takes = refl; sends = refl; effect = refl }
 
 pub clears : Clears 1 a_left (Some (MeshIn 1 (Done 1 0))) (ReportOut (record { graft = 1; outcome = Accepted }) ∷ []) a_cleared
 clears = record {
-  graft = 1; peering = 0; takes = refl; shadow = refl; sends = refl;
+  graft = 1;
+  peering = 0;
+  takes = refl;
+  shadow = refl;
+  sends = refl;
   dirty = marks_old entry;
   effect = λ i. record a_cleared { places = sym (at-back Vacant (Shadow 1) 0) i; entries = sym (at-back empty (at_ten entry) 0) i };
 }
@@ -254,14 +273,20 @@ a_tells = record {
 
 pub a_hears : Hears 1 a_cleared (Some (MeshIn 1 (Told ten (Some route)))) [] a_told
 a_hears = record {
-  prefix = ten; route = Some route; takes = refl; sends = refl;
+  prefix = ten;
+  route = Some route;
+  takes = refl;
+  sends = refl;
   dirty = inr ((λ e. let apart : ◌≡◌ {A = Bool} true false = ap is_some (e ∙ got_none ten) in cc), sym (again tt tt));
   effect = refl;
 }
 
 pub b_hears : Hears 0 b_told (Some (MeshIn 0 (Told ten None))) [] b_heard
 b_hears = record {
-  prefix = ten; route = None; takes = refl; sends = refl;
+  prefix = ten;
+  route = None;
+  takes = refl;
+  sends = refl;
   dirty = inr ((λ e. let apart : ◌≡◌ {A = Bool} false true = ap is_some (e ∙ got_it route) in cc), refl);
   effect = λ i. record b_heard { tellings = sym (ap (at b_told.tellings 0) (gone route) ∙ at-back empty (at_ten route) 0) i };
 }

@@ -12,22 +12,72 @@ use Rattle.graft_worked.proofs.Moves.{a_alone, a_to_b, a_ordered_by, a_from_b, a
 use Rattle.graft_worked.proofs.GraftRows.{goes, orders, notes, admits, freezes, leaves, lands, points, clears, b_decides, a_decides, b_decides_again, b_tells, a_tells, a_hears, b_hears, b_puts_nothing}
 
 pub graft_runs : Quiet base before_graft → Run base before_graft graft_events after_graft
-graft_runs quiet =
-    (_, operator_alone a_before b_before far_before operator_before nothing Go operator_begun quiet goes,
-    (_, operator_orders a_before b_before far_before operator_begun nothing (Order 2) operator_ordered (record { graft = 1; peering = 0; target = 1 }) tt (inr orders),
-    (_, a_ordered_by a_before b_before far_before operator_ordered nothing (Admit 1) a_ordered (record { graft = 1; peering = 0; target = 1 }) [] admits,
-    (_, a_alone a_ordered b_before far_before operator_ordered nothing (Freeze 1) a_frozen freezes,
-    (_, a_to_b a_frozen b_before far_before operator_ordered nothing (Leave 1) a_left (Moved 1 0 session) leaves,
-    (_, b_takes_in a_left b_before far_before operator_ordered nothing (Land 0) b_landed (Moved 1 0 session) (Done 1 0) [] (PointAt 1) lands,
-    (_, far_from_b a_left b_landed far_before operator_ordered (record nothing { to_a = Done 1 0 ∷ [] }) (Point 1) far_after (PointAt 1) [] points,
-    (_, a_ends a_left b_landed far_after operator_ordered nothing (Clear 1) a_cleared (Done 1 0) [] (record { graft = 1; outcome = Accepted }) clears,
-    (_, operator_notes a_cleared b_landed far_after operator_ordered nothing (Note 0) operator_after (record { graft = 1; outcome = Accepted }) [] tt notes,
-    (_, b_alone a_cleared b_landed far_after operator_after nothing (Decide ten) b_decided b_decides,
-    (_, b_alone a_cleared b_decided far_after operator_after nothing (Put 0 0) b_put b_puts_nothing,
-    (_, b_to_a a_cleared b_put far_after operator_after nothing (Tell 0 ten) b_told (Told ten (Some route)) b_tells,
-    (_, a_from_b a_cleared b_told far_after operator_after nothing (Hear 1) a_told (Told ten (Some route)) [] a_hears,
-    (_, a_alone a_told b_told far_after operator_after nothing (Decide ten) a_decided a_decides,
-    (_, a_to_b a_decided b_told far_after operator_after nothing (Tell 1 ten) a_after (Told ten None) a_tells,
-    (_, b_from_a a_after b_told far_after operator_after nothing (Hear 0) b_heard (Told ten None) [] b_hears,
-    (_, b_alone a_after b_heard far_after operator_after nothing (Decide ten) b_after b_decides_again,
-    refl)))))))))))))))))
+graft_runs quiet = (
+  _,
+  operator_alone a_before b_before far_before operator_before nothing Go operator_begun quiet goes,
+  (
+    _,
+    operator_orders a_before b_before far_before operator_begun nothing (Order 2) operator_ordered (record { graft = 1; peering = 0; target = 1 }) tt (inr orders),
+    (
+      _,
+      a_ordered_by a_before b_before far_before operator_ordered nothing (Admit 1) a_ordered (record { graft = 1; peering = 0; target = 1 }) [] admits,
+      (
+        _,
+        a_alone a_ordered b_before far_before operator_ordered nothing (Freeze 1) a_frozen freezes,
+        (
+          _,
+          a_to_b a_frozen b_before far_before operator_ordered nothing (Leave 1) a_left (Moved 1 0 session) leaves,
+          (
+            _,
+            b_takes_in a_left b_before far_before operator_ordered nothing (Land 0) b_landed (Moved 1 0 session) (Done 1 0) [] (PointAt 1) lands,
+            (
+              _,
+              far_from_b a_left b_landed far_before operator_ordered (record nothing { to_a = Done 1 0 ∷ [] }) (Point 1) far_after (PointAt 1) [] points,
+              (
+                _,
+                a_ends a_left b_landed far_after operator_ordered nothing (Clear 1) a_cleared (Done 1 0) [] (record { graft = 1; outcome = Accepted }) clears,
+                (
+                  _,
+                  operator_notes a_cleared b_landed far_after operator_ordered nothing (Note 0) operator_after (record { graft = 1; outcome = Accepted }) [] tt notes,
+                  (
+                    _,
+                    b_alone a_cleared b_landed far_after operator_after nothing (Decide ten) b_decided b_decides,
+                    (
+                      _,
+                      b_alone a_cleared b_decided far_after operator_after nothing (Put 0 0) b_put b_puts_nothing,
+                      (
+                        _,
+                        b_to_a a_cleared b_put far_after operator_after nothing (Tell 0 ten) b_told (Told ten (Some route)) b_tells,
+                        (
+                          _,
+                          a_from_b a_cleared b_told far_after operator_after nothing (Hear 1) a_told (Told ten (Some route)) [] a_hears,
+                          (
+                            _,
+                            a_alone a_told b_told far_after operator_after nothing (Decide ten) a_decided a_decides,
+                            (
+                              _,
+                              a_to_b a_decided b_told far_after operator_after nothing (Tell 1 ten) a_after (Told ten None) a_tells,
+                              (
+                                _,
+                                b_from_a a_after b_told far_after operator_after nothing (Hear 0) b_heard (Told ten None) [] b_hears,
+                                (
+                                  _,
+                                  b_alone a_after b_heard far_after operator_after nothing (Decide ten) b_after b_decides_again,
+                                  refl,
+                                ),
+                              ),
+                            ),
+                          ),
+                        ),
+                      ),
+                    ),
+                  ),
+                ),
+              ),
+            ),
+          ),
+        ),
+      ),
+    ),
+  ),
+)

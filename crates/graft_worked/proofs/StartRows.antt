@@ -63,9 +63,13 @@ received_put = ap (run_from 0) (map.entries-from_sorted nat_cmp (enumerate_from 
 pub orders_say : OrdersSay base 0 operator_first None (SayTo 0 0 ∷ []) operator_before
 orders_say = record {
   next = record { group = refl; unissued = refl };
-  peering = 0; bytes = update_bytes; is = refl;
+  peering = 0;
+  bytes = update_bytes;
+  is = refl;
   earlier = λ m other lt. absurd (omega arith);
-  takes = refl; sends = refl; effect = refl;
+  takes = refl;
+  sends = refl;
+  effect = refl;
 }
 
 pub says : Says base 0 0 far_first (Some (SayIn 0)) [] far_said
@@ -76,10 +80,13 @@ sends_all = record {
   segment = said_segment;
   end = far_emitted.end;
   emits = record {
-    place = refl; size = refl;
+    place = refl;
+    size = refl;
     emits = inl (record { from = lit≤ tt; to = lit≤ tt; some = lit< tt; short = lit≤ tt; within = lit≤ tt; flight = lit≤ tt; slice = λ i. record said_segment { ack = sym (ap length received_none) i }; rises = refl });
   };
-  takes = refl; sends = refl; effect = refl;
+  takes = refl;
+  sends = refl;
+  effect = refl;
 }
 
 pub passes_all : Passes base 0 false 0 far_sent None (record { router = 0; segment = said_segment } ∷ []) far_emitted
@@ -90,10 +97,13 @@ sends_ack = record {
   segment = ack_segment;
   end = remote_end;
   emits = record {
-    place = refl; size = refl;
+    place = refl;
+    size = refl;
     emits = inr (record { empty = λ i. record ack_segment { ack = sym (ap length received_put) i }; given = refl });
   };
-  takes = refl; sends = refl; effect = refl;
+  takes = refl;
+  sends = refl;
+  effect = refl;
 }
 
 pub passes_ack : Passes base 0 false 0 far_answered None (record { router = 0; segment = ack_segment } ∷ []) far_before
@@ -104,14 +114,18 @@ takes_put = record { segment = put_segment; takes = refl; sends = refl; effect =
 
 pub emits_all : Emits 0 0 48 (a_got session_heard) None (OutwardTo 0 (Seg put_segment) ∷ []) (a_got session_emitted)
 emits_all = record {
-  session = session_heard; order = None; live = record { is = refl };
+  session = session_heard;
+  order = None;
+  live = record { is = refl };
   segment = put_segment;
   end = session_emitted.end;
   emits = record {
-    place = refl; size = refl;
+    place = refl;
+    size = refl;
     emits = inl (record { from = lit≤ tt; to = lit≤ tt; some = lit< tt; short = lit≤ tt; within = lit≤ tt; flight = lit≤ tt; slice = λ i. record put_segment { ack = sym (ap length received_said) i }; rises = refl });
   };
-  takes = refl; sends = refl;
+  takes = refl;
+  sends = refl;
   effect = λ i. record (a_got session_emitted) { places = sym (at-at (λ p. Vacant) 0 (Live session_heard None) (Live session_emitted None)) i };
 }
 
@@ -120,7 +134,7 @@ emits_all = record {
 brought : PrefixValue → Option Attrs → Option Entry
 brought x attrs = option_map (λ route. record { route = route; identifier = remote_identifier session; address = session.config.remote_address }) (imported base.home_as x (session_route base 0 session x) attrs)
 
-marks_none : Marks empty (empty {A = Entry}) (empty {A = Entry}) empty
+pub marks_none : Marks empty (empty {A = Entry}) (empty {A = Entry}) empty
 marks_none = record { marked = λ x e. inl e; others = λ x e. (e, refl) }
 
 brings_none : (held : SessionValue) → held.heard ≡ map.empty → BringsIn base 0 held empty
@@ -132,19 +146,40 @@ a_arrived = a_with session_arrived
 gets_open : GetsFrame session_arrived open_bytes session_confirmed
 unfolding message_of header_fault frame_at body_of open_of many many_within cap_at caps_of params_of spell
 gets_open = record {
-  unclosed = λ e. cc; rest = keepalive_bytes ++ update_bytes; front = ap (drop 0) received_said; got = inl refl; answer = Put KeepaliveMsg ∷ []; next = OpenConfirm; reply = refl; effect = refl;
+  unclosed = λ e. cc;
+  rest = keepalive_bytes ++ update_bytes;
+  front = ap (drop 0) received_said;
+  got = inl refl;
+  answer = Put KeepaliveMsg ∷ [];
+  next = OpenConfirm;
+  reply = refl;
+  effect = refl;
 }
 
 gets_keepalive : GetsFrame session_confirmed keepalive_bytes session_joined
 unfolding message_of header_fault frame_at body_of open_of many many_within cap_at caps_of params_of spell
 gets_keepalive = record {
-  unclosed = λ e. cc; rest = update_bytes; front = ap (drop 29) received_said; got = inl refl; answer = []; next = Established; reply = refl; effect = refl;
+  unclosed = λ e. cc;
+  rest = update_bytes;
+  front = ap (drop 29) received_said;
+  got = inl refl;
+  answer = [];
+  next = Established;
+  reply = refl;
+  effect = refl;
 }
 
 gets_update : GetsFrame session_joined update_bytes session_heard
 unfolding message_of header_fault frame_at body_of open_of update_of fields_of prefixes_of prefix_at many many_within attrs_in attrs_fault own_fault origin_in path_in next_hop_in med_in atomic_in aggregator_in other_in found_in all_known part_at attr_at cap_at caps_of params_of merged_path
 gets_update = record {
-  unclosed = λ e. cc; rest = []; front = ap (drop 48) received_said; got = inl refl; answer = []; next = Established; reply = refl; effect = refl;
+  unclosed = λ e. cc;
+  rest = [];
+  front = ap (drop 48) received_said;
+  got = inl refl;
+  answer = [];
+  next = Established;
+  reply = refl;
+  effect = refl;
 }
 
 moved : (before after : SessionValue) → at (at (λ p. Vacant) 0 (Live before None)) 0 (Live after None) ≡ at (λ p. Vacant) 0 (Live after None)
@@ -153,9 +188,17 @@ moved before after = at-at (λ p. Vacant) 0 (Live before None) (Live after None)
 pub got_open_row : GetsNext base 0 0 a_arrived None [] (a_with session_confirmed)
 unfolding header_fault
 got_open_row = record {
-  alone = (refl, refl); session = session_arrived; order = None; live = record { is = refl }; bytes = open_bytes; next = session_confirmed; gets = gets_open;
+  alone = (refl, refl);
+  session = session_arrived;
+  order = None;
+  live = record { is = refl };
+  bytes = open_bytes;
+  next = session_confirmed;
+  gets = gets_open;
   follows = record {
-    entries = brings_none session_confirmed refl; dirty = marks_none; due = refl;
+    entries = brings_none session_confirmed refl;
+    dirty = marks_none;
+    due = refl;
     effect = λ i. record (a_with session_confirmed) { places = sym (moved session_arrived session_confirmed) i; entries = sym (at-same empty 0) i; due_out = sym (at-same empty 0) i };
   };
 }
@@ -163,9 +206,17 @@ got_open_row = record {
 pub got_keepalive_row : GetsNext base 0 0 (a_with session_confirmed) None [] (a_with session_joined)
 unfolding header_fault
 got_keepalive_row = record {
-  alone = (refl, refl); session = session_confirmed; order = None; live = record { is = refl }; bytes = keepalive_bytes; next = session_joined; gets = gets_keepalive;
+  alone = (refl, refl);
+  session = session_confirmed;
+  order = None;
+  live = record { is = refl };
+  bytes = keepalive_bytes;
+  next = session_joined;
+  gets = gets_keepalive;
   follows = record {
-    entries = brings_none session_joined refl; dirty = marks_none; due = λ x. some_in_none _ x ∙ sym (some_in_none _ x);
+    entries = brings_none session_joined refl;
+    dirty = marks_none;
+    due = λ x. some_in_none _ x ∙ sym (some_in_none _ x);
     effect = λ i. record (a_with session_joined) { places = sym (moved session_confirmed session_joined) i; entries = sym (at-same empty 0) i; due_out = sym (at-same empty 0) i };
   };
 }
@@ -181,9 +232,17 @@ brings_ten x = got_ten entry x ∙ sym (ap (brought x) (got_ten heard_attrs x) �
 pub got_update_row : GetsNext base 0 0 (a_with session_joined) None [] (a_got session_heard)
 unfolding header_fault
 got_update_row = record {
-  alone = (refl, refl); session = session_joined; order = None; live = record { is = refl }; bytes = update_bytes; next = session_heard; gets = gets_update;
+  alone = (refl, refl);
+  session = session_joined;
+  order = None;
+  live = record { is = refl };
+  bytes = update_bytes;
+  next = session_heard;
+  gets = gets_update;
   follows = record {
-    entries = brings_ten; dirty = marks_new entry; due = refl;
+    entries = brings_ten;
+    dirty = marks_new entry;
+    due = refl;
     effect = λ i. record (a_got session_heard) { places = sym (moved session_joined session_heard) i; due_out = sym (at-same empty 0) i };
   };
 }

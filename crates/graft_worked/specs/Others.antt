@@ -3,15 +3,18 @@ use Rattle.std.specs.Prelude.{[], ◌∷◌, ◌++◌, Some, true}
 use Rattle.std.specs.FinMap as map
 use Rattle.graft_steps.specs.declared.refusal.Refusal.TheVariants.{SameRouter, RouterFull}
 use Rattle.graft_steps.specs.declared.refusal.Outcome.TheVariants.{Refused}
-use Rattle.bgp_story.specs.WorkedSessions.{keepalive_bytes}
+use Rattle.bgp_story.specs.WorkedSessions.{keepalive_bytes, joined_lines}
+use Rattle.bgp_story.specs.declared.line.Line.TheVariants.{Tick}
+use Rattle.bgp_types.specs.Spelling.{framed}
+use Rattle.session_value.specs.Sessions.{SessionValue}
 use Rattle.graft_model.specs.Setups.{Setup}
 use Rattle.graft_model.specs.Points.{at}
 use Rattle.graft_model.specs.Parts.{Vacant, Live, RouterPart, Moved, Back, World}
 use Rattle.graft_worked.specs.Base.{router_a, router_b, config, peering_c, base}
 use Rattle.graft_worked.specs.Places.{idle_router, nothing, world_of}
 use Rattle.graft_worked.specs.First.{a_first}
-use Rattle.graft_worked.specs.Graft.{said_all, remote_end, ten_alone, session, a_before, b_before, far_before, operator_before, a_left, a_after, b_after, far_after, operator_ordered, operator_after}
-use Rattle.graft_worked.specs.Start.{ack_segment, far_sent, far_emitted}
+use Rattle.graft_worked.specs.Graft.{said_all, home_end, remote_end, ten_alone, session, a_before, b_before, far_before, operator_before, a_left, a_after, b_after, far_after, operator_ordered, operator_after}
+use Rattle.graft_worked.specs.Start.{a_with, ack_segment, far_sent, far_emitted}
 
 -- a segment on its way to a, which the session has left; and the same without it
 abbrev pub with_stray : World
@@ -63,3 +66,22 @@ with_segment = world_of a_first idle_router far_sent operator_before nothing
 
 abbrev pub without_segment : World
 without_segment = world_of a_first idle_router far_emitted operator_before nothing
+
+-- the session with a hold time of 90 seconds, established; and after its first round, which asks for no answer
+abbrev pub session_timed : SessionValue
+session_timed = record {
+  config = record config { home_hold = 90 };
+  story = joined_lines 90;
+  heard = map.empty;
+  told = map.empty;
+  end = record home_end { stream = framed 1 (0x04 ∷ 0xFD ∷ 0xE8 ∷ 0x00 ∷ 0x5A ∷ 0x0A ∷ 0xFF ∷ 0x00 ∷ 0x01 ∷ 0x00 ∷ []) ++ keepalive_bytes };
+}
+
+abbrev pub session_ticked : SessionValue
+session_ticked = record session_timed { story = joined_lines 90 ++ Tick 1 ∷ [] }
+
+abbrev pub with_round_due : World
+with_round_due = world_of (a_with session_timed) idle_router far_before operator_before nothing
+
+abbrev pub with_round : World
+with_round = world_of (a_with session_ticked) idle_router far_before operator_before nothing

@@ -49,6 +49,7 @@ pub fn other_events_may_happen()
     ensures comes_back { Step base (ByRouter 0 (Return 1)) others.with_back others.with_returned }
     ensures lose { Step base (ByFar 0 (Lose Homeward 0)) others.with_segment others.without_segment }
     ensures beat { Step others.beating (ByFar 0 (Beat 30)) before_graft others.with_beat }
+    ensures tick { Step others.beating (ByRouter 0 (Tick 0 1)) others.with_round_due others.with_round }
 {}
 
 /// At the end of the worked run no item is taken and nothing is put, said, delivered, decided or moved. No further group begins, no round
