@@ -1,4 +1,4 @@
-mod Still
+pub mod Still
 mod KindNumbers
 mod Same
 mod OneOutcome

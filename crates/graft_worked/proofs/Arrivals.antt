@@ -1,5 +1,5 @@
 -- The segments of the worked run arrive.
-use Rattle.std.proofs.Common.{◌≡◌, ℕ, zero, suc, ◌+◌, ◌-◌, ◌<◌, ◌≤◌, ◌==◌, ◌&&◌, nat_lt, nat_le, Bool, true, false, cond, List, [], ◌∷◌, length, Option, Some, None, refl, sym, ap, ◌∙◌, inl, inr, lit<, lit≤, arith}
+use Rattle.std.proofs.Common.{◌≡◌, ℕ, suc, ◌+◌, ◌-◌, ◌<◌, ◌≤◌, ◌==◌, ◌&&◌, nat_lt, nat_le, Bool, true, false, cond, List, [], ◌∷◌, length, Some, None, refl, sym, ap, ◌∙◌, inl, inr, lit<, lit≤, arith}
 use Rattle.std.specs.Prelude.{slice_get, T}
 use Rattle.std.specs.Cmp.{unsigned_tied}
 use Rattle.std.specs.FinMap as map
@@ -7,7 +7,7 @@ use Rattle.std.specs.List.{enumerate_from}
 use Rattle.std.specs.Option.{option_or}
 use Rattle.std.specs.Ordering.{nat_cmp}
 use Rattle.std.proofs.lemmas.Bool.Decides.{nat_tests}
-use Rattle.tcp_seq.specs.Endpoint.{Endpoint, PlacedSegment, Bytes, TakesSegment, IsAcceptable, bytes_in_order, received, byte_from, byte_brought}
+use Rattle.tcp_seq.specs.Endpoint.{Endpoint, Bytes, TakesSegment, bytes_in_order, received, byte_from, byte_brought}
 use Rattle.tcp_seq.specs.Rules.{AcceptablePlace}
 use Rattle.tcp_seq.proofs.Lookups.{or_none}
 use Rattle.tcp_seq.proofs.ByteFrom.{byte_below, byte_there, byte_past}
@@ -15,8 +15,8 @@ use Rattle.graft_model.specs.Parts.{Live, Vacant}
 use Rattle.graft_model.specs.RouterRows.{SegmentIn, Arrives}
 use Rattle.graft_model.specs.FarRows.{Reaches}
 use Rattle.graft_worked.specs.First.{session_first, a_first}
-use Rattle.graft_worked.specs.Graft.{put_all, said_all, from_zero, session, home_end, remote_end}
-use Rattle.graft_worked.specs.Start.{said_segment, put_segment, ack_segment, far_emitted, far_taken, far_reached, session_arrived, session_emitted, a_with, a_got}
+use Rattle.graft_worked.specs.Graft.{put_all, said_all, from_zero, session}
+use Rattle.graft_worked.specs.Start.{said_segment, put_segment, ack_segment, far_taken, far_reached, session_arrived, session_emitted, a_with, a_got}
 use Rattle.graft_worked.proofs.Points.{at-at}
 use Rattle.graft_worked.proofs.StartRows.{none_yet, received_none, received_said}
 
@@ -95,8 +95,14 @@ ack_arrives = inr (record {
 
 pub all_arrives : Arrives 0 a_first (Some (SegmentIn 0 said_segment)) [] (a_with session_arrived)
 all_arrives = record {
-  session = session_first; order = None; live = record { is = refl }; segment = said_segment; takes = refl; sends = refl;
-  end = session_arrived.end; arrives = said_arrives;
+  session = session_first;
+  order = None;
+  live = record { is = refl };
+  segment = said_segment;
+  takes = refl;
+  sends = refl;
+  end = session_arrived.end;
+  arrives = said_arrives;
   effect = λ i. record (a_with session_arrived) { places = sym (at-at (λ p. Vacant) 0 (Live session_first None) (Live session_arrived None)) i };
 }
 
@@ -105,7 +111,13 @@ all_reaches = record { segment = put_segment; there = refl; end = far_reached.en
 
 pub acknowledged : Arrives 0 (a_got session_emitted) (Some (SegmentIn 0 ack_segment)) [] (a_got session)
 acknowledged = record {
-  session = session_emitted; order = None; live = record { is = refl }; segment = ack_segment; takes = refl; sends = refl;
-  end = session.end; arrives = ack_arrives;
+  session = session_emitted;
+  order = None;
+  live = record { is = refl };
+  segment = ack_segment;
+  takes = refl;
+  sends = refl;
+  end = session.end;
+  arrives = ack_arrives;
   effect = λ i. record (a_got session) { places = sym (at-at (λ p. Vacant) 0 (Live session_emitted None) (Live session None)) i };
 }

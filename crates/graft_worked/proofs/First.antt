@@ -1,16 +1,16 @@
 -- The first world of the worked setup.
-use Rattle.std.proofs.Common.{◌≡◌, ℕ, zero, suc, ◌==◌, Bool, true, false, cond, List, [], ◌∷◌, Option, Some, None, refl, sym, ap, ◌∙◌, arith}
+use Rattle.std.proofs.Common.{◌≡◌, ℕ, zero, suc, ◌==◌, false, cond, None, refl, sym, ap, ◌∙◌, arith}
 use Rattle.std.specs.Prelude.{slice_get}
 use Rattle.std.proofs.lemmas.Bool.Decides.{nat_tests}
 use Rattle.bgp_types.specs.Spelling.{spell}
 use Rattle.session_value.specs.Sessions.{begun}
 use Rattle.graft_model.specs.First.{place_in, first_router, first_far, first_world}
 use Rattle.graft_model.specs.Points.{at}
-use Rattle.graft_model.specs.Parts.{Place, Vacant, Live, RouterPart, FarPart}
+use Rattle.graft_model.specs.Parts.{Vacant, Live}
 use Rattle.graft_worked.specs.Base.{base, peering_c}
-use Rattle.graft_worked.specs.Places.{two, idle_router, idle_far, nothing, world_of}
+use Rattle.graft_worked.specs.Places.{two, idle_router, idle_far}
 use Rattle.graft_worked.specs.First.{session_first, a_first, far_first, operator_first, first}
-use Rattle.graft_worked.proofs.Points.{at_all, empty_at, empty_two, empty_one}
+use Rattle.graft_worked.proofs.Points.{empty_at, empty_two, empty_one}
 
 not_zero : (n : ℕ) → (suc n == 0) ≡ false
 not_zero n = grind (arith, nat_tests)

@@ -1,5 +1,5 @@
 -- The worlds before and after the worked graft are quiet, and the last one solves.
-use Rattle.std.proofs.Common.{◌≡◌, ◌≢◌, ℕ, zero, suc, ◌<◌, ◌==◌, Bool, true, false, cond, List, [], ◌∷◌, ◌++◌, drop, length, Option, Some, None, is_some, refl, sym, ap, ◌∙◌, inl, inr, lit<, arith}
+use Rattle.std.proofs.Common.{◌≡◌, ◌≢◌, ℕ, zero, suc, ◌==◌, Bool, true, false, cond, [], ◌∷◌, drop, length, Option, Some, None, is_some, refl, sym, ap, ◌∙◌, inl, inr, lit<}
 use Rattle.std.specs.Prelude.{slice_get, unwrap_or}
 use Rattle.std.specs.FinMap as map
 use Rattle.std.specs.List.{enumerate_from}
@@ -13,24 +13,23 @@ use Rattle.bgp_types.specs.PathOctets.{path_octets}
 use Rattle.bgp_types.specs.Prefixes.{PrefixValue}
 use Rattle.bgp_types.specs.Spelling.{spell, spell_attrs, attrs_written}
 use Rattle.bgp_types.specs.Tables.{prefix_cmp}
-use Rattle.bgp_story.specs.Legal.{IsGot}
 use Rattle.bgp_story.specs.Readings.{put_bytes}
 use Rattle.bgp_story.specs.WorkedSessions.{ten, heard_lines}
 use Rattle.decision_core.specs.Choice.{keep, left_of, choice}
 use Rattle.route_policy.specs.declared.best.Best.{Best}
 use Rattle.route_policy.specs.Candidates.{candidates}
 use Rattle.route_policy.specs.Telling.{tell_in}
-use Rattle.tcp_seq.specs.Endpoint.{Endpoint, received_bytes, received, run_from}
+use Rattle.tcp_seq.specs.Endpoint.{received_bytes, run_from}
 use Rattle.session_value.specs.Sessions.{peering_of, state, unread}
 use Rattle.graft_model.specs.Points.{at}
 use Rattle.graft_model.specs.Setups.{ScriptStep, SayStep, SettleStep, MoveStep, group_of, graft_number, identifier_of, cost_between, has_network}
-use Rattle.graft_model.specs.Parts.{Place, Vacant, Live, Entry, RouterPart, FarPart, OperatorPart}
-use Rattle.graft_model.specs.Decisions.{session_route, to_tell, remote_identifier}
+use Rattle.graft_model.specs.Parts.{Vacant, Live, Entry, RouterPart, FarPart, OperatorPart}
+use Rattle.graft_model.specs.Decisions.{to_tell, remote_identifier}
 use Rattle.graft_model.specs.Quiet.{Quiet, IsIdle, BeginsNothing, HasRead, AllAcked}
 use Rattle.graft_model.specs.Claims.{Solves, SolvesOn, session_routes, router_routes, while_established}
 use Rattle.graft_worked.specs.Base.{base, config}
 use Rattle.graft_worked.specs.Places.{idle_router, idle_far, nothing, world_of}
-use Rattle.graft_worked.specs.Graft.{put_all, said_all, from_zero, home_end, remote_end, at_ten, heard_attrs, route, entry, over_peering, over_router, session, a_before, b_before, far_before, operator_before, a_after, b_after, far_after, operator_after, before_graft, after_graft, with_entry_kept}
+use Rattle.graft_worked.specs.Graft.{put_all, said_all, home_end, remote_end, heard_attrs, route, entry, over_peering, over_router, session, a_before, b_before, far_before, operator_before, a_after, b_after, far_after, operator_after, before_graft, after_graft, with_entry_kept}
 use Rattle.graft_worked.proofs.Points.{two_all, at_all, empty_at, empty_two, empty_one}
 use Rattle.graft_worked.proofs.Setup.{below_two, below_one}
 use Rattle.graft_worked.proofs.Tens.{is_ten, got_none, got_ten, got_it}

@@ -1,6 +1,6 @@
 -- The rows of the worked graft, each computed.
-use Rattle.std.proofs.Common.{◌≡◌, ◌≢◌, ℕ, ◌+◌, ◌<◌, ◌==◌, ◌&&◌, ◌||◌, not, nat_lt, Bool, true, false, cond, List, [], ◌∷◌, ◌++◌, Option, Some, None, is_some, refl, sym, ap, ◌∙◌, inl, inr, lit<, subst}
-use Rattle.std.specs.Prelude.{option_map, slice_get, unwrap_or}
+use Rattle.std.proofs.Common.{◌≡◌, ◌≢◌, ℕ, ◌==◌, ◌&&◌, ◌||◌, Bool, true, false, cond, [], ◌∷◌, ◌++◌, Option, Some, None, is_some, refl, sym, ap, ◌∙◌, inl, inr, lit<}
+use Rattle.std.specs.Prelude.{option_map, slice_get}
 use Rattle.std.specs.FinMap as map
 use Rattle.std.specs.List.{filter_map}
 use Rattle.bgp_types.specs.declared.attrs.Attrs.{Attrs}
@@ -13,7 +13,6 @@ use Rattle.bgp_types.specs.Header.{header_fault, frame_at}
 use Rattle.bgp_types.specs.Many.{many, many_within}
 use Rattle.bgp_types.specs.OpenBody.{cap_at, caps_of, params_of, open_of}
 use Rattle.bgp_types.specs.Prefixes.{PrefixValue, same_prefix}
-use Rattle.bgp_types.specs.Tables.{prefix_cmp}
 use Rattle.decision_core.specs.Choice.{keep, left_of, choice}
 use Rattle.route_policy.specs.declared.best.Best.{Best}
 use Rattle.route_policy.specs.Candidates.{imported}
@@ -23,11 +22,11 @@ use Rattle.bgp_story.specs.WorkedSessions.{ten}
 use Rattle.loc_rib.specs.Values.{with_best}
 use Rattle.session_value.specs.Sessions.{state, hold_time}
 use Rattle.graft_model.specs.Points.{at}
-use Rattle.graft_model.specs.Sets.{Prefixes, has, Adds, Drops, Marks}
+use Rattle.graft_model.specs.Sets.{has}
 use Rattle.graft_model.specs.Setups.{ScriptStep, SayStep, MoveStep, SettleStep, graft_number}
-use Rattle.graft_model.specs.Parts.{Place, Vacant, Live, Frozen, Shadow, Entry, Entries, RouterPart, Told, Moved, Done, PointAt}
-use Rattle.graft_model.specs.Decisions.{entry_candidate, telling_candidate, session_route, entry_of, chosen, to_tell, out_side, remote_identifier}
-use Rattle.graft_model.specs.RouterRows.{OrderIn, MeshIn, MeshTo, OutwardTo, ReportOut, BringsIn, IsToTell, PutsNothing}
+use Rattle.graft_model.specs.Parts.{Place, Vacant, Live, Frozen, Shadow, Entry, RouterPart, Told, Moved, Done, PointAt}
+use Rattle.graft_model.specs.Decisions.{entry_candidate, telling_candidate, session_route, chosen, to_tell, out_side, remote_identifier}
+use Rattle.graft_model.specs.RouterRows.{OrderIn, MeshIn, MeshTo, OutwardTo, ReportOut, BringsIn, PutsNothing}
 use Rattle.graft_model.specs.TableRows.{Decides, Tells, Hears, DueEverywhere, holds_established}
 use Rattle.graft_model.specs.GraftRows.{Admits, Freezes, Leaves, Lands, Clears}
 use Rattle.graft_model.specs.FarRows.{OutwardIn, TurnsLink}
@@ -36,7 +35,7 @@ use Rattle.graft_worked.specs.Base.{base, config}
 use Rattle.graft_worked.specs.Graft.{at_ten, ten_alone, heard_attrs, route, entry, over_peering, over_router, session, a_before, b_before, far_before, operator_before, to_b, a_ordered, a_frozen, a_left, a_cleared, a_told, a_decided, a_after, b_landed, b_decided, b_put, b_told, b_heard, b_after, far_after, operator_begun, operator_ordered, operator_after}
 use Rattle.graft_worked.proofs.Points.{at-at, at-same, at-back, other_of_0, other_of_1}
 use Rattle.graft_worked.proofs.Setup.{below_two}
-use Rattle.graft_worked.proofs.Tens.{empty, is_ten, got_none, got_ten, got_it, again, gone, still_none, some_at_ten, some_in_none, has_ten, adds_ten, keeps_ten, keeps_none, drops_ten, marks_new, marks_old}
+use Rattle.graft_worked.proofs.Tens.{empty, is_ten, got_none, got_ten, got_it, again, gone, some_at_ten, some_in_none, adds_ten, keeps_ten, keeps_none, drops_ten, marks_new, marks_old}
 
 -- ---- the session, computed
 
@@ -44,7 +43,7 @@ pub state_is : state session ≡ Established
 unfolding header_fault
 state_is = refl
 
-hold_is : hold_time session ≡ 0
+pub hold_is : hold_time session ≡ 0
 unfolding message_of header_fault frame_at body_of open_of many many_within cap_at caps_of params_of
 hold_is = refl
 

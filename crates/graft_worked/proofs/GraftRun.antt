@@ -1,5 +1,5 @@
 -- The worked graft as a run.
-use Rattle.std.proofs.Common.{◌≡◌, ℕ, List, [], ◌∷◌, Some, None, inr, refl}
+use Rattle.std.proofs.Common.{[], ◌∷◌, Some, None, inr, refl}
 use Rattle.bgp_story.specs.WorkedSessions.{ten}
 use Rattle.graft_steps.specs.declared.refusal.Outcome.TheVariants.{Accepted}
 use Rattle.graft_model.specs.Parts.{Told, Moved, Done, PointAt}

@@ -1,14 +1,13 @@
 -- Steps between worlds of two routers, one for each way in which an event takes and sends.
-use Rattle.std.proofs.Common.{◌≡◌, ℕ, List, [], ◌∷◌, ◌++◌, Option, Some, None, refl, sym, lit<}
+use Rattle.std.proofs.Common.{ℕ, List, [], ◌∷◌, ◌++◌, Some, None, refl, sym, lit<}
 use Rattle.tcp_seq.specs.Endpoint.{PlacedSegment}
-use Rattle.graft_model.specs.Points.{at, at2}
-use Rattle.graft_model.specs.Parts.{RouterPart, FarPart, OperatorPart, Mesh, Outward, GraftOrder, Report, World}
+use Rattle.graft_model.specs.Parts.{RouterPart, FarPart, OperatorPart, Mesh, Outward, GraftOrder, Report}
 use Rattle.graft_model.specs.RouterRows.{OrderIn, SegmentIn, MeshIn, MeshTo, OutwardTo, ReportOut}
 use Rattle.graft_model.specs.FarRows.{OutwardIn, SayIn}
 use Rattle.graft_model.specs.OperatorRows.{ReportIn, OrderTo, SayTo}
-use Rattle.graft_model.specs.Steps.{RouterEvent, FarEvent, OperatorEvent, Event, ByRouter, ByFar, ByOperator, router_row, far_row, operator_row, MayMake, Step}
+use Rattle.graft_model.specs.Steps.{RouterEvent, FarEvent, OperatorEvent, ByRouter, ByFar, ByOperator, router_row, far_row, operator_row, MayMake, Step}
 use Rattle.graft_worked.specs.Base.{base}
-use Rattle.graft_worked.specs.Places.{idle_router, idle_far, OnTheWay, nothing, world_of}
+use Rattle.graft_worked.specs.Places.{idle_router, idle_far, OnTheWay, world_of}
 use Rattle.graft_worked.proofs.Points.{at-at, two-0, two-1, two2-0, two2-1, one2}
 
 module _ (a b : RouterPart) (far : FarPart) (o : OperatorPart) (way : OnTheWay) where
@@ -185,7 +184,13 @@ module _ (a b : RouterPart) (far : FarPart) (o : OperatorPart) (way : OnTheWay) 
   pub a_reports : (event : RouterEvent) (a' : RouterPart) (report : Report) → router_row base 0 event a None (ReportOut report ∷ []) a'
       → Step base (ByRouter 0 event) (world_of a b far o way) (world_of a' b far o (record way { reported = way.reported ++ report ∷ [] }))
   a_reports event a' report row = record {
-    known = lit< tt; taken = None; sent = ReportOut report ∷ []; part = a'; row = row; without = world_of a b far o way; took = refl;
+    known = lit< tt;
+    taken = None;
+    sent = ReportOut report ∷ [];
+    part = a';
+    row = row;
+    without = world_of a b far o way;
+    took = refl;
     is = λ i. record (world_of a b far o way) { router = sym (two-0 idle_router a b a') i; reports = sym (at-at (λ r. []) 0 way.reported (way.reported ++ report ∷ [])) i };
   }
 

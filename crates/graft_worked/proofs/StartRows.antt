@@ -1,15 +1,12 @@
 -- The rows by which the worked session comes up and the remote's route gets to both routers, each computed.
-use Rattle.std.proofs.Common.{◌≡◌, ◌≢◌, ℕ, zero, suc, ◌+◌, ◌-◌, ◌<◌, ◌≤◌, ◌==◌, ◌&&◌, ◌||◌, not, nat_lt, nat_le, Bool, true, false, cond, List, [], ◌∷◌, ◌++◌, take, drop, length, Option, Some, None, is_some, refl, sym, ap, ◌∙◌, inl, inr, lit<, lit≤, subst, arith}
-use Rattle.std.specs.Prelude.{option_map, slice_get, T}
+use Rattle.std.proofs.Common.{◌≡◌, ℕ, Bool, true, false, cond, List, [], ◌∷◌, ◌++◌, drop, length, Option, Some, None, refl, sym, ap, ◌∙◌, inl, inr, lit<, lit≤, arith}
+use Rattle.std.specs.Prelude.{option_map}
 use Rattle.std.specs.FinMap as map
-use Rattle.std.specs.List.{filter_map, enumerate_from}
-use Rattle.std.specs.Option.{option_or}
+use Rattle.std.specs.List.{enumerate_from}
 use Rattle.std.specs.Ordering.{nat_cmp}
-use Rattle.std.proofs.lemmas.Bool.Decides.{nat_tests}
 use Rattle.bgp_types.specs.declared.attrs.Attrs.{Attrs}
-use Rattle.bgp_types.specs.declared.attrs.Route.{Route}
 use Rattle.bgp_types.specs.declared.message.Message.TheVariants.{KeepaliveMsg}
-use Rattle.bgp_types.specs.declared.message.SessionState.TheVariants.{OpenSent, OpenConfirm, Established, Closed}
+use Rattle.bgp_types.specs.declared.message.SessionState.TheVariants.{OpenConfirm, Established}
 use Rattle.bgp_types.specs.Faults.{origin_in, path_in, next_hop_in, med_in, atomic_in, aggregator_in, other_in, own_fault, attrs_fault}
 use Rattle.bgp_types.specs.FirstFault.{body_of, message_of}
 use Rattle.bgp_types.specs.Found.{found_in, attrs_in}
@@ -17,31 +14,29 @@ use Rattle.bgp_types.specs.Header.{header_fault, frame_at}
 use Rattle.bgp_types.specs.Many.{many, many_within}
 use Rattle.bgp_types.specs.Merge.{merged_path}
 use Rattle.bgp_types.specs.OpenBody.{cap_at, caps_of, params_of, open_of}
-use Rattle.bgp_types.specs.PathOctets.{part_at, path_octets}
-use Rattle.bgp_types.specs.Prefixes.{PrefixValue, prefix_at, prefixes_of, same_prefix}
-use Rattle.bgp_types.specs.Spelling.{spell, spell_attrs, attrs_written}
+use Rattle.bgp_types.specs.PathOctets.{part_at}
+use Rattle.bgp_types.specs.Prefixes.{PrefixValue, prefix_at, prefixes_of}
+use Rattle.bgp_types.specs.Spelling.{spell}
 use Rattle.bgp_types.specs.UpdateBody.{fields_of, all_known, update_of}
 use Rattle.bgp_types.specs.WireAttrs.{attr_at}
-use Rattle.decision_core.specs.Choice.{keep, left_of, choice}
 use Rattle.bgp_story.specs.declared.line.Line.TheVariants.{Put}
-use Rattle.bgp_story.specs.WorkedSessions.{ten, open_bytes, keepalive_bytes, update_bytes, confirmed_lines, joined_lines}
+use Rattle.bgp_story.specs.WorkedSessions.{open_bytes, keepalive_bytes, update_bytes}
 use Rattle.bgp_story.specs.Readings.{Routes}
 use Rattle.route_policy.specs.Candidates.{imported}
-use Rattle.tcp_seq.specs.Endpoint.{Endpoint, PlacedSegment, Bytes, TakesSegment, bytes_in_order, run_from, received, byte_brought}
-use Rattle.session_value.specs.Sessions.{SessionValue, state, unread}
+use Rattle.tcp_seq.specs.Endpoint.{Bytes, bytes_in_order, run_from}
+use Rattle.session_value.specs.Sessions.{SessionValue}
 use Rattle.session_value.specs.Cases.{GetsFrame}
 use Rattle.graft_model.specs.Points.{at}
-use Rattle.graft_model.specs.Sets.{has, Marks}
-use Rattle.graft_model.specs.Setups.{SayStep}
+use Rattle.graft_model.specs.Sets.{Marks}
 use Rattle.graft_model.specs.Parts.{Live, Vacant, Entry, RouterPart, Seg}
-use Rattle.graft_model.specs.Decisions.{entry_of, remote_identifier, session_route}
-use Rattle.graft_model.specs.RouterRows.{SegmentIn, OutwardTo, Emits, Arrives, GetsNext, BringsIn}
-use Rattle.graft_model.specs.FarRows.{OutwardIn, SayIn, Says, SendsSegment, TakesIn, Passes, Reaches}
+use Rattle.graft_model.specs.Decisions.{remote_identifier, session_route}
+use Rattle.graft_model.specs.RouterRows.{OutwardTo, Emits, GetsNext, BringsIn}
+use Rattle.graft_model.specs.FarRows.{OutwardIn, SayIn, Says, SendsSegment, TakesIn, Passes}
 use Rattle.graft_model.specs.OperatorRows.{SayTo, OrdersSay}
-use Rattle.graft_worked.specs.Base.{base, config}
-use Rattle.graft_worked.specs.First.{home_open_bytes, session_first, a_first, far_first, operator_first}
-use Rattle.graft_worked.specs.Graft.{put_all, said_all, from_zero, at_ten, ten_alone, heard_attrs, entry, session, home_end, remote_end, operator_before, far_before, a_before}
-use Rattle.graft_worked.specs.Start.{said_segment, put_segment, ack_segment, far_said, far_emitted, far_sent, far_taken, far_reached, far_answered, end_with, session_arrived, session_confirmed, session_joined, session_heard, session_emitted, a_with, a_got}
+use Rattle.graft_worked.specs.Base.{base}
+use Rattle.graft_worked.specs.First.{far_first, operator_first}
+use Rattle.graft_worked.specs.Graft.{put_all, said_all, from_zero, at_ten, heard_attrs, entry, session, remote_end, operator_before, far_before}
+use Rattle.graft_worked.specs.Start.{said_segment, put_segment, ack_segment, far_said, far_emitted, far_sent, far_taken, far_reached, far_answered, session_arrived, session_confirmed, session_joined, session_heard, session_emitted, a_with, a_got}
 use Rattle.graft_worked.proofs.Points.{at-at, at-same}
 use Rattle.graft_worked.proofs.Tens.{empty, got_none, got_ten, is_ten, some_in_none, marks_new}
 
@@ -139,7 +134,7 @@ emits_all = record {
 brought : PrefixValue → Option Attrs → Option Entry
 brought x attrs = option_map (λ route. record { route = route; identifier = remote_identifier session; address = session.config.remote_address }) (imported base.home_as x (session_route base 0 session x) attrs)
 
-marks_none : Marks empty (empty {A = Entry}) (empty {A = Entry}) empty
+pub marks_none : Marks empty (empty {A = Entry}) (empty {A = Entry}) empty
 marks_none = record { marked = λ x e. inl e; others = λ x e. (e, refl) }
 
 brings_none : (held : SessionValue) → held.heard ≡ map.empty → BringsIn base 0 held empty

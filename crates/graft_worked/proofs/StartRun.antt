@@ -1,5 +1,5 @@
 -- The worked run from the first world to the quiet world before the graft, and the whole of it.
-use Rattle.std.proofs.Common.{◌≡◌, ℕ, List, [], ◌∷◌, ◌++◌, Some, None, refl, sym, ap, subst, inl, inr, false}
+use Rattle.std.proofs.Common.{List, [], ◌∷◌, ◌++◌, Some, None, refl, sym, subst, inl, false}
 use Rattle.bgp_story.specs.WorkedSessions.{ten}
 use Rattle.graft_model.specs.First.{first_world}
 use Rattle.graft_model.specs.Parts.{Told, Seg, World}
@@ -16,29 +16,91 @@ use Rattle.graft_worked.proofs.Arrivals.{all_arrives, all_reaches, acknowledged}
 use Rattle.graft_worked.proofs.StartTables.{a_decides_first, a_puts_nothing, a_tells_first, b_hears_first, b_decides_first, b_tells_first, a_hears_none}
 
 starts : Run base first start_events before_graft
-starts =
-    (_, operator_says a_first idle_router far_first operator_first nothing (Order 0) operator_before 0 tt (inl orders_say),
-    (_, far_says a_first idle_router far_first operator_before nothing (Say 0) far_said 0 [] says,
-    (_, far_alone a_first idle_router far_said operator_before nothing (Send 0 91) far_sent sends_all,
-    (_, far_to_a a_first idle_router far_sent operator_before nothing (Pass 0 false 0) far_emitted said_segment passes_all,
-    (_, a_from_far a_first idle_router far_emitted operator_before nothing (Arrive 0) (a_with session_arrived) said_segment [] all_arrives,
-    (_, a_alone (a_with session_arrived) idle_router far_emitted operator_before nothing (Got 0) (a_with session_confirmed) got_open_row,
-    (_, a_alone (a_with session_confirmed) idle_router far_emitted operator_before nothing (Got 0) (a_with session_joined) got_keepalive_row,
-    (_, a_alone (a_with session_joined) idle_router far_emitted operator_before nothing (Got 0) (a_got session_heard) got_update_row,
-    (_, a_to_far (a_got session_heard) idle_router far_emitted operator_before nothing (Emit 0 0 48) (a_got session_emitted) (Seg put_segment) emits_all,
-    (_, far_from_a (a_got session_emitted) idle_router far_emitted operator_before nothing (Take 0) far_taken (Seg put_segment) [] takes_put,
-    (_, far_alone (a_got session_emitted) idle_router far_taken operator_before nothing (Reach 0 false) far_reached all_reaches,
-    (_, far_alone (a_got session_emitted) idle_router far_reached operator_before nothing (Send 91 0) far_answered sends_ack,
-    (_, far_to_a (a_got session_emitted) idle_router far_answered operator_before nothing (Pass 0 false 0) far_before ack_segment passes_ack,
-    (_, a_from_far (a_got session_emitted) idle_router far_before operator_before nothing (Arrive 0) (a_got session) ack_segment [] acknowledged,
-    (_, a_alone (a_got session) idle_router far_before operator_before nothing (Decide ten) a_chosen a_decides_first,
-    (_, a_alone a_chosen idle_router far_before operator_before nothing (Put 0 0) a_put a_puts_nothing,
-    (_, a_to_b a_put idle_router far_before operator_before nothing (Tell 1 ten) a_before (Told ten (Some route)) a_tells_first,
-    (_, b_from_a a_before idle_router far_before operator_before nothing (Hear 0) b_dirty (Told ten (Some route)) [] b_hears_first,
-    (_, b_alone a_before b_dirty far_before operator_before nothing (Decide ten) b_chosen b_decides_first,
-    (_, b_to_a a_before b_chosen far_before operator_before nothing (Tell 0 ten) b_before (Told ten None) b_tells_first,
-    (_, a_from_b a_before b_before far_before operator_before nothing (Hear 1) a_before (Told ten None) [] a_hears_none,
-    refl)))))))))))))))))))))
+starts = (
+  _,
+  operator_says a_first idle_router far_first operator_first nothing (Order 0) operator_before 0 tt (inl orders_say),
+  (
+    _,
+    far_says a_first idle_router far_first operator_before nothing (Say 0) far_said 0 [] says,
+    (
+      _,
+      far_alone a_first idle_router far_said operator_before nothing (Send 0 91) far_sent sends_all,
+      (
+        _,
+        far_to_a a_first idle_router far_sent operator_before nothing (Pass 0 false 0) far_emitted said_segment passes_all,
+        (
+          _,
+          a_from_far a_first idle_router far_emitted operator_before nothing (Arrive 0) (a_with session_arrived) said_segment [] all_arrives,
+          (
+            _,
+            a_alone (a_with session_arrived) idle_router far_emitted operator_before nothing (Got 0) (a_with session_confirmed) got_open_row,
+            (
+              _,
+              a_alone (a_with session_confirmed) idle_router far_emitted operator_before nothing (Got 0) (a_with session_joined) got_keepalive_row,
+              (
+                _,
+                a_alone (a_with session_joined) idle_router far_emitted operator_before nothing (Got 0) (a_got session_heard) got_update_row,
+                (
+                  _,
+                  a_to_far (a_got session_heard) idle_router far_emitted operator_before nothing (Emit 0 0 48) (a_got session_emitted) (Seg put_segment) emits_all,
+                  (
+                    _,
+                    far_from_a (a_got session_emitted) idle_router far_emitted operator_before nothing (Take 0) far_taken (Seg put_segment) [] takes_put,
+                    (
+                      _,
+                      far_alone (a_got session_emitted) idle_router far_taken operator_before nothing (Reach 0 false) far_reached all_reaches,
+                      (
+                        _,
+                        far_alone (a_got session_emitted) idle_router far_reached operator_before nothing (Send 91 0) far_answered sends_ack,
+                        (
+                          _,
+                          far_to_a (a_got session_emitted) idle_router far_answered operator_before nothing (Pass 0 false 0) far_before ack_segment passes_ack,
+                          (
+                            _,
+                            a_from_far (a_got session_emitted) idle_router far_before operator_before nothing (Arrive 0) (a_got session) ack_segment [] acknowledged,
+                            (
+                              _,
+                              a_alone (a_got session) idle_router far_before operator_before nothing (Decide ten) a_chosen a_decides_first,
+                              (
+                                _,
+                                a_alone a_chosen idle_router far_before operator_before nothing (Put 0 0) a_put a_puts_nothing,
+                                (
+                                  _,
+                                  a_to_b a_put idle_router far_before operator_before nothing (Tell 1 ten) a_before (Told ten (Some route)) a_tells_first,
+                                  (
+                                    _,
+                                    b_from_a a_before idle_router far_before operator_before nothing (Hear 0) b_dirty (Told ten (Some route)) [] b_hears_first,
+                                    (
+                                      _,
+                                      b_alone a_before b_dirty far_before operator_before nothing (Decide ten) b_chosen b_decides_first,
+                                      (
+                                        _,
+                                        b_to_a a_before b_chosen far_before operator_before nothing (Tell 0 ten) b_before (Told ten None) b_tells_first,
+                                        (
+                                          _,
+                                          a_from_b a_before b_before far_before operator_before nothing (Hear 1) a_before (Told ten None) [] a_hears_none,
+                                          refl,
+                                        ),
+                                      ),
+                                    ),
+                                  ),
+                                ),
+                              ),
+                            ),
+                          ),
+                        ),
+                      ),
+                    ),
+                  ),
+                ),
+              ),
+            ),
+          ),
+        ),
+      ),
+    ),
+  ),
+)
 
 pub base_starts : Run base (first_world base) start_events before_graft
 base_starts = subst (λ (w : World). Run base w start_events before_graft) (sym first_is) starts

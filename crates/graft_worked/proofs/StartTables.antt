@@ -1,26 +1,23 @@
 -- The rows by which the worked route is decided and told before the graft, each computed.
-use Rattle.std.proofs.Common.{◌≡◌, ◌≢◌, ℕ, ◌==◌, ◌&&◌, ◌||◌, Bool, true, false, cond, List, [], ◌∷◌, Option, Some, None, is_some, refl, sym, ap, ◌∙◌, inl, inr}
-use Rattle.std.specs.FinMap as map
-use Rattle.bgp_types.specs.declared.attrs.Route.{Route}
+use Rattle.std.proofs.Common.{◌≡◌, ◌≢◌, ◌==◌, ◌&&◌, ◌||◌, Bool, true, false, cond, [], ◌∷◌, Option, Some, None, is_some, refl, sym, ap, ◌∙◌, inl, inr}
 use Rattle.bgp_types.specs.Header.{header_fault}
 use Rattle.bgp_types.specs.Prefixes.{PrefixValue, same_prefix}
 use Rattle.decision_core.specs.Choice.{keep, left_of, choice}
-use Rattle.route_policy.specs.declared.best.Best.{Best}
 use Rattle.route_policy.specs.Telling.{tell_in, tell_out}
 use Rattle.loc_rib.specs.Values.{with_best}
 use Rattle.bgp_story.specs.WorkedSessions.{ten}
 use Rattle.graft_model.specs.Points.{at}
 use Rattle.graft_model.specs.Sets.{has}
-use Rattle.graft_model.specs.Parts.{Vacant, Live, RouterPart, Told}
+use Rattle.graft_model.specs.Parts.{Vacant, Live, Told}
 use Rattle.graft_model.specs.Decisions.{chosen, to_tell, out_side}
 use Rattle.graft_model.specs.RouterRows.{MeshIn, MeshTo, PutsNothing}
 use Rattle.graft_model.specs.TableRows.{Decides, Tells, Hears, DueEverywhere, holds_established}
 use Rattle.graft_worked.specs.Base.{base, config}
 use Rattle.graft_worked.specs.Places.{idle_router}
-use Rattle.graft_worked.specs.Graft.{at_ten, ten_alone, route, entry, over_peering, over_router, session, a_before, b_before}
+use Rattle.graft_worked.specs.Graft.{ten_alone, route, entry, over_peering, over_router, session, a_before, b_before}
 use Rattle.graft_worked.specs.Start.{a_got, a_chosen, a_put, b_dirty, b_chosen}
-use Rattle.graft_worked.proofs.Points.{at-at, at-same, at-back, other_of_0, other_of_1}
-use Rattle.graft_worked.proofs.Tens.{empty, is_ten, got_none, got_ten, got_it, again, gone, still_none, some_in_none, has_ten, adds_ten, keeps_none, drops_ten}
+use Rattle.graft_worked.proofs.Points.{at-same, at-back, other_of_0, other_of_1}
+use Rattle.graft_worked.proofs.Tens.{empty, is_ten, got_none, got_ten, got_it, gone, still_none, some_in_none, adds_ten, keeps_none, drops_ten}
 use Rattle.graft_worked.proofs.GraftRows.{state_is, chosen_from, at_a, at_b, by_parts}
 
 entry_alone : chosen_from 0 (Some entry) None None ≡ Some over_peering
@@ -68,7 +65,12 @@ tells_none_at_a x = ap (tell_out 65000 (out_side base 0 config) x) (got_ten over
 
 pub a_puts_nothing : PutsNothing base 0 0 a_chosen None [] a_put
 a_puts_nothing = record {
-  alone = (refl, refl); session = session; order = None; live = record { is = refl }; established = state_is; prefix = ten;
+  alone = (refl, refl);
+  session = session;
+  order = None;
+  live = record { is = refl };
+  established = state_is;
+  prefix = ten;
   waits = (ap is_some (got_it tt), some_in_none _ ten);
   nothing = λ x told. told.1 (got_none x ∙ sym (tells_none_at_a x));
   due = drops_ten;
@@ -77,14 +79,19 @@ a_puts_nothing = record {
 
 pub a_tells_first : Tells 1 ten a_put None (MeshTo 1 (Told ten (Some route)) ∷ []) a_before
 a_tells_first = record {
-  due = ap is_some (got_it tt); clean = some_in_none _ ten; takes = refl;
+  due = ap is_some (got_it tt);
+  clean = some_in_none _ ten;
+  takes = refl;
   sends = λ i. MeshTo 1 (Told ten (sym (ap tell_in (got_it over_peering)) i)) ∷ [];
   effect = λ i. record a_before { due_in = sym (ap (at a_put.due_in 1) (gone tt) ∙ at-back empty ten_alone 1) i };
 }
 
 pub b_hears_first : Hears 0 idle_router (Some (MeshIn 0 (Told ten (Some route)))) [] b_dirty
 b_hears_first = record {
-  prefix = ten; route = Some route; takes = refl; sends = refl;
+  prefix = ten;
+  route = Some route;
+  takes = refl;
+  sends = refl;
   dirty = inr (some_apart refl (some_in_none _ ten), refl);
   effect = refl;
 }
@@ -105,14 +112,19 @@ b_decides_first = record {
 
 pub b_tells_first : Tells 0 ten b_chosen None (MeshTo 0 (Told ten None) ∷ []) b_before
 b_tells_first = record {
-  due = ap is_some (got_it tt); clean = some_in_none _ ten; takes = refl;
+  due = ap is_some (got_it tt);
+  clean = some_in_none _ ten;
+  takes = refl;
   sends = λ i. MeshTo 0 (Told ten (sym (ap tell_in (got_it (over_router 0))) i)) ∷ [];
   effect = λ i. record b_before { due_in = sym (ap (at b_chosen.due_in 0) (gone tt) ∙ at-back empty ten_alone 0) i };
 }
 
 pub a_hears_none : Hears 1 a_before (Some (MeshIn 1 (Told ten None))) [] a_before
 a_hears_none = record {
-  prefix = ten; route = None; takes = refl; sends = refl;
+  prefix = ten;
+  route = None;
+  takes = refl;
+  sends = refl;
   dirty = inl (sym (got_none ten), refl);
   effect = λ i. record a_before { tellings = sym (ap (at a_before.tellings 1) still_none ∙ at-same empty 1) i };
 }

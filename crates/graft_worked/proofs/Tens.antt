@@ -1,5 +1,5 @@
 -- Tables that have 10.0.0.0/8 alone.
-use Rattle.std.proofs.Common.{◌≡◌, ◌≢◌, ℕ, ◌==◌, ◌&&◌, ◌||◌, not, Bool, true, false, refl, cond, arith, ap, ◌∙◌, sym, Option, Some, None, is_some, inl, inr}
+use Rattle.std.proofs.Common.{◌≡◌, ◌≢◌, ◌&&◌, ◌||◌, not, Bool, true, false, refl, cond, arith, ap, ◌∙◌, sym, Some, None, is_some, inr}
 use Rattle.std.proofs.lemmas.Bool.Decides.{nat_tests}
 use Rattle.std.specs.Ordering.{eq_by_cmp}
 use Rattle.std.specs.FinMap as map
@@ -7,7 +7,7 @@ use Rattle.bgp_types.specs.Prefixes.{PrefixValue, same_prefix}
 use Rattle.bgp_types.specs.Tables.{prefix_cmp}
 use Rattle.bgp_types.proofs.TableLaws.{prefix_total, exact_prefixes, tied}
 use Rattle.bgp_story.specs.WorkedSessions.{ten}
-use Rattle.graft_model.specs.Sets.{Prefixes, has, Adds, Drops, Marks}
+use Rattle.graft_model.specs.Sets.{has, Drops, Marks}
 use Rattle.graft_worked.specs.Graft.{at_ten, ten_alone}
 
 -- whether a prefix is 10.0.0.0/8

@@ -1,6 +1,6 @@
 -- The worked laboratory: home AS 65000, the routers a and b, and one peering with the remote AS 65001 that starts at a. The remote announces
 -- 10.0.0.0/8, all settles, the peering is grafted from a to b, and all settles again.
-use Rattle.std.specs.Prelude.{ℕ, List, [], ◌∷◌, ◌++◌, None, false}
+use Rattle.std.specs.Prelude.{[], ◌∷◌, ◌++◌, None, false}
 use Rattle.bgp_story.specs.WorkedSessions.{open_bytes, keepalive_bytes, update_bytes}
 use Rattle.session_value.specs.declared.config.SessionConfig.{SessionConfig}
 use Rattle.graft_model.specs.Setups.{Setup, RouterSetup, PeeringSetup, SayStep, MoveStep, SettleStep}

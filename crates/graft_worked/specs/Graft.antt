@@ -1,5 +1,5 @@
 -- The graft of the worked laboratory, from the quiet world before it to the quiet world after it.
-use Rattle.std.specs.Prelude.{ℕ, ◌==◌, List, [], ◌∷◌, ◌++◌, Bool, Option, Some, None, true, false}
+use Rattle.std.specs.Prelude.{ℕ, List, [], ◌∷◌, ◌++◌, Some, None, true, false}
 use Rattle.std.specs.FinMap as map
 use Rattle.std.specs.List.{enumerate_from}
 use Rattle.bgp_types.specs.declared.attrs.Attrs.{Attrs}
@@ -16,10 +16,10 @@ use Rattle.bgp_story.specs.WorkedSessions.{ten, open_bytes, keepalive_bytes, upd
 use Rattle.session_value.specs.Sessions.{SessionValue}
 use Rattle.graft_model.specs.Points.{at}
 use Rattle.graft_model.specs.Sets.{Prefixes}
-use Rattle.graft_model.specs.Parts.{Order as StoredOrder, Vacant, Live, Frozen, Shadow, Entry, RouterPart, FarPart, OperatorPart, Told, Moved, Done, PointAt, World}
+use Rattle.graft_model.specs.Parts.{Order as StoredOrder, Vacant, Live, Frozen, Shadow, Entry, RouterPart, FarPart, OperatorPart, World}
 use Rattle.graft_model.specs.Steps.{Event, ByRouter, ByFar, ByOperator, Go, Order, Admit, Freeze, Leave, Land, Point, Clear, Note, Decide, Put, Tell, Hear}
 use Rattle.graft_worked.specs.Base.{config}
-use Rattle.graft_worked.specs.Places.{OnTheWay, nothing, world_of}
+use Rattle.graft_worked.specs.Places.{nothing, world_of}
 
 -- ---- what both sides said
 

@@ -1,5 +1,5 @@
 -- Worlds of two routers and one peering, written as what each of them has.
-use Rattle.std.specs.Prelude.{ℕ, ◌==◌, Bool, List, [], Option, None, false, if◌then◌else◌}
+use Rattle.std.specs.Prelude.{ℕ, ◌==◌, List, [], if◌then◌else◌}
 use Rattle.std.specs.FinMap as map
 use Rattle.tcp_seq.specs.Endpoint.{PlacedSegment, fresh_endpoint}
 use Rattle.graft_model.specs.Points.{at}

@@ -1,15 +1,15 @@
 -- The worked laboratory from its first world to the quiet world before the graft: the session comes up, the remote announces, and all settles.
-use Rattle.std.specs.Prelude.{ℕ, List, [], ◌∷◌, ◌++◌, Bool, None, true, false}
+use Rattle.std.specs.Prelude.{ℕ, List, [], ◌∷◌, None, true, false}
 use Rattle.std.specs.FinMap as map
 use Rattle.tcp_seq.specs.Endpoint.{Endpoint, PlacedSegment}
-use Rattle.bgp_story.specs.WorkedSessions.{ten, open_bytes, keepalive_bytes, update_bytes, confirmed_lines, joined_lines}
+use Rattle.bgp_story.specs.WorkedSessions.{ten, confirmed_lines, joined_lines}
 use Rattle.session_value.specs.Sessions.{SessionValue}
 use Rattle.graft_model.specs.Points.{at}
 use Rattle.graft_model.specs.Parts.{Vacant, Live, RouterPart, FarPart}
 use Rattle.graft_model.specs.Steps.{Event, ByRouter, ByFar, ByOperator, Order, Say, Send, Pass, Arrive, Got, Emit, Take, Reach, Decide, Put, Tell, Hear}
 use Rattle.graft_worked.specs.Places.{idle_router, idle_far}
-use Rattle.graft_worked.specs.First.{home_open_bytes, session_first, a_first, far_first}
-use Rattle.graft_worked.specs.Graft.{put_all, said_all, from_zero, at_ten, ten_alone, heard_attrs, entry, route, over_peering, over_router, session, home_end, remote_end, a_before, b_before, far_before}
+use Rattle.graft_worked.specs.First.{home_open_bytes, session_first}
+use Rattle.graft_worked.specs.Graft.{put_all, said_all, from_zero, at_ten, ten_alone, entry, route, session, home_end, remote_end, a_before, b_before, far_before}
 
 -- ---- segments: all that the remote said, all that home put, and the remote's acknowledgement
 

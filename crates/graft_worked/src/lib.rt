@@ -4,4 +4,7 @@
 
 mod laws;
 
-pub use laws::{a_graft_runs_to_its_end, base_begins, base_is_a_setup, base_runs_to_its_end};
+pub use laws::{
+    a_graft_runs_to_its_end, base_begins, base_is_a_setup, base_runs_to_its_end,
+    other_events_may_happen, some_events_never_happen,
+};
