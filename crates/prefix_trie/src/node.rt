@@ -425,6 +425,17 @@ fn tidy<V: Drop>(tree: &mut Tree<V>, spares: &mut Spares<V>)
     }
 }
 
+/// Makes places in the list for the nodes of so many prefixes, two for each, unless nodes were there already: a set that finds
+/// its memory taken ahead takes none here either. Where no memory is found the list stays as it is.
+pub fn make_places<V: Drop>(spares: &mut Spares<V>, prefixes: usize, taken_ahead: bool)
+    ensures { spares.new.items ≡ spares.old.items }
+{
+    let nodes = prefixes.saturating_mul(2);
+    if !taken_ahead && spares.capacity() < nodes {
+        let _ = spares.reserve(nodes.saturating_sub(spares.len()));
+    }
+}
+
 /// Keeps a node for later, where the list has a place for it. It asks for no memory.
 fn keep<V: Drop>(tree: Tree<V>, spares: &mut Spares<V>)
     ensures { length spares.old.items ≤ length spares.new.items }

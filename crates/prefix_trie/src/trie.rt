@@ -6,19 +6,20 @@ ghost use Rattle.bgp_types.specs.Prefixes.{prefix_of};
 ghost use Rattle.bgp_types.specs.Tables.{prefix_cmp, first_above};
 ghost use Rattle.prefix_trie.specs.Longest.{LongestOf};
 
-use crate::node::{Node, Spares, Tree, find, first, longest, next, put, reserve, take};
+use crate::node::{
+    Node, Spares, Tree, find, first, longest, make_places, next, put, reserve, take,
+};
 use bgp_types::{NoMemory, Prefix, SpareTable, Table};
 use std::alloc::Global;
 use std::marker::Model;
 
-/// The prefixes with their values. A change keeps the nodes that it frees for those that come later,
-/// until the table is dropped.
+/// The prefixes with their values. A removal keeps the nodes that it frees for prefixes that come later, in a list whose
+/// places are made when prefixes are set: it asks for no memory.
 ///
 /// On a way down from the root each prefix is longer than the one above it. So a way has at most 33
 /// nodes, however many prefixes there are. `get`, `set`, `remove` and `longest_match` go one way, and
 /// `next_after` at most one further way from a node of the first. `len` and `spare` read a number.
-/// The list of nodes that are kept doubles its place when it is full: a `remove` then takes a step for
-/// each of them. `reserve` takes a step for each node that it makes.
+/// `reserve` takes a step for each node that it makes.
 #[derive(Drop)]
 pub struct TrieTable<V> {
     alloc: Global,
@@ -81,6 +82,7 @@ impl<V: Drop> Table<V> for TrieTable<V> {
 
     fn set(&mut self, prefix: Prefix, value: V) -> Result<Option<V>, V> {
         prove!(prefix.len() <= 32);
+        let taken_ahead = !self.spares.is_empty();
         let mut slot = Some(value);
         if !put(
             self.alloc,
@@ -98,10 +100,12 @@ impl<V: Drop> Table<V> for TrieTable<V> {
             return Ok(slot);
         }
         self.len += 1;
+        make_places(&mut self.spares, self.len, taken_ahead);
         Ok(None)
     }
 
-    /// A node that this frees is kept where there is memory for that, and given back where there is not.
+    /// A node that this frees is kept where the list of such nodes has a place, and given back where it has none. It asks for no
+    /// memory.
     fn remove(&mut self, prefix: Prefix) -> Option<V> {
         let taken = take(&mut self.root, &mut self.spares, prefix)?;
         self.len -= 1;
