@@ -1,5 +1,5 @@
 -- Prefixes as texts write them, each once.
-use Rattle.std.proofs.Common.{◌≡◌, ℕ, ◌≤◌, List, [], ◌∷◌, ◌++◌, length, refl, sym, ap, ◌∙◌, subst}
+use Rattle.std.proofs.Common.{◌≡◌, ℕ, ◌≤◌, List, [], length, sym, ap, ◌∙◌, subst}
 use Rattle.std.specs.Prelude.{Option, Some, None, Result, Ok, Err}
 use Rattle.toml.specs.Data.{Data, string, array, Members, get_member}
 use Rattle.toml.specs.declared.value.Value.{Value}
@@ -8,7 +8,7 @@ use Rattle.lab_input.specs.declared.input.LabStop.{LabStop}
 use Rattle.lab_input.specs.declared.input.LabStop.TheVariants.{Bad, NoMemory}
 use Rattle.lab_input.specs.Labs.{FindsOrStops}
 use Rattle.bgp_types.specs.Finds.{Finds}
-use Rattle.bgp_types.specs.Prefixes.{PrefixValue, put_once, once_after, EachOnce}
+use Rattle.bgp_types.specs.Prefixes.{PrefixValue, once_after, EachOnce}
 use Rattle.bgp_types.proofs.OnceLaws.{each_once}
 use Rattle.bgp_types.specs.Texts.{IsPrefixText}
 use Rattle.bgp_types.proofs.PrintedTexts.{IsPrefixText_unique}
@@ -44,15 +44,3 @@ pub prefixes_answers : (t : Members) (key : List ℕ) (vs : List Value)
 prefixes_answers t key vs at enough few (Ok ps) (written, all, is) = record { written = written; at = array_gives t key 1 200 GivesPrefix vs at enough few written all; once = is }
 prefixes_answers t key vs at enough few (Err (Bad bad)) none = λ ps is. none ps (is.written, array_of t key 1 200 GivesPrefix vs at is.written is.at, is.once)
 prefixes_answers t key vs at enough few (Err NoMemory) none = tt
-
-once_after-push : (seen ps : List PrefixValue) (p : PrefixValue) → once_after seen (ps ++ p ∷ []) ≡ put_once (once_after seen ps) p
-once_after-push seen [] p = refl
-once_after-push seen (q ∷ ps) p = once_after-push (put_once seen q) ps p
-
--- one further prefix at the end
-pub EachOnce-push : (written prefixes : List PrefixValue) (p : PrefixValue) → EachOnce written prefixes → EachOnce (written ++ p ∷ []) (put_once prefixes p)
-EachOnce-push written prefixes p so_far =
-    (each_once (written ++ p ∷ []) (put_once prefixes p)).0 (ap (λ ps. put_once ps p) ((each_once written prefixes).1 so_far) ∙ sym (once_after-push [] written p))
-
-pub EachOnce-none : EachOnce [] []
-EachOnce-none = (each_once [] []).0 refl
