@@ -122,8 +122,9 @@ spelled_attrs_size wide a =
 counted_size : (octets : List ℕ) → length (counted octets) ≡ 2 + length octets
 counted_size octets = length-append (to_be_bytes w16 (length octets)) octets
 
-pub update_size : (wide : Bool) (u : Update) → length (spell_update wide u) ≡ 4 + (sum_by prefix_size u.withdrawn + (length (spell_some_attrs wide u.attrs) + sum_by prefix_size u.nlri))
-update_size wide u =
+-- the three fields of an UPDATE, two of them behind their lengths
+pub update_fields_size : (wide : Bool) (u : Update) → length (spell_update wide u) ≡ 4 + (length (spell_prefixes u.withdrawn) + (length (spell_some_attrs wide u.attrs) + length (spell_prefixes u.nlri)))
+update_fields_size wide u =
     let withdrawn = spell_prefixes u.withdrawn in
     let attrs = spell_some_attrs wide u.attrs in
     let nlri = spell_prefixes u.nlri in
@@ -131,8 +132,13 @@ update_size wide u =
     let e2 : length (counted attrs ++ nlri) ≡ length (counted attrs) + length nlri = length-append (counted attrs) nlri in
     let c1 = counted_size withdrawn in
     let c2 = counted_size attrs in
-    let w : length withdrawn ≡ sum_by prefix_size u.withdrawn = length-flat_map prefix_octets u.withdrawn in
-    let n : length nlri ≡ sum_by prefix_size u.nlri = length-flat_map prefix_octets u.nlri in
+    omega arith
+
+pub update_size : (wide : Bool) (u : Update) → length (spell_update wide u) ≡ 4 + (sum_by prefix_size u.withdrawn + (length (spell_some_attrs wide u.attrs) + sum_by prefix_size u.nlri))
+update_size wide u =
+    let all = update_fields_size wide u in
+    let w : length (spell_prefixes u.withdrawn) ≡ sum_by prefix_size u.withdrawn = length-flat_map prefix_octets u.withdrawn in
+    let n : length (spell_prefixes u.nlri) ≡ sum_by prefix_size u.nlri = length-flat_map prefix_octets u.nlri in
     omega arith
 
 pub caps_size : (caps : List Cap) → length (flat_map (λ cap. param_octets (cap_octets cap)) caps) ≡ sum_by cap_size caps

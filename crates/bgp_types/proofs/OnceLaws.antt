@@ -1,5 +1,5 @@
 -- A list of prefixes, each once, at its first place.
-use Rattle.std.proofs.Common.{◌≡◌, ℕ, suc, ◌+◌, ◌<◌, List, [], ◌∷◌, ◌++◌, length, Bool, true, false, cond, eqb, refl, sym, ap, ◌∙◌, subst, arith, append_assoc}
+use Rattle.std.proofs.Common.{◌≡◌, ℕ, suc, ◌+◌, ◌-◌, ◌*◌, ◌/◌, ◌^◌, ◌<◌, ◌≤◌, List, [], ◌∷◌, ◌++◌, length, Bool, true, false, cond, eqb, refl, sym, ap, ◌∙◌, subst, arith, append_assoc}
 use Rattle.std.specs.Prelude.{◌&&◌, ◌↔◌, ◌⊎◌, Contains, not}
 use Rattle.std.specs.List.{AllByRecursion, IsDistinct, list_any, position_or_len}
 use Rattle.std.proofs.Common.{inl, inr}
@@ -7,8 +7,9 @@ use Rattle.std.proofs.lemmas.Bool.{eqb-true}
 use Rattle.std.proofs.lemmas.Bool.Decides.{nat_tests}
 use Rattle.std.proofs.lemmas.List.{append-nil}
 use Rattle.std.proofs.lemmas.List.Elements.{Contains-append_left, Contains-append_right, Contains-push, Contains-push_cases, Contains-append_cases}
+use Rattle.std.proofs.lemmas.Nat.{shl-shr, shr_split}
 use Rattle.std.proofs.lemmas.Map.Views.{Contains-from_any}
-use Rattle.bgp_types.specs.Prefixes.{PrefixValue, same_prefix, put_once, once_after, first_place, EachOnce}
+use Rattle.bgp_types.specs.Prefixes.{PrefixValue, IsPrefix, cleared, prefix_of, same_prefix, put_once, once_after, first_place, EachOnce}
 use Rattle.bgp_types.specs.Rising.{IsRising}
 use Rattle.bgp_types.proofs.ManyLaws.{either_false}
 
@@ -206,8 +207,8 @@ module _ (front seen : List PrefixValue) (p : PrefixValue) (so_far : EachOnce fr
       back q (inl c) = Contains-append_left seen (p ∷ []) q ((so_far.members q).1 c)
       back q (inr s) = last seen q s
 
-  next : EachOnce (front ++ p ∷ []) (put_once seen p)
-  next = by_test (list_any (same_prefix p) seen) refl where
+  pub EachOnce-push : EachOnce (front ++ p ∷ []) (put_once seen p)
+  EachOnce-push = by_test (list_any (same_prefix p) seen) refl where
     by_test : (t : Bool) → list_any (same_prefix p) seen ≡ t → EachOnce (front ++ p ∷ []) (cond t seen (seen ++ p ∷ []))
     by_test true e = stays e
     by_test false e = joins e
@@ -216,13 +217,37 @@ each_from : (front seen prefixes : List PrefixValue) → EachOnce front seen →
 each_from front seen [] so_far = subst (λ (xs : List PrefixValue). EachOnce xs seen) (sym (append-nil front)) so_far
 each_from front seen (p ∷ prefixes) so_far =
     subst (λ (xs : List PrefixValue). EachOnce xs (once_after (put_once seen p) prefixes)) (append_assoc front (p ∷ []) prefixes)
-    (each_from (front ++ p ∷ []) (put_once seen p) prefixes (next front seen p so_far))
+    (each_from (front ++ p ∷ []) (put_once seen p) prefixes (EachOnce-push front seen p so_far))
 
-none_yet : EachOnce [] []
+pub EachOnce-none : EachOnce [] []
 unfolding IsDistinct
-none_yet = record { members = λ p. (λ c. c, λ c. c); distinct = tt; in_order = tt }
+EachOnce-none = record { members = λ p. (λ c. c, λ c. c); distinct = tt; in_order = tt }
 
 pub each_once : (prefixes once : List PrefixValue) → (once ≡ once_after [] prefixes) ↔ EachOnce prefixes once
 each_once prefixes once = (λ e. subst (λ (xs : List PrefixValue). EachOnce prefixes xs) (sym e) is, λ other. one_list (first_place prefixes) once (once_after [] prefixes) other.in_order is.in_order (λ z c. (is.members z).1 ((other.members z).0 c)) (λ z c. (other.members z).1 ((is.members z).0 c))) where
   is : EachOnce prefixes (once_after [] prefixes)
-  is = each_from [] [] prefixes none_yet
+  is = each_from [] [] prefixes EachOnce-none
+
+-- ---- each is a prefix
+
+cleared_again : (len address : ℕ) → cleared len (cleared len address) ≡ cleared len address
+cleared_again len address = ap (λ (n : ℕ). n * 2 ^ (32 - len)) (shl-shr (address / 2 ^ (32 - len)) (32 - len))
+
+cleared_le : (len address : ℕ) → cleared len address ≤ address
+cleared_le len address = let h = shr_split address (32 - len) in omega arith
+
+-- what an address begins with is a prefix
+pub IsPrefix-prefix_of : (len address : ℕ) → len ≤ 32 → address < 2 ^ 32 → IsPrefix (prefix_of len address)
+IsPrefix-prefix_of len address short fits =
+    let le = cleared_le len address in
+    record { len = short; address = omega arith; clear = cleared_again len address }
+
+put_each : (seen : List PrefixValue) (p : PrefixValue) → AllByRecursion IsPrefix seen → IsPrefix p → AllByRecursion IsPrefix (put_once seen p)
+put_each seen p each here = by_test (list_any (same_prefix p) seen) where
+  by_test : (t : Bool) → AllByRecursion IsPrefix (cond t seen (seen ++ p ∷ []))
+  by_test true = each
+  by_test false = all_push IsPrefix seen p each here
+
+pub once_each : (seen ps : List PrefixValue) → AllByRecursion IsPrefix seen → AllByRecursion IsPrefix ps → AllByRecursion IsPrefix (once_after seen ps)
+once_each seen [] each more = each
+once_each seen (p ∷ ps) each more = once_each (put_once seen p) ps (put_each seen p each more.0) more.1

@@ -1,4 +1,4 @@
--- What is printed of an address or a prefix reads back.
+-- A text writes one prefix at most, and what is printed of an address or a prefix reads back.
 use Rattle.std.proofs.Common.{◌≡◌, ℕ, ◌^◌, ◌<◌, eqb, false, List, [], ◌∷◌, ◌++◌, refl, sym, ap, ◌∙◌, subst, arith, append_assoc, decimal}
 use Rattle.std.specs.Prelude.{◌↔◌}
 use Rattle.std.proofs.lemmas.Fmt.{decimal_injective}
@@ -29,6 +29,17 @@ back : (xs us vs : List ℕ) → xs ++ 47 ∷ us ≡ xs ++ 47 ∷ vs → us ≡ 
 back [] us vs e = cc
 back (x ∷ xs) us vs e = back xs us vs cc
 
+-- a text writes one prefix at most
+pub IsPrefixText_unique : (text : List ℕ) (p q : PrefixValue) → IsPrefixText text p → IsPrefixText text q → p ≡ q
+IsPrefixText_unique text p q one other =
+    let joined : address_text one.address ++ 47 ∷ decimal p.len ≡ address_text other.address ++ 47 ∷ decimal q.len =
+    sym (append_assoc (address_text one.address) (47 ∷ []) (decimal p.len)) ∙ sym one.text ∙ other.text ∙ append_assoc (address_text other.address) (47 ∷ []) (decimal q.len) in
+    let texts : address_text one.address ≡ address_text other.address = front _ _ _ _ (NoSlash-address one.address) (NoSlash-address other.address) joined in
+    let address : one.address ≡ other.address = IsAddressText_unique (address_text one.address) one.address other.address (record { fits = one.fits; text = refl }) (record { fits = other.fits; text = texts }) in
+    let decimals : decimal p.len ≡ decimal q.len = back (address_text one.address) _ _ (joined ∙ ap (λ t. t ++ 47 ∷ decimal q.len) (sym texts)) in
+    let len : p.len ≡ q.len = decimal_injective p.len q.len (omega (arith, one.short)) (omega (arith, other.short)) decimals in
+    one.prefix ∙ ap (λ l. prefix_of l one.address) len ∙ ap (λ a. prefix_of q.len a) address ∙ sym other.prefix
+
 IsPrefixText-own : (p : PrefixValue) → IsPrefix p → IsPrefixText (prefix_text p) p
 IsPrefixText-own p is = record {
   address = p.address;
@@ -38,15 +49,7 @@ IsPrefixText-own p is = record {
   prefix = ap (λ a. record { address = a; len = p.len }) (sym is.clear);
 }
 
-IsPrefixText-only : (p q : PrefixValue) → IsPrefix p → IsPrefixText (prefix_text p) q → q ≡ p
-IsPrefixText-only p q is read =
-    let joined : address_text p.address ++ 47 ∷ decimal p.len ≡ address_text read.address ++ 47 ∷ decimal q.len =
-    sym (append_assoc (address_text p.address) (47 ∷ []) (decimal p.len)) ∙ read.text ∙ append_assoc (address_text read.address) (47 ∷ []) (decimal q.len) in
-    let texts : address_text p.address ≡ address_text read.address = front _ _ _ _ (NoSlash-address p.address) (NoSlash-address read.address) joined in
-    let address : read.address ≡ p.address = (IsAddressText-printed p.address read.address is.address).0 (record { fits = read.fits; text = texts }) in
-    let decimals : decimal p.len ≡ decimal q.len = back (address_text p.address) _ _ (joined ∙ ap (λ t. t ++ 47 ∷ decimal q.len) (sym texts)) in
-    let len : q.len ≡ p.len = sym (decimal_injective p.len q.len (omega (arith, is.len)) (omega (arith, read.short)) decimals) in
-    read.prefix ∙ ap (λ l. prefix_of l read.address) len ∙ ap (λ a. prefix_of p.len a) address ∙ ap (λ a. record { address = a; len = p.len }) is.clear
-
 pub IsPrefixText-printed : (p q : PrefixValue) → IsPrefix p → IsPrefixText (prefix_text p) q ↔ (q ≡ p)
-IsPrefixText-printed p q is = ((λ read. IsPrefixText-only p q is read), λ same. rw same (IsPrefixText-own p is))
+IsPrefixText-printed p q is =
+    let own : IsPrefixText (prefix_text p) p = IsPrefixText-own p is in
+    ((λ read. IsPrefixText_unique (prefix_text p) q p read own), λ same. rw same own)

@@ -1,8 +1,8 @@
 -- A message that is written reads as itself.
-use Rattle.std.proofs.Common.{◌≡◌, ℕ, zero, suc, ◌+◌, ◌-◌, ◌*◌, ◌/◌, ◌^◌, ◌<◌, ◌≤◌, List, [], ◌∷◌, ◌++◌, length, take, map, Bool, false, cond, eqb, Option, Some, None, refl, sym, ap, ◌∙◌, arith, subst, append_assoc, length-append}
+use Rattle.std.proofs.Common.{◌≡◌, ℕ, zero, suc, ◌+◌, ◌-◌, ◌*◌, ◌/◌, ◌^◌, ◌<◌, ◌≤◌, List, [], ◌∷◌, ◌++◌, length, take, map, Bool, false, cond, eqb, Option, Some, None, refl, sym, ap, ◌∙◌, arith, subst, append_assoc}
 use Rattle.std.specs.Prelude.{◌&&◌, ◌||◌, not}
 use Rattle.std.specs.List.{flat_map, AllByRecursion, list_any, IsDistinct}
-use Rattle.std.specs.Int.{w16, w32, to_be_bytes}
+use Rattle.std.specs.Int.{w32, to_be_bytes}
 use Rattle.std.proofs.Math.Nat.{mul_assoc}
 use Rattle.std.proofs.lemmas.Nat.{pow-add}
 use Rattle.std.proofs.lemmas.Bool.Decides.{nat_tests}
@@ -18,12 +18,12 @@ use Rattle.bgp_types.specs.declared.fault.FoundAttrs.{FoundAttrs}
 use Rattle.bgp_types.specs.Found.{found_in}
 use Rattle.bgp_types.specs.Prefixes.{PrefixValue, IsPrefix, cleared, octets_for, prefix_octets, address_of, WirePrefix, IsWirePrefix, wire_octets, prefix_said, same_prefix, once_after}
 use Rattle.bgp_types.specs.Reads.{Reads, ReadsBody, ReadsPrefixes, ReadsAttrs, ReadsUpdate, ReadsOpen, Says}
-use Rattle.bgp_types.specs.Spelling.{counted, cap_octets, param_octets, spell_prefixes, spell_some_attrs, spell_update, open_octets, spell_open, spell_body, kind_of, spell}
+use Rattle.bgp_types.specs.Spelling.{cap_octets, param_octets, spell_prefixes, spell_some_attrs, spell_update, open_octets, spell_open, spell_body, kind_of, spell}
 use Rattle.bgp_types.specs.UpdateBody.{apart}
 use Rattle.bgp_types.specs.Values.{is_no_host}
 use Rattle.bgp_types.specs.Writable.{IsWritableOpen, HasAttrsFor, IsWritableUpdate, IsWritableBody, IsWritable}
 use Rattle.bgp_types.proofs.AttrsWritten.{attrs_again, all_found}
-use Rattle.bgp_types.proofs.Lengths.{framed_size}
+use Rattle.bgp_types.proofs.Lengths.{framed_size, update_fields_size}
 
 -- ---- prefixes
 
@@ -139,19 +139,13 @@ some_again wide (Some a) nlri h lt = record { found = all_found a; reads = attrs
 
 pub update_written : (wide : Bool) (u : Update) → IsWritableUpdate u → length (spell_update wide u) < 65536 → ReadsUpdate wide (spell_update wide u) u
 update_written wide u w lt =
-    let withdrawn : List ℕ = spell_prefixes u.withdrawn in
-    let attrs : List ℕ = spell_some_attrs wide u.attrs in
-    let nlri : List ℕ = spell_prefixes u.nlri in
-    let all : length (spell_update wide u) ≡ length (counted withdrawn) + length (counted attrs ++ nlri) = length-append (counted withdrawn) (counted attrs ++ nlri) in
-    let rest : length (counted attrs ++ nlri) ≡ length (counted attrs) + length nlri = length-append (counted attrs) nlri in
-    let first : length (counted withdrawn) ≡ 2 + length withdrawn = length-append (to_be_bytes w16 (length withdrawn)) withdrawn in
-    let second : length (counted attrs) ≡ 2 + length attrs = length-append (to_be_bytes w16 (length attrs)) attrs in
+    let size = update_fields_size wide u in
     let parts = distinct_parts u.withdrawn u.nlri w.once in
     let some = some_again wide u.attrs u.nlri w.attrs (omega arith) in
     record {
-      withdrawn = withdrawn;
-      attrs = attrs;
-      nlri = nlri;
+      withdrawn = spell_prefixes u.withdrawn;
+      attrs = spell_some_attrs wide u.attrs;
+      nlri = spell_prefixes u.nlri;
       fields = refl;
       withdrawn_room = omega arith;
       attrs_room = omega arith;

@@ -2,7 +2,6 @@
 use Rattle.std.proofs.Common.{◌≡◌, ℕ, ◌+◌, ◌<◌, ◌≤◌, List, [], ◌∷◌, ◌++◌, length, take, drop, Bool, true, false, cond, eqb, Option, Some, None, ap, arith, subst, length-append, length-drop}
 use Rattle.std.specs.Prelude.{All}
 use Rattle.std.specs.List.{list_all, flat_map, AllByRecursion}
-use Rattle.std.specs.Int.{w16, to_be_bytes}
 use Rattle.std.proofs.lemmas.Bool.Decides.{nat_tests}
 use Rattle.std.proofs.lemmas.List.Elements.{All-from_recursion}
 use Rattle.bgp_types.specs.declared.attrs.Attrs.{Attrs}
@@ -13,10 +12,10 @@ use Rattle.bgp_types.specs.declared.message.Message.TheVariants as messages
 use Rattle.bgp_types.specs.declared.message.Update.{Update}
 use Rattle.bgp_types.specs.Header.{frame_at, header_fault, len_in, kind_in, has_room, fault_of_kind}
 use Rattle.bgp_types.specs.Prefixes.{PrefixValue}
-use Rattle.bgp_types.specs.Spelling.{counted, cap_octets, param_octets, spell_prefixes, spell_some_attrs, spell_update, spell_body, kind_of, spell}
+use Rattle.bgp_types.specs.Spelling.{cap_octets, param_octets, spell_some_attrs, spell_update, spell_body, kind_of, spell}
 use Rattle.bgp_types.specs.Writable.{HasAttrsFor, IsWritable, IsWritableBody}
 use Rattle.bgp_types.proofs.FrameLaws.{frame_is}
-use Rattle.bgp_types.proofs.Lengths.{framed_size}
+use Rattle.bgp_types.proofs.Lengths.{framed_size, update_fields_size}
 use Rattle.bgp_types.proofs.MessageLaws.{room_is}
 use Rattle.bgp_wire.specs.Written.{FitsSome, FitsUpdate, FitsBody}
 
@@ -58,13 +57,7 @@ fits_some wide (Some a) nlri h lt = record { writable = h.1; size = lt }
 
 fits_update : (wide : Bool) (u : Update) → HasAttrsFor u.attrs u.nlri → length (spell_update wide u) < 65536 → FitsUpdate u wide
 fits_update wide u h lt =
-    let withdrawn : List ℕ = spell_prefixes u.withdrawn in
-    let attrs : List ℕ = spell_some_attrs wide u.attrs in
-    let nlri : List ℕ = spell_prefixes u.nlri in
-    let all : length (spell_update wide u) ≡ length (counted withdrawn) + length (counted attrs ++ nlri) = length-append (counted withdrawn) (counted attrs ++ nlri) in
-    let rest : length (counted attrs ++ nlri) ≡ length (counted attrs) + length nlri = length-append (counted attrs) nlri in
-    let first : length (counted withdrawn) ≡ 2 + length withdrawn = length-append (to_be_bytes w16 (length withdrawn)) withdrawn in
-    let second : length (counted attrs) ≡ 2 + length attrs = length-append (to_be_bytes w16 (length attrs)) attrs in
+    let size = update_fields_size wide u in
     record { withdrawn = omega arith; attrs = omega arith; each = fits_some wide u.attrs u.nlri h (omega arith) }
 
 pub spelled_size : (m : Message) (wide : Bool) → length (spell m wide) ≡ 19 + length (spell_body m wide)

@@ -1,25 +1,18 @@
 -- Prefixes that a frame reads as: each is one, and none stands twice.
-use Rattle.std.proofs.Common.{◌≡◌, ℕ, zero, suc, ◌*◌, ◌/◌, ◌-◌, ◌^◌, ◌<◌, ◌≤◌, List, [], ◌∷◌, ◌++◌, length, map, drop, Bool, true, false, cond, refl, sym, ap, subst, arith}
+use Rattle.std.proofs.Common.{◌≡◌, ℕ, zero, suc, ◌^◌, ◌<◌, List, [], ◌∷◌, ◌++◌, length, map, drop, Bool, true, false, cond, refl, sym, subst, arith}
 use Rattle.std.specs.Prelude.{All, not, filter}
 use Rattle.std.specs.List.{flat_map, AllByRecursion, IsDistinct, list_any}
 use Rattle.std.proofs.lemmas.List.Elements.{All-from_recursion}
-use Rattle.std.proofs.lemmas.Nat.{shl-shr, shr_split}
 use Rattle.bgp_types.specs.OctetLists.{AreOctets}
-use Rattle.bgp_types.specs.Prefixes.{PrefixValue, WirePrefix, IsPrefix, IsWirePrefix, address_of, wire_octets, cleared, prefix_said, same_prefix, put_once, once_after}
+use Rattle.bgp_types.specs.Prefixes.{PrefixValue, WirePrefix, IsPrefix, IsWirePrefix, address_of, wire_octets, prefix_said, same_prefix, once_after}
 use Rattle.bgp_types.specs.Reads.{ReadsPrefixes}
 use Rattle.bgp_types.specs.UpdateBody.{apart}
 use Rattle.bgp_types.proofs.AttrLaws.{wide32, AreOctets-drop}
 use Rattle.bgp_types.proofs.ManyLaws.{either_false}
-use Rattle.bgp_types.proofs.OnceLaws.{each_once}
+use Rattle.bgp_types.proofs.OnceLaws.{IsPrefix-prefix_of, once_each, each_once}
 use Rattle.bgp_wire.proofs.OctetLaws.{AreOctets-front, AreOctets-back, AreOctets-append}
 
 -- ---- each is a prefix
-
-cleared_again : (len address : ℕ) → cleared len (cleared len address) ≡ cleared len address
-cleared_again len address = ap (λ (n : ℕ). n * 2 ^ (32 - len)) (shl-shr (address / 2 ^ (32 - len)) (32 - len))
-
-cleared_le : (len address : ℕ) → cleared len address ≤ address
-cleared_le len address = let h = shr_split address (32 - len) in omega arith
 
 no_octets : AreOctets (0 ∷ 0 ∷ 0 ∷ 0 ∷ [])
 no_octets zero = omega arith
@@ -32,8 +25,7 @@ said_is : (w : WirePrefix) → IsWirePrefix w → AreOctets w.octets → IsPrefi
 said_is w fits octets =
     let address : ℕ = address_of w.octets in
     let below : address < 2 ^ 32 = wide32.below (w.octets ++ drop (length w.octets) (0 ∷ 0 ∷ 0 ∷ 0 ∷ [])) (AreOctets-append w.octets _ octets (AreOctets-drop (length w.octets) (0 ∷ 0 ∷ 0 ∷ 0 ∷ []) no_octets)) in
-    let le = cleared_le w.len address in
-    record { len = fits.len; address = omega arith; clear = cleared_again w.len address }
+    IsPrefix-prefix_of w.len address fits.len below
 
 all_said : (ws : List WirePrefix) → AreOctets (flat_map wire_octets ws) → AllByRecursion IsWirePrefix ws → AllByRecursion IsPrefix (map prefix_said ws)
 all_said [] octets each = tt
@@ -43,20 +35,6 @@ all_said (w ∷ ws) octets each = (
 )
 
 -- ---- each stands once
-
-all_push : {A : Type 0} (P : A → Type 0) (xs : List A) (x : A) → AllByRecursion P xs → P x → AllByRecursion P (xs ++ x ∷ [])
-all_push P [] x all here = (here, tt)
-all_push P (y ∷ xs) x all here = (all.0, all_push P xs x all.1 here)
-
-put_each : (seen : List PrefixValue) (p : PrefixValue) → AllByRecursion IsPrefix seen → IsPrefix p → AllByRecursion IsPrefix (put_once seen p)
-put_each seen p each here = by_test (list_any (same_prefix p) seen) where
-  by_test : (t : Bool) → AllByRecursion IsPrefix (cond t seen (seen ++ p ∷ []))
-  by_test true = each
-  by_test false = all_push IsPrefix seen p each here
-
-once_each : (seen ps : List PrefixValue) → AllByRecursion IsPrefix seen → AllByRecursion IsPrefix ps → AllByRecursion IsPrefix (once_after seen ps)
-once_each seen [] each more = each
-once_each seen (p ∷ ps) each more = once_each (put_once seen p) ps (put_each seen p each more.0) more.1
 
 -- prefixes that a field reads as
 pub record IsOnce (ps : List PrefixValue) : Type 0 where

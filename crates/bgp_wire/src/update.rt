@@ -71,10 +71,7 @@ fn all_in(alloc: Global, found: FoundAttrs) -> Result<Attrs, CodecFault>
         origin,
         path,
         next_hop,
-        med,
-        atomic,
-        aggregator,
-        unknown,
+        ..
     } = found;
     let Some(origin) = origin else {
         return Err(fault(alloc, UPDATE_FAULT, MISSING_ATTRIBUTE, &[ORIGIN]));
@@ -89,10 +86,10 @@ fn all_in(alloc: Global, found: FoundAttrs) -> Result<Attrs, CodecFault>
         origin,
         path,
         next_hop,
-        med,
-        atomic,
-        aggregator,
-        unknown,
+        med: found.med,
+        atomic: found.atomic,
+        aggregator: found.aggregator,
+        unknown: found.unknown,
     })
 }
 

@@ -1,8 +1,6 @@
 -- Prefixes as texts write them, each once.
-use Rattle.std.proofs.Common.{◌≡◌, ℕ, ◌≤◌, List, [], ◌∷◌, ◌++◌, length, false, eqb, refl, sym, ap, ◌∙◌, subst, arith, append_assoc, decimal}
+use Rattle.std.proofs.Common.{◌≡◌, ℕ, ◌≤◌, List, [], length, sym, ap, ◌∙◌, subst}
 use Rattle.std.specs.Prelude.{Option, Some, None, Result, Ok, Err}
-use Rattle.std.proofs.lemmas.Bool.{false≢true}
-use Rattle.std.proofs.lemmas.Fmt.{decimal_injective}
 use Rattle.toml.specs.Data.{Data, string, array, Members, get_member}
 use Rattle.toml.specs.declared.value.Value.{Value}
 use Rattle.toml.specs.View.{items_view}
@@ -10,42 +8,14 @@ use Rattle.lab_input.specs.declared.input.LabStop.{LabStop}
 use Rattle.lab_input.specs.declared.input.LabStop.TheVariants.{Bad, NoMemory}
 use Rattle.lab_input.specs.Labs.{FindsOrStops}
 use Rattle.bgp_types.specs.Finds.{Finds}
-use Rattle.bgp_types.specs.Prefixes.{PrefixValue, prefix_of, put_once, once_after, EachOnce}
+use Rattle.bgp_types.specs.Prefixes.{PrefixValue, once_after, EachOnce}
 use Rattle.bgp_types.proofs.OnceLaws.{each_once}
-use Rattle.bgp_types.specs.Texts.{IsPrefixText, address_text}
-use Rattle.bgp_types.proofs.TextLemmas.{IsAddressText_unique, NoSlash, NoSlash-address}
+use Rattle.bgp_types.specs.Texts.{IsPrefixText}
+use Rattle.bgp_types.proofs.PrintedTexts.{IsPrefixText_unique}
 use Rattle.lab_input.specs.Fields.{Each, GivesPrefix, PrefixesAt}
 use Rattle.lab_input.proofs.Every.{each_same, array_gives, array_of}
 
 -- ---- texts
-
--- the parts before the first slash of equal texts are equal, and those after it
-front : (xs ys us vs : List ℕ) → NoSlash xs → NoSlash ys → xs ++ 47 ∷ us ≡ ys ++ 47 ∷ vs → xs ≡ ys
-front [] [] us vs free free' e = refl
-front [] (y ∷ ys) us vs free free' e = absurd (false≢true (sym (subst (λ c. eqb c 47 ≡ false) (sym (head_of e)) free'.0)))
-  where
-    head_of : 47 ∷ us ≡ (y ∷ ys) ++ 47 ∷ vs → 47 ≡ y
-    head_of e = cc
-front (x ∷ xs) [] us vs free free' e = absurd (false≢true (sym (subst (λ c. eqb c 47 ≡ false) (head_of e) free.0)))
-  where
-    head_of : (x ∷ xs) ++ 47 ∷ us ≡ 47 ∷ vs → x ≡ 47
-    head_of e = cc
-front (x ∷ xs) (y ∷ ys) us vs free free' e = let rest : xs ≡ ys = front xs ys us vs free.1 free'.1 cc in let same : x ≡ y = cc in cc
-
-back : (xs us vs : List ℕ) → xs ++ 47 ∷ us ≡ xs ++ 47 ∷ vs → us ≡ vs
-back [] us vs e = cc
-back (x ∷ xs) us vs e = back xs us vs cc
-
--- a text writes one prefix at most
-IsPrefixText_unique : (text : List ℕ) (p q : PrefixValue) → IsPrefixText text p → IsPrefixText text q → p ≡ q
-IsPrefixText_unique text p q one other =
-    let joined : address_text one.address ++ 47 ∷ decimal p.len ≡ address_text other.address ++ 47 ∷ decimal q.len =
-    sym (append_assoc (address_text one.address) (47 ∷ []) (decimal p.len)) ∙ sym one.text ∙ other.text ∙ append_assoc (address_text other.address) (47 ∷ []) (decimal q.len) in
-    let texts : address_text one.address ≡ address_text other.address = front _ _ _ _ (NoSlash-address one.address) (NoSlash-address other.address) joined in
-    let address : one.address ≡ other.address = IsAddressText_unique (address_text one.address) one.address other.address (record { fits = one.fits; text = refl }) (record { fits = other.fits; text = texts }) in
-    let decimals : decimal p.len ≡ decimal q.len = back (address_text one.address) _ _ (joined ∙ ap (λ t. t ++ 47 ∷ decimal q.len) (sym texts)) in
-    let len : p.len ≡ q.len = decimal_injective p.len q.len (omega (arith, one.short)) (omega (arith, other.short)) decimals in
-    one.prefix ∙ ap (λ l. prefix_of l one.address) len ∙ ap (λ a. prefix_of q.len a) address ∙ sym other.prefix
 
 pub GivesPrefix_unique : (d : Data) (p q : PrefixValue) → GivesPrefix d p → GivesPrefix d q → p ≡ q
 GivesPrefix_unique d p q one other =
@@ -74,15 +44,3 @@ pub prefixes_answers : (t : Members) (key : List ℕ) (vs : List Value)
 prefixes_answers t key vs at enough few (Ok ps) (written, all, is) = record { written = written; at = array_gives t key 1 200 GivesPrefix vs at enough few written all; once = is }
 prefixes_answers t key vs at enough few (Err (Bad bad)) none = λ ps is. none ps (is.written, array_of t key 1 200 GivesPrefix vs at is.written is.at, is.once)
 prefixes_answers t key vs at enough few (Err NoMemory) none = tt
-
-once_after-push : (seen ps : List PrefixValue) (p : PrefixValue) → once_after seen (ps ++ p ∷ []) ≡ put_once (once_after seen ps) p
-once_after-push seen [] p = refl
-once_after-push seen (q ∷ ps) p = once_after-push (put_once seen q) ps p
-
--- one further prefix at the end
-pub EachOnce-push : (written prefixes : List PrefixValue) (p : PrefixValue) → EachOnce written prefixes → EachOnce (written ++ p ∷ []) (put_once prefixes p)
-EachOnce-push written prefixes p so_far =
-    (each_once (written ++ p ∷ []) (put_once prefixes p)).0 (ap (λ ps. put_once ps p) ((each_once written prefixes).1 so_far) ∙ sym (once_after-push [] written p))
-
-pub EachOnce-none : EachOnce [] []
-EachOnce-none = (each_once [] []).0 refl

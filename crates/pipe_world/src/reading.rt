@@ -17,20 +17,19 @@ ghost use Rattle.pipe_model.specs.Claims.{BeginsNothing};
 ghost use Rattle.pipe_model.specs.Worlds.{unread};
 ghost use Rattle.pipe_world.specs.Views.{Stands, Went, AtFront, reading, session_in};
 
-use crate::front::{Front, header_notice, next_front};
+use crate::front::{Front, next_front};
 use crate::marks::{mark_all, mark_heard};
 use crate::world::PipeWorld;
-use bgp_types::{Expected, HeaderFault, Message, NoMemory, Notice, Octets, SessionState, Update};
-use bgp_wire::{CodecFault, read_message, write_message};
+use bgp_types::{
+    Expected, HEADER, HeaderFault, Message, NoMemory, Notice, Octets, SessionState, Update,
+};
+use bgp_wire::{CodecFault, header_notice, read_message, write_message};
 use prefix_trie::TrieTable;
 
 /// The number of the router, and of the event by which it gets a message.
 const ROUTER: u16 = 0;
 
 const GOT: u16 = 5;
-
-/// The octets of a header.
-const HEADER: usize = 19;
 
 impl PipeWorld {
     /// Writes down what is got.

@@ -69,26 +69,11 @@ fn decide(rule: &Rule, route: Route, as_number: u32) -> Result<Option<Route>, No
     if rule.deny {
         return Ok(None);
     }
-    let Route { attrs, pref } = route;
-    let Attrs {
-        origin,
-        path,
-        next_hop,
-        med,
-        atomic,
-        aggregator,
-        unknown,
-    } = attrs;
+    let Route { mut attrs, pref } = route;
+    attrs.path = prepend_times(attrs.path, as_number, rule.prepend)?;
+    attrs.med = rule.med.or(attrs.med);
     Ok(Some(Route {
-        attrs: Attrs {
-            origin,
-            path: prepend_times(path, as_number, rule.prepend)?,
-            next_hop,
-            med: rule.med.or(med),
-            atomic,
-            aggregator,
-            unknown,
-        },
+        attrs,
         pref: rule.pref.unwrap_or(pref),
     }))
 }

@@ -2,7 +2,7 @@ use Rattle.std.proofs.Common.{[], ◌∷◌, ◌++◌, sym, subst, arith}
 use Rattle.bgp_types.specs.Prefixes.{EachOnce}
 use Rattle.lab_input.specs.Fields.{GivesPrefix}
 use Rattle.lab_input.proofs.Every.{each_more, each_refused}
-use Rattle.lab_input.proofs.Repeated.{EachOnce-push, EachOnce-none}
+use Rattle.bgp_types.proofs.OnceLaws.{EachOnce-push, EachOnce-none}
 use Rattle.lab_input.proofs.arrays.prefixes_of.Goals as goal
 
 pub loop-value-init : goal.loop-value-init
