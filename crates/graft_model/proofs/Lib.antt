@@ -1,5 +1,7 @@
 pub mod Still
+mod Dues
 mod KindNumbers
 mod Same
+mod Needs
 mod OneOutcome
 mod FarOutcome
