@@ -1,6 +1,6 @@
 -- What becomes due where a prefix is decided.
 use Rattle.std.proofs.Common.{◌≡◌, ℕ, ◌≤◌, Bool, true, false, cond, List, Option, Some, None, refl, sym, ap, ◌∙◌, inl, inr, arith}
-use Rattle.std.specs.Prelude.{◌≢◌, ◌==◌, ◌&&◌, ◌||◌, not, nat_lt}
+use Rattle.std.specs.Prelude.{◌≢◌, ◌&&◌, ◌||◌}
 use Rattle.std.specs.Ordering.{eq_by_cmp}
 use Rattle.std.proofs.lemmas.Bool.Decides.{nat_tests}
 use Rattle.std.specs.FinMap as map
@@ -60,12 +60,6 @@ not_held (Live session order) never = not_up (state session) never
 not_held (Frozen session order) never = not_up (state session) never
 not_held (Shadow graft) never = refl
 
-not_itself : (n r : ℕ) → (nat_lt r n && not (r == r)) ≡ false
-not_itself n r = grind (arith, nat_tests)
-
-not_beyond : (n q r : ℕ) → n ≤ q → (nat_lt q n && not (q == r)) ≡ false
-not_beyond n q r above = grind (arith, nat_tests)
-
 -- ---- the best route to another prefix
 
 key_apart : (x prefix : PrefixValue) → x ≢ prefix → eq_by_cmp prefix_cmp x prefix ≡ false
@@ -84,13 +78,13 @@ module _ (setup : Setup) (r : ℕ) (prefix : PrefixValue) (before after : Router
   pub itself : after.due_in r ≡ before.due_in r
   itself = elim row.due [
     | inl same ↦ ap (λ (d : ℕ → Prefixes). d r) same.1
-    | inr due ↦ adds_none (before.due_in r) (after.due_in r) prefix _ (due.1.routers r) (not_itself (routers_in setup) r)
+    | inr due ↦ adds_none (before.due_in r) (after.due_in r) prefix _ (due.1.routers r) (grind (arith, nat_tests))
   ]
 
   pub beyond : (q : ℕ) → routers_in setup ≤ q → after.due_in q ≡ before.due_in q
   beyond q above = elim row.due [
     | inl same ↦ ap (λ (d : ℕ → Prefixes). d q) same.1
-    | inr due ↦ adds_none (before.due_in q) (after.due_in q) prefix _ (due.1.routers q) (not_beyond (routers_in setup) q r above)
+    | inr due ↦ adds_none (before.due_in q) (after.due_in q) prefix _ (due.1.routers q) (grind (arith, nat_tests))
   ]
 
   pub no_session : (p : ℕ) → (HasEstablished (before.places p) → ⊥) → after.due_out p ≡ before.due_out p

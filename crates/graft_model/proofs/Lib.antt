@@ -1,5 +1,7 @@
 pub mod Still
+mod Dirties
 mod Dues
+mod Ends
 mod KindNumbers
 mod Same
 mod Needs

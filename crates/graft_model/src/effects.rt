@@ -1,17 +1,19 @@
 //! What an event changes, and what it leaves, where the rows give a set or a table by its members.
 
-ghost use Rattle.std.specs.Prelude.{◌≡◌, ◌≢◌, ◌<◌, ◌≤◌, ◌+◌, ◌++◌, ◌^◌, ℕ, suc, Bool, true, false, List, [], ◌∷◌, length, Option, Some, None, slice_get, unwrap_or};
+ghost use Rattle.std.specs.Prelude.{◌≡◌, ◌≢◌, ◌<◌, ◌≤◌, ◌+◌, ◌++◌, ◌^◌, ℕ, suc, Bool, true, false, List, [], ◌∷◌, length, Option, Some, None, slice_get, unwrap_or, is_some};
 ghost use Rattle.std.specs.FinMap as map;
 ghost use Rattle.bgp_types.specs.Prefixes.{PrefixValue};
+ghost use Rattle.bgp_types.specs.declared.message.SessionState.TheVariants.{OpenConfirm, Established, Closed};
+ghost use Rattle.bgp_types.specs.declared.attrs.Route.{Route};
 ghost use Rattle.graft_steps.specs.declared.refusal.Refusal.{Refusal};
 ghost use Rattle.tcp_seq.specs.Endpoint.{PlacedSegment};
-ghost use Rattle.session_value.specs.Sessions.{SessionValue};
+ghost use Rattle.session_value.specs.Sessions.{SessionValue, state};
 ghost use Rattle.graft_model.specs.Sets.{has};
 ghost use Rattle.graft_model.specs.Setups.{Setup, RouterSetup, SayStep, routers_in, cost_between};
-ghost use Rattle.graft_model.specs.Parts.{RouterPart, FarPart, Order, Live, Seg, Moved, Back};
+ghost use Rattle.graft_model.specs.Parts.{RouterPart, FarPart, Order, Live, Told, Seg, Moved, Back, Done};
 ghost use Rattle.graft_model.specs.RouterRows.{RouterTaken, MeshIn, RouterSent, OutwardTo};
 ghost use Rattle.graft_model.specs.FarRows.{FarTaken, FarSent};
-ghost use Rattle.graft_model.specs.Steps.{Put, Emit, Decide, Leave, Land, Return, Say, Send, Pass, router_row, far_row};
+ghost use Rattle.graft_model.specs.Steps.{Put, Emit, Decide, Got, Hear, Tick, Leave, Land, Return, Clear, Say, Send, Pass, router_row, far_row};
 ghost use Rattle.graft_model.specs.Decisions.{chosen, to_tell};
 ghost use Rattle.graft_model.specs.Conditions.{HasEstablished};
 
@@ -101,4 +103,35 @@ pub fn policies_and_costs_are_the_routers_own()
         → one.config.peering ≡ other.config.peering → one.config.local_address ≡ other.config.local_address → one.config.export ≡ other.config.export
         → to_tell setup r part one prefix ≡ to_tell setup r part other prefix }
     ensures cost { (setup : Setup) (r q : ℕ) (router : RouterSetup) → slice_get setup.routers r ≡ Some router → cost_between setup r q ≡ unwrap_or (slice_get router.costs q) 1 }
+{}
+
+/// A prefix for which a router has something else than before is to be decided again: where another router told another route, where a session that landed brought
+/// in an entry, and where the entries of a session that went were cleared.
+pub fn what_changed_is_dirty()
+    ensures hear { (setup : Setup) (r q : ℕ) (prefix : PrefixValue) (route : Option Route) (before after : RouterPart) (sent : List RouterSent)
+        → router_row setup r (Hear q) before (Some (MeshIn q (Told prefix route))) sent after
+        → route ≢ map.get (before.tellings q) prefix → has after.dirty prefix ≡ true }
+    ensures land { (setup : Setup) (r q k p : ℕ) (session : SessionValue) (x : PrefixValue) (before after : RouterPart) (sent : List RouterSent)
+        → router_row setup r (Land q) before (Some (MeshIn q (Moved k p session))) sent after
+        → map.get (after.entries p) x ≢ map.get (before.entries p) x → has after.dirty x ≡ true }
+    ensures clear { (setup : Setup) (r q k p : ℕ) (x : PrefixValue) (before after : RouterPart) (sent : List RouterSent)
+        → router_row setup r (Clear q) before (Some (MeshIn q (Done k p))) sent after
+        → map.get (before.entries p) x ≢ None → has after.dirty x ≡ true }
+    ensures got { (setup : Setup) (r p : ℕ) (x : PrefixValue) (before after : RouterPart) (taken : Option RouterTaken) (sent : List RouterSent)
+        → router_row setup r (Got p) before taken sent after
+        → map.get (after.entries p) x ≢ map.get (before.entries p) x → has after.dirty x ≡ true }
+    ensures stays { (setup : Setup) (r q k p : ℕ) (session : SessionValue) (x : PrefixValue) (before after : RouterPart) (sent : List RouterSent)
+        → router_row setup r (Land q) before (Some (MeshIn q (Moved k p session))) sent after
+        → has before.dirty x ≡ true → has after.dirty x ≡ true }
+{}
+
+/// Nothing is due on the peering of a session that has closed, and all best routes are due where one has been established.
+pub fn states_say_what_is_due()
+    ensures closed { (setup : Setup) (r p : ℕ) (next : SessionValue) (order : Option Order) (x : PrefixValue) (before after : RouterPart) (taken : Option RouterTaken) (sent : List RouterSent)
+        → router_row setup r (Got p) before taken sent after → after.places p ≡ Live next order → state next ≡ Closed → has (after.due_out p) x ≡ false }
+    ensures expired { (setup : Setup) (r p round : ℕ) (next : SessionValue) (order : Option Order) (x : PrefixValue) (before after : RouterPart) (taken : Option RouterTaken) (sent : List RouterSent)
+        → router_row setup r (Tick p round) before taken sent after → after.places p ≡ Live next order → state next ≡ Closed → has (after.due_out p) x ≡ false }
+    ensures established { (setup : Setup) (r p : ℕ) (session next : SessionValue) (order other : Option Order) (x : PrefixValue) (before after : RouterPart) (taken : Option RouterTaken) (sent : List RouterSent)
+        → router_row setup r (Got p) before taken sent after → before.places p ≡ Live session order → state session ≡ OpenConfirm
+        → after.places p ≡ Live next other → state next ≡ Established → has (after.due_out p) x ≡ is_some (map.get before.best x) }
 {}

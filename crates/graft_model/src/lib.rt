@@ -16,7 +16,7 @@ pub use conditions::{
 pub use effects::{
     another_best_route_is_due, leaving_keeps_the_entries, moved_sessions_are_told_again,
     policies_and_costs_are_the_routers_own, sayings_join_the_stream, segments_are_what_events_name,
-    what_is_put_has_room,
+    states_say_what_is_due, what_changed_is_dirty, what_is_put_has_room,
 };
 pub use kind::{EventKind, args_prefix, kind_of, prefix_args};
 pub use laws::{
