@@ -15,3 +15,4 @@ pub mod First
 pub mod Claims
 pub mod Codes
 pub mod Laws
+pub mod Conditions

@@ -11,3 +11,5 @@ pub mod StartTables
 pub mod StartRun
 pub mod Others
 pub mod Moves
+pub mod Puts
+pub mod Sends

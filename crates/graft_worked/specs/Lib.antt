@@ -4,3 +4,4 @@ pub mod First
 pub mod Graft
 pub mod Start
 pub mod Others
+pub mod Puts

@@ -1,15 +1,23 @@
-//! What holds of the worked worlds.
+//! What holds of the worked worlds. Each of the 28 kinds of events has among them a world in which it can happen, and one in which it can't:
+//!
+//! | Kinds | Can happen | Can't happen, of router a, router b, the far side or the operator |
+//! |---|---|---|
+//! | Order, Say, Send, Pass, Arrive, Got, Emit, Take, Reach, Decide, Put of none, Tell, Hear | on the way from the first world (`base_runs_to_its_end`) | at its end (`some_events_never_happen`; of Emit and Send `nothing_is_sent_at_the_end`) |
+//! | Go, Admit, Freeze, Leave, Land, Point, Clear, Note | in the graft (`a_graft_runs_to_its_end`) | at its end |
+//! | Put of one | `an_update_may_be_put` | at its end |
+//! | Stray, Refuse, TurnBack, Return, Lose, Beat, Tick | `other_events_may_happen` | at its end |
 
-ghost use Rattle.std.specs.Prelude.{◌≡◌, ◌++◌, ℕ};
+ghost use Rattle.std.specs.Prelude.{◌≡◌, ◌≢◌, ◌++◌, ℕ, suc};
 ghost use Rattle.graft_model.specs.Claims.{Solves};
 ghost use Rattle.graft_model.specs.First.{first_world};
 ghost use Rattle.graft_model.specs.Laws.{MayStillHappen};
 ghost use Rattle.graft_model.specs.Quiet.{Quiet};
 ghost use Rattle.graft_model.specs.Setups.{IsSetup};
-ghost use Rattle.graft_model.specs.Steps.{Run, Step, Event, Tick, ByRouter, ByFar, ByOperator, Stray, Refuse, TurnBack, Return, Lose, Beat, Go};
+ghost use Rattle.graft_model.specs.Steps.{Run, Step, Event, Put, Emit, Send, Tick, ByRouter, ByFar, ByOperator, Stray, Refuse, TurnBack, Return, Lose, Beat, Go};
 ghost use Rattle.graft_model.specs.FarRows.{Homeward};
 ghost use Rattle.graft_model.specs.Parts.{World};
 ghost use Rattle.graft_worked.specs.Others as others;
+ghost use Rattle.graft_worked.specs.Puts.{with_route_due, with_route_put, with_link_at_source};
 ghost use Rattle.graft_worked.specs.Base.{base};
 ghost use Rattle.graft_worked.specs.First.{first};
 ghost use Rattle.graft_worked.specs.Graft.{before_graft, graft_events, after_graft, with_entry_kept};
@@ -59,4 +67,23 @@ pub fn some_events_never_happen()
     ensures go { (after : World) → ¬ Step base (ByOperator Go) after_graft after }
     ensures tick { (round : ℕ) (after : World) → ¬ Step base (ByRouter 1 (Tick 0 round)) after_graft after }
     ensures beat { (round : ℕ) (after : World) → ¬ Step base (ByFar 0 (Beat round)) after_graft after }
+{}
+
+/// An UPDATE of one prefix is put, for a route that another router told.
+pub fn an_update_may_be_put()
+    ensures { Step base (ByRouter 0 (Put 0 1)) with_route_due with_route_put }
+{}
+
+/// At the end of the worked run all that was put and said is acknowledged: no bytes are sent on either side, a segment of the remote has place 91, and router a, which
+/// holds no session, sends none.
+pub fn nothing_is_sent_at_the_end()
+    ensures emit { (from len : ℕ) (after : World) → ¬ Step base (ByRouter 0 (Emit 0 from len)) after_graft after }
+    ensures emit_bytes { (from n : ℕ) (after : World) → ¬ Step base (ByRouter 1 (Emit 0 from (suc n))) after_graft after }
+    ensures send_bytes { (from n : ℕ) (after : World) → ¬ Step base (ByFar 0 (Send from (suc n))) after_graft after }
+    ensures send_elsewhere { (from len : ℕ) (after : World) → from ≢ 91 → ¬ Step base (ByFar 0 (Send from len)) after_graft after }
+{}
+
+/// The last world doesn't solve where the link still points at the source.
+pub fn a_link_left_behind_solves_nothing()
+    ensures { ¬ Solves base with_link_at_source }
 {}

@@ -1,0 +1,139 @@
+-- What has to be where an event happens.
+use Rattle.std.proofs.Common.{◌≡◌, ℕ, zero, suc, ◌+◌, ◌<◌, ◌≤◌, Bool, true, false, List, [], ◌∷◌, ◌++◌, Option, Some, None, refl, sym, ap, ◌∙◌, subst, inl, inr, arith}
+use Rattle.std.specs.Prelude.{◌≢◌, ◌⊎◌, ◌&&◌, not, nat_le, Contains}
+use Rattle.std.specs.List.{list_any}
+use Rattle.std.proofs.lemmas.Bool.Decides.{nat_tests}
+use Rattle.std.proofs.lemmas.List.Elements.{All-contains, Contains-append_left}
+use Rattle.std.proofs.lemmas.List.Filters.{length-filter_both}
+use Rattle.std.proofs.lemmas.List.FromFn.{length-range_with_len}
+use Rattle.std.proofs.lemmas.Map.Views.{Contains-from_any}
+use Rattle.bgp_types.specs.declared.message.SessionState.{SessionState}
+use Rattle.bgp_types.specs.declared.message.SessionState.TheVariants.{OpenSent, OpenConfirm, Established, Closed}
+use Rattle.bgp_types.specs.Prefixes.{PrefixValue, same_prefix}
+use Rattle.bgp_types.proofs.OnceLaws.{is_same}
+use Rattle.graft_steps.specs.declared.refusal.Refusal.{Refusal}
+use Rattle.graft_steps.specs.declared.refusal.Refusal.TheVariants.{RouterFull, PolicyMissing}
+use Rattle.graft_steps.specs.Refusals.{freeze_refusal, admit_refusal}
+use Rattle.session_value.specs.Sessions.{SessionValue, state, hold_time}
+use Rattle.graft_model.specs.Sets.{has}
+use Rattle.graft_model.specs.Setups.{Setup, peerings_in, peering_numbers, routers_in, room_of, missing_policy}
+use Rattle.graft_model.specs.Parts.{Place, Vacant, Live, Frozen, Shadow, RouterPart, GraftOrder, Moved, Back}
+use Rattle.graft_model.specs.Decisions.{to_tell}
+use Rattle.graft_model.specs.RouterRows.{RouterTaken, OrderIn, MeshIn, RouterSent, MeshTo, IsToTell}
+use Rattle.graft_model.specs.GraftRows.{Admits, Freezes, Leaves, Lands, TurnsBack, taken_in, is_taken}
+use Rattle.graft_model.specs.Steps.{Put, router_row}
+use Rattle.graft_model.specs.Conditions.{MayFreeze, is_vacant, vacant_in, HasRoom, IsWhyNot}
+
+-- ---- what is due and dirty stays due
+
+both_ways : (b : Bool) → b ≡ true → b ≡ false → ⊥
+both_ways b is is_not = absurd cc
+
+pub still_due : (setup : Setup) (r p n : ℕ) (x : PrefixValue) (before after : RouterPart) (taken : Option RouterTaken) (sent : List RouterSent)
+    → router_row setup r (Put p n) before taken sent after → has before.dirty x ≡ true → has (before.due_out p) x ≡ true → has (after.due_out p) x ≡ true
+still_due setup r p zero x before after taken sent row dirty due =
+    row.due.members x ∙ (ap (λ (z : Bool). z && not (not (has before.dirty x))) due ∙ ap (λ (z : Bool). not (not z)) dirty)
+still_due setup r p (suc n) x before after taken sent row dirty due =
+    row.due.members x ∙ (ap (λ (z : Bool). z && not (list_any (same_prefix x) row.prefixes)) due ∙ ap not (unput (list_any (same_prefix x) row.prefixes) refl)) where
+      told : (y : PrefixValue) → Contains (row.prefixes ++ row.later) y → IsToTell setup r before p row.session y × (to_tell setup r before row.session y ≡ row.attrs)
+      told y there = All-contains (λ z. IsToTell setup r before p row.session z × (to_tell setup r before row.session z ≡ row.attrs)) (row.prefixes ++ row.later) y row.alike.each there
+
+      unput : (t : Bool) → list_any (same_prefix x) row.prefixes ≡ t → t ≡ false
+      unput false is = refl
+      unput true is = absurd (both_ways (has before.dirty x) dirty (told x (Contains-append_left row.prefixes row.later x (Contains-from_any is_same x row.prefixes is))).0.0.1)
+
+-- ---- orders and freezes
+
+ordered_is : (k p t : ℕ) (o : GraftOrder) → Some (OrderIn o) ≡ Some (OrderIn (record { graft = k; peering = p; target = t })) → o ≡ record { graft = k; peering = p; target = t }
+ordered_is k p t o e = cc
+
+pub admits : (setup : Setup) (r k : ℕ) (order : GraftOrder) (before after : RouterPart) (sent : List RouterSent) → Admits setup k before (Some (OrderIn order)) sent after
+    → (order.graft ≡ k) × (order.target < routers_in setup) × (session : SessionValue) × (before.places order.peering ≡ Live session None)
+admits setup r k order before after sent row =
+    let e = sym (ordered_is k row.peering row.target order row.takes) in
+    subst (λ (o : GraftOrder). (o.graft ≡ k) × (o.target < routers_in setup) × (session : SessionValue) × (before.places o.peering ≡ Live session None)) e (refl, row.known, row.session, row.live.is)
+
+abbrev MayGo : ℕ → ℕ → SessionState → ℕ → Type 0
+MayGo r t s h = (s ≡ Established) × (t ≢ r) × ((h ≡ 0) ⊎ (30 ≤ h))
+
+no_cause : (r t : ℕ) (s : SessionState) (h : ℕ) → freeze_refusal (record { 0 = r }) (record { 0 = t }) s h ≡ None → MayGo r t s h
+no_cause r t OpenSent h e = absurd (grind (arith, nat_tests))
+no_cause r t OpenConfirm h e = absurd (grind (arith, nat_tests))
+no_cause r t Closed h e = absurd (grind (arith, nat_tests))
+no_cause r t Established h e = (refl, grind (arith, nat_tests), grind (arith, nat_tests))
+
+pub freezes : (r k : ℕ) (before after : RouterPart) (taken : Option RouterTaken) (sent : List RouterSent) → Freezes r k before taken sent after → MayFreeze r k before
+freezes r k before after taken sent row =
+    let may = no_cause r row.target (state row.session) (hold_time row.session) row.no_cause in
+    record { peering = row.peering; target = row.target; session = row.session; live = row.live.is; established = may.0; elsewhere = may.1; long = may.2 }
+
+pub leaves : (k : ℕ) (before after : RouterPart) (taken : Option RouterTaken) (sent : List RouterSent) → Leaves k before taken sent after
+    → (p : ℕ) × (session : SessionValue) × (target : ℕ) × (before.places p ≡ Frozen session (record { graft = k; target = target })) × (sent ≡ MeshTo target (Moved k p session) ∷ [])
+leaves k before after taken sent row = (row.peering, row.session, row.target, row.frozen, row.sends)
+
+-- ---- landings
+
+taken_or_vacant : (place : Place) → is_vacant place ≡ not (is_taken place)
+taken_or_vacant Vacant = refl
+taken_or_vacant (Live session order) = refl
+taken_or_vacant (Frozen session order) = refl
+taken_or_vacant (Shadow graft) = refl
+
+pub counted : (setup : Setup) (part : RouterPart) → taken_in setup part + vacant_in setup part ≡ peerings_in setup
+counted setup part =
+    length-filter_both (λ p. is_taken (part.places p)) (λ p. is_vacant (part.places p)) (λ p. taken_or_vacant (part.places p)) (peering_numbers setup)
+    ∙ length-range_with_len 0 (peerings_in setup)
+
+moved_is : (q k l p m : ℕ) (s t : SessionValue) → Some (MeshIn q (Moved k p s)) ≡ Some (MeshIn q (Moved l m t)) → (k ≡ l) × (p ≡ m) × (s ≡ t)
+moved_is q k l p m s t e = (cc, cc, cc)
+
+no_refusal : (held room : ℕ) (missing : Option (List ℕ)) → admit_refusal held room missing ≡ None → (held < room) × (missing ≡ None)
+no_refusal held room None e = (grind (arith, nat_tests), refl)
+no_refusal held room (Some name) e = absurd (grind (arith, nat_tests))
+
+some_refusal : (held room : ℕ) (missing : Option (List ℕ)) (refusal : Refusal) → admit_refusal held room missing ≡ Some refusal
+    → ((room ≤ held) × (refusal ≡ RouterFull room)) ⊎ ((held < room) × (name : List ℕ) × (missing ≡ Some name) × (refusal ≡ PolicyMissing name))
+some_refusal held room missing refusal e = by_test missing e (nat_le room held) refl where
+  by_test : (m : Option (List ℕ)) → admit_refusal held room m ≡ Some refusal → (t : Bool) → nat_le room held ≡ t
+      → ((room ≤ held) × (refusal ≡ RouterFull room)) ⊎ ((held < room) × (name : List ℕ) × (m ≡ Some name) × (refusal ≡ PolicyMissing name))
+  by_test m f true is = inl (grind (arith, nat_tests), grind (arith, nat_tests))
+  by_test None f false is = absurd (grind (arith, nat_tests))
+  by_test (Some name) f false is = inr (grind (arith, nat_tests), name, refl, grind (arith, nat_tests))
+
+module _ (setup : Setup) (r q k p : ℕ) (session : SessionValue) (before after : RouterPart) (sent : List RouterSent) where
+  pub lands : Lands setup r q before (Some (MeshIn q (Moved k p session))) sent after
+      → (before.places p ≡ Vacant) × (p < peerings_in setup) × HasRoom setup r before × (missing_policy setup r session.config ≡ None)
+  lands row =
+      let e = moved_is q k row.comes.graft p row.comes.peering session row.comes.session row.comes.takes in
+      let may = no_refusal (taken_in setup before) (room_of setup r) (missing_policy setup r row.comes.session.config) row.admitted in
+      let n = counted setup before in
+      let held : taken_in setup before < room_of setup r = may.0 in
+      let room : HasRoom setup r before = omega arith in (
+        ap before.places e.1 ∙ row.comes.vacant,
+        subst (λ (z : ℕ). z < peerings_in setup) (sym e.1) row.comes.known,
+        room,
+        ap (λ (z : SessionValue). missing_policy setup r z.config) e.2 ∙ may.1,
+      )
+
+  abbrev Why : SessionValue → Refusal → Type 0
+  Why came refusal = ((room_of setup r ≤ taken_in setup before) × (refusal ≡ RouterFull (room_of setup r)))
+      ⊎ ((taken_in setup before < room_of setup r) × (name : List ℕ) × (missing_policy setup r came.config ≡ Some name) × (refusal ≡ PolicyMissing name))
+
+  why_not : (came : SessionValue) (refusal : Refusal) → Why came refusal → taken_in setup before + vacant_in setup before ≡ peerings_in setup → session ≡ came → IsWhyNot setup r before session refusal
+  why_not came refusal (inl full) n e = inl ((λ (has : HasRoom setup r before). let f = full.0 in absurd (omega arith)), full.1)
+  why_not came refusal (inr missing) n e = let f = missing.0 in inr (omega arith, missing.1, ap (λ (z : SessionValue). missing_policy setup r z.config) e ∙ missing.2, missing.3)
+
+  back_is : (l m : ℕ) (came : SessionValue) (refusal : Refusal) → k ≡ l → p ≡ m → session ≡ came → MeshTo q (Back l m came refusal) ∷ [] ≡ MeshTo q (Back k p session refusal) ∷ []
+  back_is l m came refusal e f g = cc
+
+  pub turns_back : TurnsBack setup r q before (Some (MeshIn q (Moved k p session))) sent after
+      → (before.places p ≡ Vacant) × (p < peerings_in setup) × (refusal : Refusal) × IsWhyNot setup r before session refusal × (sent ≡ MeshTo q (Back k p session refusal) ∷ [])
+  turns_back row =
+      let e = moved_is q k row.comes.graft p row.comes.peering session row.comes.session row.comes.takes in
+      let why = some_refusal (taken_in setup before) (room_of setup r) (missing_policy setup r row.comes.session.config) row.refusal row.cause in (
+        ap before.places e.1 ∙ row.comes.vacant,
+        subst (λ (z : ℕ). z < peerings_in setup) (sym e.1) row.comes.known,
+        row.refusal,
+        why_not row.comes.session row.refusal why (counted setup before) e.2,
+        row.sends ∙ back_is row.comes.graft row.comes.peering row.comes.session row.refusal e.0 e.1 e.2,
+      )

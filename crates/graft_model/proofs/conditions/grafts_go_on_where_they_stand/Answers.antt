@@ -1,0 +1,12 @@
+use Rattle.graft_model.proofs.Needs.{admits, freezes, leaves}
+use Rattle.graft_model.proofs.conditions.grafts_go_on_where_they_stand.Goals as goal
+
+-- src/conditions.rt
+pub returns-clause-admit : goal.returns-clause-admit
+returns-clause-admit c = admits
+
+pub returns-clause-freeze : goal.returns-clause-freeze
+returns-clause-freeze c setup r k before after taken sent row = freezes r k before after taken sent row
+
+pub returns-clause-leave : goal.returns-clause-leave
+returns-clause-leave c setup r k before after taken sent row = leaves k before after taken sent row

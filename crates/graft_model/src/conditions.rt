@@ -1,0 +1,145 @@
+//! When an event can't happen, whatever else the world is.
+
+ghost use Rattle.std.specs.Prelude.{◌≡◌, ◌≢◌, ◌<◌, ◌≤◌, ◌+◌, ◌%◌, ◌⊎◌, ℕ, true, false, List, [], ◌∷◌, Option, Some, None, slice_get, length};
+ghost use Rattle.bgp_types.specs.Prefixes.{PrefixValue};
+ghost use Rattle.bgp_types.specs.declared.message.SessionState.TheVariants.{Established, Closed};
+ghost use Rattle.graft_steps.specs.declared.refusal.Refusal.{Refusal};
+ghost use Rattle.tcp_seq.specs.Endpoint.{received};
+ghost use Rattle.session_value.specs.declared.config.SessionConfig.{SessionConfig};
+ghost use Rattle.session_value.specs.Sessions.{SessionValue, state, hold_time};
+ghost use Rattle.graft_model.specs.Sets.{has};
+ghost use Rattle.graft_model.specs.Setups.{Setup, PeeringSetup, SayStep, MoveStep, peerings_in, routers_in, room_of, missing_policy, group_of, groups_in, graft_number, beat_of, rules_named};
+ghost use Rattle.graft_model.specs.Parts.{RouterPart, FarPart, OperatorPart, World, GraftOrder, Order, Vacant, Live, Frozen, Shadow, Moved, Back, Done, PointAt};
+ghost use Rattle.graft_model.specs.RouterRows.{RouterTaken, OrderIn, MeshIn, RouterSent, MeshTo};
+ghost use Rattle.graft_model.specs.FarRows.{FarTaken, OutwardIn, FarSent};
+ghost use Rattle.graft_model.specs.OperatorRows.{OperatorTaken, OperatorSent, OrderTo, SayTo, placement};
+ghost use Rattle.graft_model.specs.Steps.{Step, ByOperator, Go, Put, Emit, Arrive, Stray, Got, Tell, Admit, Refuse, Freeze, Leave, Land, TurnBack, Return, Clear, Tick, Point, Beat, router_row, far_row, operator_row};
+ghost use Rattle.graft_model.specs.Steps.{Order as OrderOf};
+ghost use Rattle.graft_model.specs.Quiet.{Quiet};
+ghost use Rattle.graft_model.specs.Claims.{sessions_at};
+ghost use Rattle.graft_model.specs.GraftRows.{taken_in};
+ghost use Rattle.graft_model.specs.Conditions.{HasNoLive, MayFreeze, vacant_in, HasRoom, IsWhyNot};
+
+/// On a session that is frozen, away or absent nothing is put, emitted, got or ticked, and no segment arrives. Where one is live, no segment strays.
+pub fn live_sessions_alone_act()
+    ensures put { (setup : Setup) (r p n : ℕ) (before after : RouterPart) (taken : Option RouterTaken) (sent : List RouterSent)
+        → HasNoLive (before.places p) → ¬ router_row setup r (Put p n) before taken sent after }
+    ensures emit { (setup : Setup) (r p from len : ℕ) (before after : RouterPart) (taken : Option RouterTaken) (sent : List RouterSent)
+        → HasNoLive (before.places p) → ¬ router_row setup r (Emit p from len) before taken sent after }
+    ensures arrive { (setup : Setup) (r p : ℕ) (before after : RouterPart) (taken : Option RouterTaken) (sent : List RouterSent)
+        → HasNoLive (before.places p) → ¬ router_row setup r (Arrive p) before taken sent after }
+    ensures got { (setup : Setup) (r p : ℕ) (before after : RouterPart) (taken : Option RouterTaken) (sent : List RouterSent)
+        → HasNoLive (before.places p) → ¬ router_row setup r (Got p) before taken sent after }
+    ensures tick { (setup : Setup) (r p round : ℕ) (before after : RouterPart) (taken : Option RouterTaken) (sent : List RouterSent)
+        → HasNoLive (before.places p) → ¬ router_row setup r (Tick p round) before taken sent after }
+    ensures stray { (setup : Setup) (r p : ℕ) (session : SessionValue) (order : Option Order) (before after : RouterPart) (taken : Option RouterTaken) (sent : List RouterSent)
+        → before.places p ≡ Live session order → ¬ router_row setup r (Stray p) before taken sent after }
+{}
+
+/// What a session that acts has to be: established where it puts an UPDATE, not closed where it gets, with a hold time that runs where a round passes.
+pub fn sessions_act_in_their_states()
+    ensures put { (setup : Setup) (r p n : ℕ) (session : SessionValue) (order : Option Order) (before after : RouterPart) (taken : Option RouterTaken) (sent : List RouterSent)
+        → before.places p ≡ Live session order → router_row setup r (Put p n) before taken sent after → state session ≡ Established }
+    ensures got { (setup : Setup) (r p : ℕ) (session : SessionValue) (order : Option Order) (before after : RouterPart) (taken : Option RouterTaken) (sent : List RouterSent)
+        → before.places p ≡ Live session order → router_row setup r (Got p) before taken sent after → state session ≢ Closed }
+    ensures tick { (setup : Setup) (r p round : ℕ) (session : SessionValue) (order : Option Order) (before after : RouterPart) (taken : Option RouterTaken) (sent : List RouterSent)
+        → before.places p ≡ Live session order → router_row setup r (Tick p round) before taken sent after → (0 < hold_time session) × (state session ≢ Closed) }
+{}
+
+/// What is to be decided again is neither told nor put.
+pub fn dirty_prefixes_wait()
+    ensures tell { (setup : Setup) (r q : ℕ) (prefix : PrefixValue) (before after : RouterPart) (taken : Option RouterTaken) (sent : List RouterSent)
+        → has before.dirty prefix ≡ true → ¬ router_row setup r (Tell q prefix) before taken sent after }
+    ensures put { (setup : Setup) (r p n : ℕ) (before after : RouterPart) (taken : Option RouterTaken) (sent : List RouterSent)
+        → ((x : PrefixValue) → has (before.due_out p) x ≡ true → has before.dirty x ≡ true) → ¬ router_row setup r (Put p n) before taken sent after }
+    ensures still_due { (setup : Setup) (r p n : ℕ) (x : PrefixValue) (before after : RouterPart) (taken : Option RouterTaken) (sent : List RouterSent)
+        → router_row setup r (Put p n) before taken sent after → has before.dirty x ≡ true → has (before.due_out p) x ≡ true → has (after.due_out p) x ≡ true }
+    ensures undue { (setup : Setup) (r q : ℕ) (prefix : PrefixValue) (before after : RouterPart) (taken : Option RouterTaken) (sent : List RouterSent)
+        → has (before.due_in q) prefix ≡ false → ¬ router_row setup r (Tell q prefix) before taken sent after }
+{}
+
+/// A graft goes on only where it stands: its order is taken by a live session with no graft stored, to one of the routers; the session is frozen only as
+/// `MayFreeze` says; it leaves only where it is frozen; and its shadow alone is cleared, or made live again.
+pub fn grafts_go_on_where_they_stand()
+    ensures admit { (setup : Setup) (r k : ℕ) (order : GraftOrder) (before after : RouterPart) (sent : List RouterSent)
+        → router_row setup r (Admit k) before (Some (OrderIn order)) sent after
+        → (order.graft ≡ k) × (order.target < routers_in setup) × (session : SessionValue) × (before.places order.peering ≡ Live session None) }
+    ensures freeze { (setup : Setup) (r k : ℕ) (before after : RouterPart) (taken : Option RouterTaken) (sent : List RouterSent)
+        → router_row setup r (Freeze k) before taken sent after → MayFreeze r k before }
+    ensures leave { (setup : Setup) (r k : ℕ) (before after : RouterPart) (taken : Option RouterTaken) (sent : List RouterSent)
+        → router_row setup r (Leave k) before taken sent after
+        → (p : ℕ) × (session : SessionValue) × (target : ℕ) × (before.places p ≡ Frozen session (record { graft = k; target = target })) × (sent ≡ MeshTo target (Moved k p session) ∷ []) }
+    ensures comes_back { (setup : Setup) (r q k p : ℕ) (session : SessionValue) (refusal : Refusal) (before after : RouterPart) (sent : List RouterSent)
+        → router_row setup r (Return q) before (Some (MeshIn q (Back k p session refusal))) sent after → before.places p ≡ Shadow k }
+    ensures clear { (setup : Setup) (r q k p : ℕ) (before after : RouterPart) (sent : List RouterSent)
+        → router_row setup r (Clear q) before (Some (MeshIn q (Done k p))) sent after → before.places p ≡ Shadow k }
+{}
+
+/// A session lands only at a vacant place of a known peering, where there is room beside every session and shadow and where its policies are; and is
+/// turned back only from such a place, with the reason why.
+pub fn landings_have_room()
+    ensures counted { (setup : Setup) (part : RouterPart) → taken_in setup part + vacant_in setup part ≡ peerings_in setup }
+    ensures land { (setup : Setup) (r q k p : ℕ) (session : SessionValue) (before after : RouterPart) (sent : List RouterSent)
+        → router_row setup r (Land q) before (Some (MeshIn q (Moved k p session))) sent after
+        → (before.places p ≡ Vacant) × (p < peerings_in setup) × HasRoom setup r before × (missing_policy setup r session.config ≡ None) }
+    ensures turn_back { (setup : Setup) (r q k p : ℕ) (session : SessionValue) (before after : RouterPart) (sent : List RouterSent)
+        → router_row setup r (TurnBack q) before (Some (MeshIn q (Moved k p session))) sent after
+        → (before.places p ≡ Vacant) × (p < peerings_in setup) × (refusal : Refusal) × IsWhyNot setup r before session refusal × (sent ≡ MeshTo q (Back k p session refusal) ∷ []) }
+{}
+
+/// The next group begins only in a quiet world, and only where there is one.
+pub fn groups_begin_in_quiet_worlds()
+    ensures quiet { (setup : Setup) (before after : World) → Step setup (ByOperator Go) before after → Quiet setup before }
+    ensures further { (setup : Setup) (before after : World) → Step setup (ByOperator Go) before after → before.operator.group + 1 < groups_in setup }
+{}
+
+/// A link is turned only by word of a later graft than the last one that it followed, and stays where it is otherwise.
+pub fn later_grafts_alone_turn_links()
+    ensures later { (setup : Setup) (p r k : ℕ) (before after : FarPart) (sent : List FarSent)
+        → far_row setup p (Point r) before (Some (OutwardIn r (PointAt k))) sent after → before.followed < k → (after.pointer ≡ r) × (after.followed ≡ k) }
+    ensures not_later { (setup : Setup) (p r k : ℕ) (before after : FarPart) (sent : List FarSent)
+        → far_row setup p (Point r) before (Some (OutwardIn r (PointAt k))) sent after → k ≤ before.followed → after ≡ before }
+{}
+
+/// A step is ordered once, in its group. A say waits for the earlier says of its peering in the group, a graft for the outcomes of the earlier grafts of its
+/// peering; and it is ordered where its session belongs by the log.
+pub fn steps_wait_for_earlier_ones()
+    ensures once { (setup : Setup) (step : ℕ) (before after : OperatorPart) (taken : Option OperatorTaken) (sent : List OperatorSent)
+        → operator_row setup (OrderOf step) before taken sent after → (group_of setup step ≡ before.group) × (before.issued step ≡ false) }
+    ensures say { (setup : Setup) (step m p : ℕ) (bytes other : List ℕ) (before after : OperatorPart) (taken : Option OperatorTaken) (sent : List OperatorSent)
+        → operator_row setup (OrderOf step) before taken sent after → slice_get setup.steps step ≡ Some (SayStep p bytes)
+        → m < step → group_of setup m ≡ before.group → slice_get setup.steps m ≡ Some (SayStep p other) → before.issued m ≡ true }
+    ensures graft { (setup : Setup) (step m p target other : ℕ) (before after : OperatorPart) (taken : Option OperatorTaken) (sent : List OperatorSent)
+        → operator_row setup (OrderOf step) before taken sent after → slice_get setup.steps step ≡ Some (MoveStep p target)
+        → m < step → slice_get setup.steps m ≡ Some (MoveStep p other) → before.outcome (graft_number setup m) ≢ None }
+    ensures sends { (setup : Setup) (step p target : ℕ) (before after : OperatorPart) (taken : Option OperatorTaken) (sent : List OperatorSent)
+        → operator_row setup (OrderOf step) before taken sent after → slice_get setup.steps step ≡ Some (MoveStep p target)
+        → sent ≡ OrderTo (placement setup before p) (record { graft = graft_number setup step; peering = p; target = target }) ∷ [] }
+{}
+
+/// A remote says a KEEPALIVE by its timer only where it beats, in a round that is a multiple of its beat and above the last one, and 27,594 times at most.
+pub fn beats_are_few_and_later()
+    ensures { (setup : Setup) (p round : ℕ) (peering : PeeringSetup) (before after : FarPart) (taken : Option FarTaken) (sent : List FarSent)
+        → slice_get setup.peerings p ≡ Some peering → far_row setup p (Beat round) before taken sent after
+        → (0 < beat_of peering) × (round % beat_of peering ≡ 0) × (before.last_beat < round) × (before.beats + 1 ≤ 27594) × (after.beats ≡ before.beats + 1) }
+{}
+
+/// In a quiet world each session that a router holds is live with no graft stored, and it and its remote received and acknowledged all that the other
+/// put or said.
+pub fn quiet_sessions_are_settled()
+    ensures live { (setup : Setup) (w : World) (r p : ℕ) → Quiet setup w → sessions_at ((w.router r).places p) ≢ [] → ¬ HasNoLive ((w.router r).places p) }
+    ensures unordered { (setup : Setup) (w : World) (r p : ℕ) (session : SessionValue) (order : Option Order) → Quiet setup w → (w.router r).places p ≡ Live session order → order ≡ None }
+    ensures received { (setup : Setup) (w : World) (r p : ℕ) (session : SessionValue) (order : Option Order) → Quiet setup w → (w.router r).places p ≡ Live session order
+        → (received session.end ≡ length (w.far p).end.stream) × (received (w.far p).end ≡ length session.end.stream) }
+    ensures acknowledged { (setup : Setup) (w : World) (r p : ℕ) (session : SessionValue) (order : Option Order) → Quiet setup w → (w.router r).places p ≡ Live session order
+        → ((w.far p).end.acked ≡ length (w.far p).end.stream) × (session.end.acked ≡ length session.end.stream) }
+{}
+
+/// The policy that a landing misses is the import policy, where the router doesn't have it, and else the export policy.
+pub fn missing_policies_are_named()
+    ensures import { (setup : Setup) (r : ℕ) (config : SessionConfig) (name : List ℕ) → config.import ≡ Some name → rules_named setup r name ≡ None
+        → missing_policy setup r config ≡ Some name }
+    ensures export { (setup : Setup) (r : ℕ) (config : SessionConfig) (name other : List ℕ) → config.import ≡ Some other → rules_named setup r other ≢ None
+        → config.export ≡ Some name → rules_named setup r name ≡ None → missing_policy setup r config ≡ Some name }
+    ensures neither { (setup : Setup) (r : ℕ) (config : SessionConfig) → config.import ≡ None → config.export ≡ None → missing_policy setup r config ≡ None }
+{}
