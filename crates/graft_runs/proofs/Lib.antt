@@ -1,0 +1,6 @@
+mod Numbers
+mod Changes
+mod Takes
+mod Sends
+mod Steps
+mod Runs
