@@ -4,3 +4,5 @@ mod Takes
 mod Sends
 mod Steps
 mod Runs
+mod Rows
+mod OneWorld

@@ -3,7 +3,7 @@ use Rattle.std.proofs.Common.{◌≡◌, ℕ, ◌+◌, ◌-◌, ◌<◌, ◌==�
 use Rattle.std.specs.Prelude.{◌⊎◌}
 use Rattle.std.proofs.lemmas.Bool.Decides.{nat_tests}
 use Rattle.graft_model.specs.Setups.{Setup, routers_in, peerings_in}
-use Rattle.graft_runs.specs.Actors.{Actor, Router, FarSide, Operator, number_in, IsActor, actor_at}
+use Rattle.graft_runs.specs.Actors.{ActorName, Router, FarSide, Operator, number_in, IsActor, actor_at}
 
 at_router : (setup : Setup) (n : ℕ) → n < routers_in setup → actor_at setup n ≡ Some (Router n)
 at_router setup n l = grind (arith, nat_tests)
@@ -19,7 +19,7 @@ at_operator setup = grind (arith, nat_tests)
 at_nobody : (setup : Setup) (n : ℕ) → routers_in setup + peerings_in setup < n → actor_at setup n ≡ None
 at_nobody setup n l = grind (arith, nat_tests)
 
-pub there : (setup : Setup) (x : Actor) → IsActor setup x → actor_at setup (number_in setup x) ≡ Some x
+pub there : (setup : Setup) (x : ActorName) → IsActor setup x → actor_at setup (number_in setup x) ≡ Some x
 there setup (Router r) l = at_router setup r l
 there setup (FarSide p) l = at_far setup p l
 there setup Operator l = at_operator setup
@@ -38,13 +38,13 @@ where_is k m n = elim (by_test (nat_lt n k)) [
     by_test true = inl refl
     by_test false = inr refl
 
-named : (setup : Setup) (n : ℕ) (x y : Actor) → actor_at setup n ≡ Some y → IsActor setup y → n ≡ number_in setup y → actor_at setup n ≡ Some x → IsActor setup x × (n ≡ number_in setup x)
-named setup n x y is known number e = subst (λ (z : Actor). IsActor setup z × (n ≡ number_in setup z)) (same (sym is ∙ e)) (known, number)
+named : (setup : Setup) (n : ℕ) (x y : ActorName) → actor_at setup n ≡ Some y → IsActor setup y → n ≡ number_in setup y → actor_at setup n ≡ Some x → IsActor setup x × (n ≡ number_in setup x)
+named setup n x y is known number e = subst (λ (z : ActorName). IsActor setup z × (n ≡ number_in setup z)) (same (sym is ∙ e)) (known, number)
   where
-    same : {a b : Actor} → Some a ≡ Some b → a ≡ b
+    same : {a b : ActorName} → Some a ≡ Some b → a ≡ b
     same h = cc
 
-pub of_number : (setup : Setup) (n : ℕ) (x : Actor) → actor_at setup n ≡ Some x → IsActor setup x × (n ≡ number_in setup x)
+pub of_number : (setup : Setup) (n : ℕ) (x : ActorName) → actor_at setup n ≡ Some x → IsActor setup x × (n ≡ number_in setup x)
 of_number setup n x e = elim (where_is (routers_in setup) (peerings_in setup) n) [
   | inl l ↦ named setup n x (Router n) (at_router setup n l) l refl e
   | inr (inl (p, l, is)) ↦ named setup n x (FarSide p) (ap (actor_at setup) is ∙ at_far setup p l) l is e
@@ -56,5 +56,5 @@ of_number setup n x e = elim (where_is (routers_in setup) (peerings_in setup) n)
     none h = absurd cc
 
 -- an actor has one number
-pub once : (setup : Setup) (m n : ℕ) (x : Actor) → actor_at setup m ≡ Some x → actor_at setup n ≡ Some x → m ≡ n
+pub once : (setup : Setup) (m n : ℕ) (x : ActorName) → actor_at setup m ≡ Some x → actor_at setup n ≡ Some x → m ≡ n
 once setup m n x e f = (of_number setup m x e).1 ∙ sym (of_number setup n x f).1

@@ -7,7 +7,7 @@ use Rattle.ring_net.specs.Deeds.{items_for}
 use Rattle.graft_model.specs.Points.{at2}
 use Rattle.graft_model.specs.Setups.{Setup}
 use Rattle.graft_model.specs.Parts.{World}
-use Rattle.graft_runs.specs.Actors.{Thing, Actor, number_in, IsActor, actor_at}
+use Rattle.graft_runs.specs.Actors.{Thing, ActorName, number_in, IsActor, actor_at}
 use Rattle.graft_runs.specs.Makes.{numbered}
 use Rattle.graft_runs.specs.Seen.{part_of, channel_of}
 use Rattle.graft_runs.proofs.Numbers.{of_number, once, there}
@@ -57,7 +57,7 @@ grown channel n m a b thing sent = elim (both_or_not a b n m) [
         ∙ sym (ap (λ x. with_sent (at2 channel n m (channel n m ++ thing ∷ [])) n sent n x) f) ∙ sym (ap (λ x. with_sent (at2 channel n m (channel n m ++ thing ∷ [])) n sent x b) e)
 
 -- one item more is seen
-added : (setup : Setup) (channel : ℕ → ℕ → List Thing) (w u : World) (n : ℕ) (me : Actor) (x : Actor × Thing) → actor_at setup n ≡ Some me → IsActor setup x.0 → AreChannels setup channel w → OneMore w u me x
+added : (setup : Setup) (channel : ℕ → ℕ → List Thing) (w u : World) (n : ℕ) (me : ActorName) (x : ActorName × Thing) → actor_at setup n ≡ Some me → IsActor setup x.0 → AreChannels setup channel w → OneMore w u me x
     → AreChannels setup (at2 channel n (number_in setup x.0) (channel n (number_in setup x.0) ++ x.1 ∷ [])) u
 added setup channel w u n me x is known seen one = record { each = each; none = none_stays setup w u me x.0 (channel_of w (Some me) (Some x.0) ++ x.1 ∷ []) one (of_number setup n me is).0 known seen.none }
   where
@@ -77,10 +77,10 @@ added setup channel w u n me x is known seen one = record { each = each; none = 
 
 -- a world to whose channels items were added
 pub record Grown (setup : Setup) (channel : ℕ → ℕ → List Thing) (w u : World) : Type 0 where
-  pub parts : (x : Actor) → part_of u x ≡ part_of w x
+  pub parts : (x : ActorName) → part_of u x ≡ part_of w x
   pub channels : AreChannels setup channel u
 
-module _ (setup : Setup) (n : ℕ) (me : Actor) (is : actor_at setup n ≡ Some me) {S : Type 0} (sends : World → S → World) (gives : S → Actor × Thing) (one : (w : World) (s : S) → OneMore w (sends w s) me (gives s)) where
+module _ (setup : Setup) (n : ℕ) (me : ActorName) (is : actor_at setup n ≡ Some me) {S : Type 0} (sends : World → S → World) (gives : S → ActorName × Thing) (one : (w : World) (s : S) → OneMore w (sends w s) me (gives s)) where
   pub all_sent : (gave : List S) (channel : ℕ → ℕ → List Thing) (w : World) → AllByRecursion (λ s. IsActor setup (gives s).0) gave → AreChannels setup channel w
       → Grown setup (with_sent channel n (map (λ s. numbered setup (gives s)) gave)) w (fold sends w gave)
   all_sent [] channel w known seen = record { parts = λ x. refl; channels = record { each = λ a b. none_sent (channel a b) (a == n) ∙ seen.each a b; none = seen.none } }

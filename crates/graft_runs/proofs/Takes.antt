@@ -12,8 +12,8 @@ use Rattle.graft_model.specs.RouterRows.{RouterTaken, OrderIn, SegmentIn, MeshIn
 use Rattle.graft_model.specs.FarRows.{FarTaken, OutwardIn, SayIn}
 use Rattle.graft_model.specs.OperatorRows.{OperatorTaken, ReportIn}
 use Rattle.graft_model.specs.Steps.{RouterTook, FarTook, OperatorTook}
-use Rattle.graft_runs.specs.Actors.{Thing, MeshItem, OutwardItem, SegmentItem, OrderItem, ReportItem, StepItem, Actor, Router, FarSide, Operator, number_in, IsActor, actor_at}
-use Rattle.graft_runs.specs.Makes.{router_takes, far_takes, operator_takes, numbered}
+use Rattle.graft_runs.specs.Actors.{Thing, MeshItem, OutwardItem, SegmentItem, OrderItem, ReportItem, StepItem, ActorName, Router, FarSide, Operator, number_in, IsActor, actor_at}
+use Rattle.graft_runs.specs.Makes.{taken_by_router, taken_by_far, taken_by_operator, numbered}
 use Rattle.graft_runs.specs.Seen.{part_of, channel_of}
 use Rattle.graft_runs.proofs.Numbers.{of_number, once, at_operator}
 use Rattle.graft_runs.proofs.Changes.{OneChannel, reads, sets_mesh, sets_outward, sets_inward, sets_orders, sets_says, sets_reports}
@@ -21,7 +21,7 @@ use Rattle.graft_runs.proofs.Changes.{OneChannel, reads, sets_mesh, sets_outward
 -- the channels by number are the world's, and between actors that the setup doesn't have is nothing
 pub record AreChannels (setup : Setup) (channel : ℕ → ℕ → List Thing) (w : World) : Type 0 where
   pub each : (a b : ℕ) → channel a b ≡ channel_of w (actor_at setup a) (actor_at setup b)
-  pub none : (x y : Actor) → (IsActor setup x → IsActor setup y → ⊥) → channel_of w (Some x) (Some y) ≡ []
+  pub none : (x y : ActorName) → (IsActor setup x → IsActor setup y → ⊥) → channel_of w (Some x) (Some y) ≡ []
 
 pub both_or_not : (a b m n : ℕ) → ((a ≡ m) × (b ≡ n)) ⊎ ((a ≡ m) × (b ≡ n) → ⊥)
 both_or_not a b m n = elim (by_test (a == m)) [
@@ -36,20 +36,20 @@ both_or_not a b m n = elim (by_test (a == m)) [
     differ : (x y : ℕ) → x ≡ y → (x == y) ≡ false → ⊥
     differ x y e f = grind (arith, nat_tests)
 
-pub same_places : (w : World) {x y k l : Option Actor} → x ≡ k → y ≡ l → channel_of w x y ≡ channel_of w k l
+pub same_places : (w : World) {x y k l : Option ActorName} → x ≡ k → y ≡ l → channel_of w x y ≡ channel_of w k l
 same_places w {x} {y} {k} {l} e f = ap (λ z. channel_of w z y) e ∙ ap (λ z. channel_of w k z) f
 
 -- nothing changes on the channels between other actors
-pub none_stays : (setup : Setup) (w u : World) (k l : Actor) (items : List Thing) → OneChannel w u k l items → IsActor setup k → IsActor setup l
-    → ((x y : Actor) → (IsActor setup x → IsActor setup y → ⊥) → channel_of w (Some x) (Some y) ≡ [])
-    → (x y : Actor) → (IsActor setup x → IsActor setup y → ⊥) → channel_of u (Some x) (Some y) ≡ []
+pub none_stays : (setup : Setup) (w u : World) (k l : ActorName) (items : List Thing) → OneChannel w u k l items → IsActor setup k → IsActor setup l
+    → ((x y : ActorName) → (IsActor setup x → IsActor setup y → ⊥) → channel_of w (Some x) (Some y) ≡ [])
+    → (x y : ActorName) → (IsActor setup x → IsActor setup y → ⊥) → channel_of u (Some x) (Some y) ≡ []
 none_stays setup w u k l items one here there none x y not = one.others (Some x) (Some y) (λ e. not (known x k e.0 here) (known y l e.1 there)) ∙ none x y not
   where
-    same : (a b : Actor) → Some a ≡ Some b → a ≡ b
+    same : (a b : ActorName) → Some a ≡ Some b → a ≡ b
     same a b h = cc
 
-    known : (a b : Actor) → Some a ≡ Some b → IsActor setup b → IsActor setup a
-    known a b e h = subst (λ (z : Actor). IsActor setup z) (sym (same a b e)) h
+    known : (a b : ActorName) → Some a ≡ Some b → IsActor setup b → IsActor setup a
+    known a b e h = subst (λ (z : ActorName). IsActor setup z) (sym (same a b e)) h
 
 -- ---- the head of a channel
 
@@ -74,7 +74,7 @@ module _ (setup : Setup) (channel rest : ℕ → ℕ → List Thing) (deed : Dee
       empty false = refl
 
   -- the rest is the world without the item
-  left : (w u : World) (m : ℕ) (thing : Thing) (k l : Actor) → deed.taken ≡ Some (m, thing) → actor_at setup m ≡ Some k → actor_at setup deed.entry.actor ≡ Some l
+  left : (w u : World) (m : ℕ) (thing : Thing) (k l : ActorName) → deed.taken ≡ Some (m, thing) → actor_at setup m ≡ Some k → actor_at setup deed.entry.actor ≡ Some l
       → AreChannels setup channel w → OneChannel w u k l (rest m deed.entry.actor) → AreChannels setup rest u
   left w u m thing k l e from to seen one = record { each = each; none = none_stays setup w u k l (rest m deed.entry.actor) one (of_number setup m k from).0 (of_number setup deed.entry.actor l to).0 seen.none }
     where
@@ -99,25 +99,25 @@ first_of made [] thing rest e = absurd cc
 first_of made (item ∷ items) thing rest e = record { item = item; left = items; is = refl; first = cc; after = cc }
 
 -- what a channel to a router or from one can begin with
-mesh_from : (w : World) (x : Option Actor) (r : ℕ) (item : Mesh) (rest : List Thing) → channel_of w x (Some (Router r)) ≡ MeshItem item ∷ rest → (q : ℕ) × (x ≡ Some (Router q))
+mesh_from : (w : World) (x : Option ActorName) (r : ℕ) (item : Mesh) (rest : List Thing) → channel_of w x (Some (Router r)) ≡ MeshItem item ∷ rest → (q : ℕ) × (x ≡ Some (Router q))
 mesh_from w None r item rest e = absurd cc
 mesh_from w (Some (Router q)) r item rest e = (q, refl)
 mesh_from w (Some (FarSide p)) r item rest e = let h : First SegmentItem (w.inward p r) (MeshItem item) rest = first_of SegmentItem (w.inward p r) (MeshItem item) rest e in absurd cc
 mesh_from w (Some Operator) r item rest e = let h : First OrderItem (w.orders r) (MeshItem item) rest = first_of OrderItem (w.orders r) (MeshItem item) rest e in absurd cc
 
-segment_from : (w : World) (x : Option Actor) (r : ℕ) (item : PlacedSegment) (rest : List Thing) → channel_of w x (Some (Router r)) ≡ SegmentItem item ∷ rest → (p : ℕ) × (x ≡ Some (FarSide p))
+segment_from : (w : World) (x : Option ActorName) (r : ℕ) (item : PlacedSegment) (rest : List Thing) → channel_of w x (Some (Router r)) ≡ SegmentItem item ∷ rest → (p : ℕ) × (x ≡ Some (FarSide p))
 segment_from w None r item rest e = absurd cc
 segment_from w (Some (Router q)) r item rest e = let h : First MeshItem (w.mesh q r) (SegmentItem item) rest = first_of MeshItem (w.mesh q r) (SegmentItem item) rest e in absurd cc
 segment_from w (Some (FarSide p)) r item rest e = (p, refl)
 segment_from w (Some Operator) r item rest e = let h : First OrderItem (w.orders r) (SegmentItem item) rest = first_of OrderItem (w.orders r) (SegmentItem item) rest e in absurd cc
 
-outward_from : (w : World) (x : Option Actor) (p : ℕ) (item : Outward) (rest : List Thing) → channel_of w x (Some (FarSide p)) ≡ OutwardItem item ∷ rest → (r : ℕ) × (x ≡ Some (Router r))
+outward_from : (w : World) (x : Option ActorName) (p : ℕ) (item : Outward) (rest : List Thing) → channel_of w x (Some (FarSide p)) ≡ OutwardItem item ∷ rest → (r : ℕ) × (x ≡ Some (Router r))
 outward_from w None p item rest e = absurd cc
 outward_from w (Some (Router r)) p item rest e = (r, refl)
 outward_from w (Some (FarSide q)) p item rest e = absurd cc
 outward_from w (Some Operator) p item rest e = let h : First StepItem (w.says p) (OutwardItem item) rest = first_of StepItem (w.says p) (OutwardItem item) rest e in absurd cc
 
-report_from : (w : World) (x : Option Actor) (item : Report) (rest : List Thing) → channel_of w x (Some Operator) ≡ ReportItem item ∷ rest → (r : ℕ) × (x ≡ Some (Router r))
+report_from : (w : World) (x : Option ActorName) (item : Report) (rest : List Thing) → channel_of w x (Some Operator) ≡ ReportItem item ∷ rest → (r : ℕ) × (x ≡ Some (Router r))
 report_from w None item rest e = absurd cc
 report_from w (Some (Router r)) item rest e = (r, refl)
 report_from w (Some (FarSide q)) item rest e = absurd cc
@@ -126,27 +126,27 @@ report_from w (Some Operator) item rest e = absurd cc
 -- ---- what each actor takes
 
 -- the item of a kind that a thing is, if it is one
-abbrev as_mesh : Thing → Option Mesh
+abbrev pub as_mesh : Thing → Option Mesh
 as_mesh (MeshItem item) = Some item
 as_mesh thing = None
 
-abbrev as_outward : Thing → Option Outward
+abbrev pub as_outward : Thing → Option Outward
 as_outward (OutwardItem item) = Some item
 as_outward thing = None
 
-abbrev as_segment : Thing → Option PlacedSegment
+abbrev pub as_segment : Thing → Option PlacedSegment
 as_segment (SegmentItem item) = Some item
 as_segment thing = None
 
-abbrev as_order : Thing → Option GraftOrder
+abbrev pub as_order : Thing → Option GraftOrder
 as_order (OrderItem item) = Some item
 as_order thing = None
 
-abbrev as_report : Thing → Option Report
+abbrev pub as_report : Thing → Option Report
 as_report (ReportItem item) = Some item
 as_report thing = None
 
-abbrev as_step : Thing → Option ℕ
+abbrev pub as_step : Thing → Option ℕ
 as_step (StepItem item) = Some item
 as_step thing = None
 
@@ -154,12 +154,12 @@ as_step thing = None
 pub record Left (setup : Setup) (rest : ℕ → ℕ → List Thing) (w : World) (Took : World → Type 0) : Type 0 where
   pub without : World
   pub took : Took without
-  pub parts : (x : Actor) → part_of without x ≡ part_of w x
+  pub parts : (x : ActorName) → part_of without x ≡ part_of w x
   pub channels : AreChannels setup rest without
 
 module _ (setup : Setup) (channel rest : ℕ → ℕ → List Thing) (deed : Deed Thing) (off : (a b : ℕ) → channel a b ≡ takes_on deed a b ++ rest a b) (w : World) (seen : AreChannels setup channel w) where
   -- the channel of the item, by its place in the world
-  begins : (m : ℕ) (thing : Thing) (x y : Option Actor) → deed.taken ≡ Some (m, thing) → actor_at setup m ≡ x → actor_at setup deed.entry.actor ≡ y → channel_of w x y ≡ thing ∷ rest m deed.entry.actor
+  begins : (m : ℕ) (thing : Thing) (x y : Option ActorName) → deed.taken ≡ Some (m, thing) → actor_at setup m ≡ x → actor_at setup deed.entry.actor ≡ y → channel_of w x y ≡ thing ∷ rest m deed.entry.actor
   begins m thing x y e from to = sym (same_places w from to) ∙ sym (seen.each m deed.entry.actor) ∙ head setup channel rest deed off m thing e
 
   untouched : (a b : ℕ) → deed.taken ≡ None → rest a b ≡ channel_of w (actor_at setup a) (actor_at setup b)
@@ -195,7 +195,7 @@ module _ (setup : Setup) (channel rest : ℕ → ℕ → List Thing) (deed : Dee
       same : Some s.item ≡ Some item → s.item ≡ item
       same h = cc
 
-  pub router_left : (r : ℕ) (took : Option RouterTaken) → actor_at setup deed.entry.actor ≡ Some (Router r) → deed.taken ≡ option_map (λ t. numbered setup (router_takes t)) took → Left setup rest w (RouterTook w r took)
+  pub router_left : (r : ℕ) (took : Option RouterTaken) → actor_at setup deed.entry.actor ≡ Some (Router r) → deed.taken ≡ option_map (λ t. numbered setup (taken_by_router t)) took → Left setup rest w (RouterTook w r took)
   router_left r None to e = record { without = w; took = refl; parts = λ x. refl; channels = record { each = λ a b. untouched a b e; none = seen.none } }
   router_left r (Some (OrderIn order)) to e =
       let me : ℕ = deed.entry.actor in
@@ -220,7 +220,7 @@ module _ (setup : Setup) (channel rest : ℕ → ℕ → List Thing) (deed : Dee
       let one : OneChannel w u (Router q) (Router r) (rest q me) = reads (sym s.after) (sets_mesh w q r s.left) in
       record { without = u; took = (record { rest = s.left; is = heads MeshItem as_mesh (λ a. refl) (w.mesh q r) item (rest q me) s }, refl); parts = one.parts; channels = left setup channel rest deed off w u q (MeshItem item) (Router q) (Router r) e from to seen one }
 
-  pub far_left : (p : ℕ) (took : Option FarTaken) → actor_at setup deed.entry.actor ≡ Some (FarSide p) → deed.taken ≡ option_map (λ t. numbered setup (far_takes t)) took → Left setup rest w (FarTook w p took)
+  pub far_left : (p : ℕ) (took : Option FarTaken) → actor_at setup deed.entry.actor ≡ Some (FarSide p) → deed.taken ≡ option_map (λ t. numbered setup (taken_by_far t)) took → Left setup rest w (FarTook w p took)
   far_left p None to e = record { without = w; took = refl; parts = λ x. refl; channels = record { each = λ a b. untouched a b e; none = seen.none } }
   far_left p (Some (OutwardIn r item)) to e =
       let me : ℕ = deed.entry.actor in
@@ -237,7 +237,7 @@ module _ (setup : Setup) (channel rest : ℕ → ℕ → List Thing) (deed : Dee
       let one : OneChannel w u Operator (FarSide p) (rest m me) = reads (sym s.after) (sets_says w p s.left) in
       record { without = u; took = (record { rest = s.left; is = heads StepItem as_step (λ a. refl) (w.says p) step (rest m me) s }, refl); parts = one.parts; channels = left setup channel rest deed off w u m (StepItem step) Operator (FarSide p) e (at_operator setup) to seen one }
 
-  pub operator_left : (took : Option OperatorTaken) → actor_at setup deed.entry.actor ≡ Some Operator → deed.taken ≡ option_map (λ t. numbered setup (operator_takes t)) took → Left setup rest w (OperatorTook w took)
+  pub operator_left : (took : Option OperatorTaken) → actor_at setup deed.entry.actor ≡ Some Operator → deed.taken ≡ option_map (λ t. numbered setup (taken_by_operator t)) took → Left setup rest w (OperatorTook w took)
   operator_left None to e = record { without = w; took = refl; parts = λ x. refl; channels = record { each = λ a b. untouched a b e; none = seen.none } }
   operator_left (Some (ReportIn r report)) to e =
       let me : ℕ = deed.entry.actor in

@@ -19,25 +19,25 @@ pub data Thing : Type 0 where
   ReportItem : Report → Thing
   StepItem : (step : ℕ) → Thing
 
-pub data Actor : Type 0 where
-  Router : ℕ → Actor
-  FarSide : (peering : ℕ) → Actor
-  Operator : Actor
+pub data ActorName : Type 0 where
+  Router : ℕ → ActorName
+  FarSide : (peering : ℕ) → ActorName
+  Operator : ActorName
 
 -- the routers come first, then the far sides by their peerings, then the operator
-abbrev pub number_in : Setup → Actor → ℕ
+abbrev pub number_in : Setup → ActorName → ℕ
 number_in setup (Router r) = r
 number_in setup (FarSide p) = routers_in setup + p
 number_in setup Operator = routers_in setup + peerings_in setup
 
 -- the setup has the router or the peering
-abbrev pub IsActor : Setup → Actor → Type 0
+abbrev pub IsActor : Setup → ActorName → Type 0
 IsActor setup (Router r) = r < routers_in setup
 IsActor setup (FarSide p) = p < peerings_in setup
 IsActor setup Operator = Unit {0}
 
 -- the actor of a number, if one has it
-abbrev pub actor_at : Setup → ℕ → Option Actor
+abbrev pub actor_at : Setup → ℕ → Option ActorName
 actor_at setup n = if nat_lt n (routers_in setup) then Some (Router n)
     else if nat_lt n (routers_in setup + peerings_in setup) then Some (FarSide (n - routers_in setup))
     else if n == routers_in setup + peerings_in setup then Some Operator

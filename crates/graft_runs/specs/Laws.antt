@@ -1,5 +1,5 @@
 -- What an event and a run of a net are in the world.
-use Rattle.std.specs.Prelude.{ℕ, ◌≡◌, List, [], ◌∷◌, Some, map}
+use Rattle.std.specs.Prelude.{ℕ, ◌≡◌, ◌+◌, ◌<◌, List, [], ◌∷◌, Option, Some, map, option_map}
 use Rattle.std.specs.List.{AllByRecursion}
 use Rattle.ring_net.specs.declared.entry.JournalEntry.{JournalEntry}
 use Rattle.ring_net.specs.Deeds.{Deed, Noted}
@@ -7,16 +7,19 @@ use Rattle.ring_net.specs.Phases.{View}
 use Rattle.journal_merge.specs.Worlds as worlds
 use Rattle.journal_merge.specs.Growth.{RunsTo}
 use Rattle.graft_model.specs.declared.kind.EventKind.TheVariants as kinds
-use Rattle.graft_model.specs.Setups.{Setup}
-use Rattle.graft_model.specs.Parts.{World}
+use Rattle.graft_model.specs.Setups.{Setup, routers_in, peerings_in}
+use Rattle.graft_model.specs.Parts.{RouterPart, FarPart, OperatorPart, World}
+use Rattle.graft_model.specs.RouterRows.{RouterTaken, RouterSent}
+use Rattle.graft_model.specs.FarRows.{FarTaken, FarSent}
+use Rattle.graft_model.specs.OperatorRows.{OperatorTaken, OperatorSent}
 use Rattle.graft_model.specs.Quiet.{Quiet}
 use Rattle.graft_model.specs.Codes.{Code, number_of, router_code, far_code, operator_code}
-use Rattle.graft_model.specs.Steps.{Event, ByRouter, ByFar, ByOperator, Step, Run}
-use Rattle.graft_runs.specs.Actors.{ActorPart, Thing, Actor, Router, FarSide, Operator, number_in, IsActor, actor_at}
-use Rattle.graft_runs.specs.Makes.{HasCode, makes}
+use Rattle.graft_model.specs.Steps.{RouterEvent, FarEvent, OperatorEvent, Event, ByRouter, ByFar, ByOperator, router_row, far_row, operator_row, Step, Run}
+use Rattle.graft_runs.specs.Actors.{ActorPart, RouterIs, FarIs, OperatorIs, Thing, ActorName, Router, FarSide, Operator, number_in, IsActor, actor_at}
+use Rattle.graft_runs.specs.Makes.{HasCode, makes, numbered, taken_by_router, sent_by_router, taken_by_far, sent_by_far, taken_by_operator, sent_by_operator}
 use Rattle.graft_runs.specs.Seen.{Net, Sees, SeesView}
 
-abbrev pub maker_of : Event → Actor
+abbrev pub maker_of : Event → ActorName
 maker_of (ByRouter r event) = Router r
 maker_of (ByFar p event) = FarSide p
 maker_of (ByOperator event) = Operator
@@ -71,8 +74,8 @@ abbrev pub QuietAtGo : (setup : Setup) (net last : Net) (deeds : List (Deed Thin
 QuietAtGo setup net last [] run = Unit {0}
 QuietAtGo setup net last (deed ∷ deeds) run = (IsGo deed.entry → (w : World) → Sees setup net w → Quiet setup w) × QuietAtGo setup run.0 last deeds run.2
 
-abbrev pub ARunIsARun : Type 0
-ARunIsARun = (setup : Setup) (net last : Net) (deeds : List (Deed Thing)) (w : World) → Sees setup net w → (run : worlds.Run (makes setup) net deeds last) → QuietAtGo setup net last deeds run
+abbrev pub ANetRunIsARun : Type 0
+ANetRunIsARun = (setup : Setup) (net last : Net) (deeds : List (Deed Thing)) (w : World) → Sees setup net w → (run : worlds.Run (makes setup) net deeds last) → QuietAtGo setup net last deeds run
     → IsRunOf setup w (map (λ d. d.entry) deeds) last
 
 module _ {A : Type 0} (part : A → ActorPart) where
@@ -94,10 +97,38 @@ module _ {A : Type 0} (part : A → ActorPart) where
   AGroupIsARun = (setup : Setup) (u v : View A Thing) (levels : List ℕ) (notes : ℕ → List (Noted Thing)) (entries : List JournalEntry) (w : World) (seen : SeesView part setup u w)
       → RunsTo part (makes setup) u seen.net levels notes entries v → AllByRecursion (λ e. IsGo e → ⊥) entries → RunsOn setup w entries v
 
--- ---- beginnings and numbers
+-- ---- what the words hold
+
+-- each row of the model is an event that its actor makes
+abbrev pub RouterRowsAreMade : Type 0
+RouterRowsAreMade = (setup : Setup) (r : ℕ) (event : RouterEvent) (before after : RouterPart) (entry : JournalEntry) (took : Option RouterTaken) (gave : List RouterSent) → r < routers_in setup
+    → router_row setup r event before took gave after → HasCode (router_code event) entry → AllByRecursion (λ s. IsActor setup (sent_by_router s).0) gave
+    → makes setup r (RouterIs before) entry (option_map (λ t. numbered setup (taken_by_router t)) took) (map (λ s. numbered setup (sent_by_router s)) gave) (RouterIs after)
+
+abbrev pub FarRowsAreMade : Type 0
+FarRowsAreMade = (setup : Setup) (p : ℕ) (event : FarEvent) (before after : FarPart) (entry : JournalEntry) (took : Option FarTaken) (gave : List FarSent) → p < peerings_in setup
+    → far_row setup p event before took gave after → HasCode (far_code event) entry → AllByRecursion (λ s. IsActor setup (sent_by_far s).0) gave
+    → makes setup (routers_in setup + p) (FarIs before) entry (option_map (λ t. numbered setup (taken_by_far t)) took) (map (λ s. numbered setup (sent_by_far s)) gave) (FarIs after)
+
+abbrev pub OperatorRowsAreMade : Type 0
+OperatorRowsAreMade = (setup : Setup) (event : OperatorEvent) (before after : OperatorPart) (entry : JournalEntry) (took : Option OperatorTaken) (gave : List OperatorSent)
+    → operator_row setup event before took gave after → HasCode (operator_code event) entry → AllByRecursion (λ s. IsActor setup (sent_by_operator s).0) gave
+    → makes setup (routers_in setup + peerings_in setup) (OperatorIs before) entry (option_map (λ t. numbered setup (taken_by_operator t)) took) (map (λ s. numbered setup (sent_by_operator s)) gave) (OperatorIs after)
+
+-- a net is one world
+abbrev pub OneWorldIsSeen : Type 0
+OneWorldIsSeen = (setup : Setup) (net : Net) (w v : World) → Sees setup net w → Sees setup net v → v ≡ w
+
+-- an entry is that of one event
+abbrev pub OneEventHasTheEntry : Type 0
+OneEventHasTheEntry = (setup : Setup) (one other : Event) (entry : JournalEntry) → IsEntryOf setup one entry → IsEntryOf setup other entry → one ≡ other
+
+-- entries are those of one list of events
+abbrev pub OneListHasTheEntries : Type 0
+OneListHasTheEntries = (setup : Setup) (events others : List Event) (entries : List JournalEntry) → AreEntriesOf setup events entries → AreEntriesOf setup others entries → events ≡ others
 
 abbrev pub ActorsHaveNumbers : Type 0
-ActorsHaveNumbers = (setup : Setup) (x : Actor) → IsActor setup x → actor_at setup (number_in setup x) ≡ Some x
+ActorsHaveNumbers = (setup : Setup) (x : ActorName) → IsActor setup x → actor_at setup (number_in setup x) ≡ Some x
 
 abbrev pub NumbersAreOfActors : Type 0
-NumbersAreOfActors = (setup : Setup) (n : ℕ) (x : Actor) → actor_at setup n ≡ Some x → IsActor setup x × (n ≡ number_in setup x)
+NumbersAreOfActors = (setup : Setup) (n : ℕ) (x : ActorName) → actor_at setup n ≡ Some x → IsActor setup x × (n ≡ number_in setup x)

@@ -6,19 +6,19 @@ use Rattle.journal_merge.specs.Growth.{IsWorldOf}
 use Rattle.graft_model.specs.Setups.{Setup, PeeringSetup, routers_in, peerings_in}
 use Rattle.graft_model.specs.Parts.{World}
 use Rattle.graft_model.specs.First.{first_router, first_far, first_world}
-use Rattle.graft_runs.specs.Actors.{ActorPart, RouterIs, FarIs, OperatorIs, Thing, MeshItem, OutwardItem, SegmentItem, OrderItem, ReportItem, StepItem, Actor, Router, FarSide, Operator, IsActor, actor_at}
+use Rattle.graft_runs.specs.Actors.{ActorPart, RouterIs, FarIs, OperatorIs, Thing, MeshItem, OutwardItem, SegmentItem, OrderItem, ReportItem, StepItem, ActorName, Router, FarSide, Operator, IsActor, actor_at}
 
 -- parts and channels by the numbers of the actors
 abbrev pub Net : Type 0
 Net = worlds.World ActorPart Thing
 
-abbrev pub part_of : World → Actor → ActorPart
+abbrev pub part_of : World → ActorName → ActorPart
 part_of w (Router r) = RouterIs (w.router r)
 part_of w (FarSide p) = FarIs (w.far p)
 part_of w Operator = OperatorIs w.operator
 
 -- the items from one actor to another; far sides send nothing to each other or to the operator, and nobody has no channel
-abbrev pub channel_of : World → Option Actor → Option Actor → List Thing
+abbrev pub channel_of : World → Option ActorName → Option ActorName → List Thing
 channel_of w (Some (Router a)) (Some (Router b)) = map MeshItem (w.mesh a b)
 channel_of w (Some (Router r)) (Some (FarSide p)) = map OutwardItem (w.outward r p)
 channel_of w (Some (Router r)) (Some Operator) = map ReportItem (w.reports r)
@@ -29,12 +29,12 @@ channel_of w from to = []
 
 -- Of routers and peerings that the setup doesn't have, the world has what it began with, and nothing on its way.
 pub record IsWithin (setup : Setup) (w : World) : Type 0 where
-  pub parts : (x : Actor) → (IsActor setup x → ⊥) → part_of w x ≡ part_of (first_world setup) x
-  pub channels : (x y : Actor) → (IsActor setup x → IsActor setup y → ⊥) → channel_of w (Some x) (Some y) ≡ []
+  pub parts : (x : ActorName) → (IsActor setup x → ⊥) → part_of w x ≡ part_of (first_world setup) x
+  pub channels : (x y : ActorName) → (IsActor setup x → IsActor setup y → ⊥) → channel_of w (Some x) (Some y) ≡ []
 
 -- The net is the world: each actor's part and each channel is the world's.
 pub record Sees (setup : Setup) (net : Net) (w : World) : Type 0 where
-  pub parts : (n : ℕ) (x : Actor) → actor_at setup n ≡ Some x → net.part n ≡ part_of w x
+  pub parts : (n : ℕ) (x : ActorName) → actor_at setup n ≡ Some x → net.part n ≡ part_of w x
   pub channels : (a b : ℕ) → net.channel a b ≡ channel_of w (actor_at setup a) (actor_at setup b)
   pub within : IsWithin setup w
 
