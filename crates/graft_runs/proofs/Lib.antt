@@ -1,0 +1,8 @@
+mod Numbers
+mod Changes
+mod Takes
+mod Sends
+mod Steps
+mod Runs
+mod Rows
+mod OneWorld

@@ -1,0 +1,4 @@
+pub mod Actors
+pub mod Makes
+pub mod Seen
+pub mod Laws
