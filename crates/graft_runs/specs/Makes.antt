@@ -74,3 +74,14 @@ makes_as setup actor before entry taken sent after = ⊥
 -- part, so the laws of steps and runs ask it.
 abbrev pub makes : Setup → Makes ActorPart Thing
 makes setup n before entry taken sent after = makes_as setup (actor_at setup n) before entry taken sent after
+
+-- ---- a part that knows its setup
+
+-- an actor's part with the setup of its laboratory: what a type of actors, whose `makes` is one for all its values, has as its part
+pub record PartWithSetup : Type 0 where
+  pub setup : Setup
+  pub part : ActorPart
+
+-- what the actor makes in its own setup, which stays
+abbrev pub makes_in_its_setup : Makes PartWithSetup Thing
+makes_in_its_setup n before entry taken sent after = (after.setup ≡ before.setup) × makes before.setup n before.part entry taken sent after.part

@@ -5,7 +5,8 @@ ghost use Rattle.graft_model.specs.First.{first_world};
 ghost use Rattle.graft_model.specs.Setups.{Setup, routers_in};
 ghost use Rattle.graft_model.specs.Steps.{Emit, ByRouter};
 ghost use Rattle.graft_runs.specs.Actors.{ActorPart};
-ghost use Rattle.graft_runs.specs.Laws.{AnEventIsAStep, ANetRunIsARun, AJournalIsARun, AGroupIsARun, RouterRowsAreMade, FarRowsAreMade, OperatorRowsAreMade, OneWorldIsSeen, OneEventHasTheEntry, OneListHasTheEntries, IsEntryOf, ActorsHaveNumbers, NumbersAreOfActors};
+ghost use Rattle.graft_runs.specs.Laws.{AnEventIsAStep, ANetRunIsARun, AJournalIsARun, AGroupIsARun, RouterRowsAreMade, FarRowsAreMade, OperatorRowsAreMade, OneWorldIsSeen, OneEventHasTheEntry, OneListHasTheEntries, IsEntryOf, SetupsAreKept, JournalsOfParts, ActorsHaveNumbers, NumbersAreOfActors};
+ghost use Rattle.graft_runs.specs.Makes.{PartWithSetup};
 ghost use Rattle.graft_runs.specs.Seen.{Net, Sees, IsFirst};
 
 use graft_model::{codes_are_exact, kinds_are_exact};
@@ -22,6 +23,13 @@ pub fn a_journal_is_a_run<A>()
     ensures deeds { ANetRunIsARun }
     ensures journal { (part : A → ActorPart) → AJournalIsARun part }
     ensures without_go { (part : A → ActorPart) → AGroupIsARun part }
+{}
+
+/// A run of actors that keep their setup beside their part is a run of the parts alone, in that setup, where all begin with it; and so
+/// is a merged journal.
+pub fn actors_keep_their_setup<A>()
+    ensures run { SetupsAreKept }
+    ensures journal { (part : A → PartWithSetup) → JournalsOfParts part }
 {}
 
 /// The parts that actors begin with, and empty channels, are seen as the first world.
