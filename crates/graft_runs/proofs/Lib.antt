@@ -6,3 +6,4 @@ mod Steps
 mod Runs
 mod Rows
 mod OneWorld
+mod Setups

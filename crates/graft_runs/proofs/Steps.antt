@@ -53,7 +53,7 @@ sets_operator w part = record { here = refl; others = others; channels = λ x y.
 
 -- ---- the net after the event
 
-same_or_not : (m n : ℕ) → (m ≡ n) ⊎ (m ≡ n → ⊥)
+pub same_or_not : (m n : ℕ) → (m ≡ n) ⊎ (m ≡ n → ⊥)
 same_or_not m n = by_test (m == n) refl
   where
     by_test : (t : Bool) → (m == n) ≡ t → (m ≡ n) ⊎ (m ≡ n → ⊥)

@@ -16,7 +16,7 @@ use Rattle.graft_model.specs.Quiet.{Quiet}
 use Rattle.graft_model.specs.Codes.{Code, number_of, router_code, far_code, operator_code}
 use Rattle.graft_model.specs.Steps.{RouterEvent, FarEvent, OperatorEvent, Event, ByRouter, ByFar, ByOperator, router_row, far_row, operator_row, Step, Run}
 use Rattle.graft_runs.specs.Actors.{ActorPart, RouterIs, FarIs, OperatorIs, Thing, ActorName, Router, FarSide, Operator, number_in, IsActor, actor_at}
-use Rattle.graft_runs.specs.Makes.{HasCode, makes, numbered, taken_by_router, sent_by_router, taken_by_far, sent_by_far, taken_by_operator, sent_by_operator}
+use Rattle.graft_runs.specs.Makes.{HasCode, makes, PartWithSetup, makes_in_its_setup, numbered, taken_by_router, sent_by_router, taken_by_far, sent_by_far, taken_by_operator, sent_by_operator}
 use Rattle.graft_runs.specs.Seen.{Net, Sees, SeesView}
 
 abbrev pub maker_of : Event → ActorName
@@ -96,6 +96,24 @@ module _ {A : Type 0} (part : A → ActorPart) where
   abbrev pub AGroupIsARun : Type 0
   AGroupIsARun = (setup : Setup) (u v : View A Thing) (levels : List ℕ) (notes : ℕ → List (Noted Thing)) (entries : List JournalEntry) (w : World) (seen : SeesView part setup u w)
       → RunsTo part (makes setup) u seen.net levels notes entries v → AllByRecursion (λ e. IsGo e → ⊥) entries → RunsOn setup w entries v
+
+-- ---- actors that know their setup
+
+abbrev pub without_setups : worlds.World PartWithSetup Thing → Net
+without_setups net = record { part = λ n. (net.part n).part; channel = net.channel }
+
+abbrev pub HaveSetup : Setup → worlds.World PartWithSetup Thing → Type 0
+HaveSetup setup net = (n : ℕ) → (net.part n).setup ≡ setup
+
+-- a run of actors that all have this setup is one of their parts, and they have it at its end
+abbrev pub SetupsAreKept : Type 0
+SetupsAreKept = (setup : Setup) (net last : worlds.World PartWithSetup Thing) (deeds : List (Deed Thing)) → HaveSetup setup net → worlds.Run makes_in_its_setup net deeds last
+    → worlds.Run (makes setup) (without_setups net) deeds (without_setups last) × HaveSetup setup last
+
+-- the same of a merged journal
+abbrev pub JournalsOfParts : {A : Type 0} (part : A → PartWithSetup) → Type 0
+JournalsOfParts {A} part = (setup : Setup) (u v : View A Thing) (levels : List ℕ) (notes : ℕ → List (Noted Thing)) (entries : List JournalEntry) (net : worlds.World PartWithSetup Thing) → HaveSetup setup net
+    → RunsTo part makes_in_its_setup u net levels notes entries v → RunsTo (λ a. (part a).part) (makes setup) u (without_setups net) levels notes entries v
 
 -- ---- what the words hold
 

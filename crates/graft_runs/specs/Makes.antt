@@ -50,8 +50,8 @@ pub record HasCode (code : Code) (entry : JournalEntry) : Type 0 where
   pub b : entry.b ≡ code.b
   pub c : entry.c ≡ code.c
 
--- An entry is that of an event of which the model's row holds. What the row takes and sends are the items, with the numbers of their
--- senders and receivers; each receiver is there.
+-- The entry is that of an event whose row in the model holds. What the row takes and sends are the items, with the numbers of their
+-- senders and receivers. Each receiver is there, which no row of its own says; a sender is there, since else it has no channel.
 pub record MakesRow {E P T S : Type 0} (setup : Setup) (code : E → Code) (row : E → P → Option T → List S → P → Type 0) (takes : T → ActorName × Thing) (gives : S → ActorName × Thing)
     (before : P) (entry : JournalEntry) (taken : Option (ℕ × Thing)) (sent : List (ℕ × Thing)) (after : P) : Type 0 where
   pub event : E
@@ -70,7 +70,18 @@ makes_as setup (Some (FarSide p)) (FarIs before) entry taken sent (FarIs after) 
 makes_as setup (Some Operator) (OperatorIs before) entry taken sent (OperatorIs after) = MakesRow setup operator_code (operator_row setup) taken_by_operator sent_by_operator before entry taken sent after
 makes_as setup actor before entry taken sent after = ⊥
 
--- What an actor of this number may make. Of a Go this is the operator's own condition; that the world is quiet no actor can say of its
--- part, so the laws of steps and runs ask it.
+-- What an actor of this number may make. Of a Go it says the operator's own condition alone: that the world is quiet can't be said of a
+-- part, and the laws of steps and runs have it as a condition.
 abbrev pub makes : Setup → Makes ActorPart Thing
 makes setup n before entry taken sent after = makes_as setup (actor_at setup n) before entry taken sent after
+
+-- ---- a part that knows its setup
+
+-- an actor's part with the setup of its laboratory: what a type of actors, whose `makes` is one for all its values, has as its part
+pub record PartWithSetup : Type 0 where
+  pub setup : Setup
+  pub part : ActorPart
+
+-- what the actor makes in its own setup, which stays
+abbrev pub makes_in_its_setup : Makes PartWithSetup Thing
+makes_in_its_setup n before entry taken sent after = (after.setup ≡ before.setup) × makes before.setup n before.part entry taken sent after.part

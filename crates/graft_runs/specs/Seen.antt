@@ -17,7 +17,7 @@ part_of w (Router r) = RouterIs (w.router r)
 part_of w (FarSide p) = FarIs (w.far p)
 part_of w Operator = OperatorIs w.operator
 
--- the items from one actor to another; far sides send nothing to each other or to the operator, and nobody has no channel
+-- the items from one actor to another; no other two actors have a channel, and a number that is nobody's has none
 abbrev pub channel_of : World → Option ActorName → Option ActorName → List Thing
 channel_of w (Some (Router a)) (Some (Router b)) = map MeshItem (w.mesh a b)
 channel_of w (Some (Router r)) (Some (FarSide p)) = map OutwardItem (w.outward r p)
@@ -38,13 +38,13 @@ pub record Sees (setup : Setup) (net : Net) (w : World) : Type 0 where
   pub channels : (a b : ℕ) → net.channel a b ≡ channel_of w (actor_at setup a) (actor_at setup b)
   pub within : IsWithin setup w
 
--- a view of a net, in which a channel has items where an edge leads, is the world
+-- The actors of a view, and its channels where an edge leads, are those of a net that is the world.
 pub record SeesView {A : Type 0} (part : A → ActorPart) (setup : Setup) (view : View A Thing) (w : World) : Type 0 where
   pub net : Net
   pub is : IsWorldOf part view net
   pub sees : Sees setup net w
 
--- A net in which nothing has happened: routers, far sides and the operator begin as in the first world, in this order.
+-- A net in which nothing has happened: the routers, then the far sides, then the operator, each as it begins, and nothing on its way.
 pub record IsFirst (setup : Setup) (net : Net) : Type 0 where
   pub routers : (r : ℕ) → r < routers_in setup → net.part r ≡ RouterIs (first_router setup r)
   pub far_sides : (p : ℕ) (peering : PeeringSetup) → slice_get setup.peerings p ≡ Some peering → net.part (routers_in setup + p) ≡ FarIs (first_far (Some peering))

@@ -5,23 +5,30 @@ ghost use Rattle.graft_model.specs.First.{first_world};
 ghost use Rattle.graft_model.specs.Setups.{Setup, routers_in};
 ghost use Rattle.graft_model.specs.Steps.{Emit, ByRouter};
 ghost use Rattle.graft_runs.specs.Actors.{ActorPart};
-ghost use Rattle.graft_runs.specs.Laws.{AnEventIsAStep, ANetRunIsARun, AJournalIsARun, AGroupIsARun, RouterRowsAreMade, FarRowsAreMade, OperatorRowsAreMade, OneWorldIsSeen, OneEventHasTheEntry, OneListHasTheEntries, IsEntryOf, ActorsHaveNumbers, NumbersAreOfActors};
+ghost use Rattle.graft_runs.specs.Laws.{AnEventIsAStep, ANetRunIsARun, AJournalIsARun, AGroupIsARun, RouterRowsAreMade, FarRowsAreMade, OperatorRowsAreMade, OneWorldIsSeen, OneEventHasTheEntry, OneListHasTheEntries, IsEntryOf, SetupsAreKept, JournalsOfParts, ActorsHaveNumbers, NumbersAreOfActors};
+ghost use Rattle.graft_runs.specs.Makes.{PartWithSetup};
 ghost use Rattle.graft_runs.specs.Seen.{Net, Sees, IsFirst};
 
 use graft_model::{codes_are_exact, kinds_are_exact};
 
-/// An event that an actor of a net makes by its row is a step of the world that the net is seen as, and the net is seen after it. A Go
-/// needs a quiet world.
+/// An event that an actor of a net makes by its row, taking the head of a channel and sending to the ends of others, is a step of the world
+/// that the net is seen as, and the net is seen as the world after it. A Go needs a quiet world.
 pub fn an_event_is_a_step()
     ensures { AnEventIsAStep }
 {}
 
-/// A run of a net from a view that is seen as a world is a run of that world, by the events of its entries in their order, to a world as
-/// which the last view is seen. Each Go needs a quiet world.
+/// A run of a net that is seen as a world is a run of that world, by the events of its entries in their order, to the world that the
+/// net is seen as at its end. Each Go needs a quiet world; a journal without a Go needs nothing.
 pub fn a_journal_is_a_run<A>()
     ensures deeds { ANetRunIsARun }
     ensures journal { (part : A → ActorPart) → AJournalIsARun part }
     ensures without_go { (part : A → ActorPart) → AGroupIsARun part }
+{}
+
+/// Where all actors begin with one setup beside their parts, all keep it, and their run or merged journal is one of the parts alone.
+pub fn actors_keep_their_setup<A>()
+    ensures run { SetupsAreKept }
+    ensures journal { (part : A → PartWithSetup) → JournalsOfParts part }
 {}
 
 /// The parts that actors begin with, and empty channels, are seen as the first world.
@@ -29,7 +36,8 @@ pub fn parts_begin_as_the_first_world()
     ensures { (setup : Setup) (net : Net) → IsFirst setup net → Sees setup net (first_world setup) }
 {}
 
-/// Routers have the numbers from 0, far sides those after them, and the operator the one after these. No other number is an actor's.
+/// Routers have the numbers from 0, far sides by their peerings those after them, and the operator the one after these. No other number
+/// is an actor's.
 pub fn actors_have_their_numbers()
     ensures numbers { ActorsHaveNumbers }
     ensures actors { NumbersAreOfActors }
@@ -48,7 +56,8 @@ pub fn a_net_is_one_world()
     ensures { OneWorldIsSeen }
 {}
 
-/// An entry is that of one event only, and a journal that of one list of events. A router's 20 bytes from place 10 on of the peering 5 are of the kind 2, with these arguments.
+/// An entry is that of one event only, and a journal that of one list of events. Where a router emits 20 bytes of the peering 5 from
+/// place 10 on, the entry has the kind 2 and the arguments 5, 10 and 20.
 pub fn an_entry_is_of_one_event()
     ensures one { OneEventHasTheEntry }
     ensures all { OneListHasTheEntries }
