@@ -1,5 +1,5 @@
 -- What has to be where an event happens.
-use Rattle.std.proofs.Common.{◌≡◌, ℕ, zero, suc, ◌+◌, ◌<◌, ◌≤◌, Bool, true, false, List, [], ◌∷◌, ◌++◌, Option, Some, None, refl, sym, ap, ◌∙◌, subst, inl, inr, arith}
+use Rattle.std.proofs.Common.{◌≡◌, ◌==◌, cond, ℕ, zero, suc, ◌+◌, ◌<◌, ◌≤◌, Bool, true, false, List, [], ◌∷◌, ◌++◌, Option, Some, None, refl, sym, ap, ◌∙◌, subst, inl, inr, arith}
 use Rattle.std.specs.Prelude.{◌≢◌, ◌⊎◌, ◌&&◌, not, nat_le, Contains}
 use Rattle.std.specs.List.{list_any}
 use Rattle.std.proofs.lemmas.Bool.Decides.{nat_tests}
@@ -12,17 +12,18 @@ use Rattle.bgp_types.specs.declared.message.SessionState.TheVariants.{OpenSent, 
 use Rattle.bgp_types.specs.Prefixes.{PrefixValue, same_prefix}
 use Rattle.bgp_types.proofs.OnceLaws.{is_same}
 use Rattle.graft_steps.specs.declared.refusal.Refusal.{Refusal}
-use Rattle.graft_steps.specs.declared.refusal.Refusal.TheVariants.{RouterFull, PolicyMissing}
-use Rattle.graft_steps.specs.Refusals.{freeze_refusal, admit_refusal}
+use Rattle.graft_steps.specs.declared.refusal.Refusal.TheVariants.{SameRouter, NotEstablished, HoldTooShort, RouterFull, PolicyMissing}
+use Rattle.graft_steps.specs.declared.refusal.Outcome.TheVariants.{Refused}
+use Rattle.graft_steps.specs.Refusals.{freeze_refusal, admit_refusal, session_refusal, is_too_short}
 use Rattle.session_value.specs.Sessions.{SessionValue, state, hold_time}
 use Rattle.graft_model.specs.Sets.{has}
 use Rattle.graft_model.specs.Setups.{Setup, peerings_in, peering_numbers, routers_in, room_of, missing_policy}
 use Rattle.graft_model.specs.Parts.{Place, Vacant, Live, Frozen, Shadow, RouterPart, GraftOrder, Moved, Back}
 use Rattle.graft_model.specs.Decisions.{to_tell}
-use Rattle.graft_model.specs.RouterRows.{RouterTaken, OrderIn, MeshIn, RouterSent, MeshTo, IsToTell}
-use Rattle.graft_model.specs.GraftRows.{Admits, Freezes, Leaves, Lands, TurnsBack, taken_in, is_taken}
+use Rattle.graft_model.specs.RouterRows.{RouterTaken, OrderIn, MeshIn, RouterSent, MeshTo, ReportOut, IsToTell}
+use Rattle.graft_model.specs.GraftRows.{Admits, Refuses, Freezes, Leaves, Lands, TurnsBack, taken_in, is_taken}
 use Rattle.graft_model.specs.Steps.{Put, router_row}
-use Rattle.graft_model.specs.Conditions.{MayFreeze, is_vacant, vacant_in, HasRoom, IsWhyNot}
+use Rattle.graft_model.specs.Conditions.{MayFreeze, IsWhyNotFrozen, is_vacant, vacant_in, HasRoom, IsWhyNot}
 
 -- ---- what is due and dirty stays due
 
@@ -66,6 +67,37 @@ pub freezes : (r k : ℕ) (before after : RouterPart) (taken : Option RouterTake
 freezes r k before after taken sent row =
     let may = no_cause r row.target (state row.session) (hold_time row.session) row.no_cause in
     record { peering = row.peering; target = row.target; session = row.session; live = row.live.is; established = may.0; elsewhere = may.1; long = may.2 }
+
+-- why not, of the state and the hold time of a session
+abbrev WhyStays : ℕ → ℕ → SessionState → ℕ → Refusal → Type 0
+WhyStays r t s h refusal =
+    ((t ≡ r) × (refusal ≡ SameRouter))
+    ⊎ (((t ≢ r) × (s ≢ Established) × (refusal ≡ NotEstablished s))
+    ⊎ ((t ≢ r) × (s ≡ Established) × (0 < h) × (h < 30) × (refusal ≡ HoldTooShort h)))
+
+same_refusal : (x y : Refusal) → Some x ≡ Some y → y ≡ x
+same_refusal x y e = cc
+
+of_session : (r t : ℕ) (s : SessionState) (h : ℕ) (refusal : Refusal) → t ≢ r → session_refusal s h ≡ Some refusal → WhyStays r t s h refusal
+of_session r t OpenSent h refusal other e = inr (inl (other, (λ up. cc), same_refusal (NotEstablished OpenSent) refusal e))
+of_session r t OpenConfirm h refusal other e = inr (inl (other, (λ up. cc), same_refusal (NotEstablished OpenConfirm) refusal e))
+of_session r t Closed h refusal other e = inr (inl (other, (λ up. cc), same_refusal (NotEstablished Closed) refusal e))
+of_session r t Established h refusal other e = by_test (is_too_short h) refl e where
+  by_test : (b : Bool) → is_too_short h ≡ b → cond b (Some (HoldTooShort h)) None ≡ Some refusal → WhyStays r t Established h refusal
+  by_test true is f = inr (inr (other, refl, grind (arith, nat_tests), grind (arith, nat_tests), same_refusal (HoldTooShort h) refusal f))
+  by_test false is f = absurd cc
+
+cause : (r t : ℕ) (s : SessionState) (h : ℕ) (refusal : Refusal) → freeze_refusal (record { 0 = r }) (record { 0 = t }) s h ≡ Some refusal → WhyStays r t s h refusal
+cause r t s h refusal e = by_test (t == r) refl e where
+  by_test : (b : Bool) → (t == r) ≡ b → cond b (Some SameRouter) (session_refusal s h) ≡ Some refusal → WhyStays r t s h refusal
+  by_test true is f = inl (grind (arith, nat_tests), same_refusal SameRouter refusal f)
+  by_test false is f = of_session r t s h refusal (grind (arith, nat_tests)) f
+
+pub refuses : (r k : ℕ) (before after : RouterPart) (taken : Option RouterTaken) (sent : List RouterSent) → Refuses r k before taken sent after
+    → (p : ℕ) × (session : SessionValue) × (target : ℕ) × (refusal : Refusal) × (before.places p ≡ Live session (Some (record { graft = k; target = target })))
+    × IsWhyNotFrozen r target session refusal × (sent ≡ ReportOut (record { graft = k; outcome = Refused refusal }) ∷ [])
+refuses r k before after taken sent row =
+    (row.peering, row.session, row.target, row.refusal, row.live.is, cause r row.target (state row.session) (hold_time row.session) row.refusal row.cause, row.sends)
 
 pub leaves : (k : ℕ) (before after : RouterPart) (taken : Option RouterTaken) (sent : List RouterSent) → Leaves k before taken sent after
     → (p : ℕ) × (session : SessionValue) × (target : ℕ) × (before.places p ≡ Frozen session (record { graft = k; target = target })) × (sent ≡ MeshTo target (Moved k p session) ∷ [])
