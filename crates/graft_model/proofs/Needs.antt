@@ -24,6 +24,7 @@ use Rattle.graft_model.specs.RouterRows.{RouterTaken, OrderIn, MeshIn, RouterSen
 use Rattle.graft_model.specs.GraftRows.{Admits, Refuses, Freezes, Leaves, Lands, TurnsBack, taken_in, is_taken}
 use Rattle.graft_model.specs.Steps.{Put, router_row}
 use Rattle.graft_model.specs.Conditions.{MayFreeze, IsWhyNotFrozen, is_vacant, vacant_in, HasRoom, IsWhyNot}
+use Rattle.graft_model.proofs.Items.{moved_is}
 
 -- ---- what is due and dirty stays due
 
@@ -116,9 +117,6 @@ counted setup part =
     length-filter_both (λ p. is_taken (part.places p)) (λ p. is_vacant (part.places p)) (λ p. taken_or_vacant (part.places p)) (peering_numbers setup)
     ∙ length-range_with_len 0 (peerings_in setup)
 
-moved_is : (q k l p m : ℕ) (s t : SessionValue) → Some (MeshIn q (Moved k p s)) ≡ Some (MeshIn q (Moved l m t)) → (k ≡ l) × (p ≡ m) × (s ≡ t)
-moved_is q k l p m s t e = (cc, cc, cc)
-
 no_refusal : (held room : ℕ) (missing : Option (List ℕ)) → admit_refusal held room missing ≡ None → (held < room) × (missing ≡ None)
 no_refusal held room None e = (grind (arith, nat_tests), refl)
 no_refusal held room (Some name) e = absurd (grind (arith, nat_tests))
@@ -155,8 +153,8 @@ module _ (setup : Setup) (r q k p : ℕ) (session : SessionValue) (before after 
   why_not came refusal (inl full) n e = inl ((λ (has : HasRoom setup r before). let f = full.0 in absurd (omega arith)), full.1)
   why_not came refusal (inr missing) n e = let f = missing.0 in inr (omega arith, missing.1, ap (λ (z : SessionValue). missing_policy setup r z.config) e ∙ missing.2, missing.3)
 
-  back_is : (l m : ℕ) (came : SessionValue) (refusal : Refusal) → k ≡ l → p ≡ m → session ≡ came → MeshTo q (Back l m came refusal) ∷ [] ≡ MeshTo q (Back k p session refusal) ∷ []
-  back_is l m came refusal e f g = cc
+  sent_back : (l m : ℕ) (came : SessionValue) (refusal : Refusal) → k ≡ l → p ≡ m → session ≡ came → MeshTo q (Back l m came refusal) ∷ [] ≡ MeshTo q (Back k p session refusal) ∷ []
+  sent_back l m came refusal e f g = cc
 
   pub turns_back : TurnsBack setup r q before (Some (MeshIn q (Moved k p session))) sent after
       → (before.places p ≡ Vacant) × (p < peerings_in setup) × (refusal : Refusal) × IsWhyNot setup r before session refusal × (sent ≡ MeshTo q (Back k p session refusal) ∷ [])
@@ -167,5 +165,5 @@ module _ (setup : Setup) (r q k p : ℕ) (session : SessionValue) (before after 
         subst (λ (z : ℕ). z < peerings_in setup) (sym e.1) row.comes.known,
         row.refusal,
         why_not row.comes.session row.refusal why (counted setup before) e.2,
-        row.sends ∙ back_is row.comes.graft row.comes.peering row.comes.session row.refusal e.0 e.1 e.2,
+        row.sends ∙ sent_back row.comes.graft row.comes.peering row.comes.session row.refusal e.0 e.1 e.2,
       )
