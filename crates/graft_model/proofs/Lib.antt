@@ -2,6 +2,7 @@ pub mod Still
 mod Dirties
 mod Dues
 mod Ends
+mod Items
 mod KindNumbers
 mod Same
 mod Needs

@@ -1,5 +1,5 @@
 -- What has to be where an event happens.
-use Rattle.std.proofs.Common.{◌≡◌, ℕ, zero, suc, ◌+◌, ◌<◌, ◌≤◌, Bool, true, false, List, [], ◌∷◌, ◌++◌, Option, Some, None, refl, sym, ap, ◌∙◌, subst, inl, inr, arith}
+use Rattle.std.proofs.Common.{◌≡◌, ◌==◌, cond, ℕ, zero, suc, ◌+◌, ◌<◌, ◌≤◌, Bool, true, false, List, [], ◌∷◌, ◌++◌, Option, Some, None, refl, sym, ap, ◌∙◌, subst, inl, inr, arith}
 use Rattle.std.specs.Prelude.{◌≢◌, ◌⊎◌, ◌&&◌, not, nat_le, Contains}
 use Rattle.std.specs.List.{list_any}
 use Rattle.std.proofs.lemmas.Bool.Decides.{nat_tests}
@@ -12,17 +12,19 @@ use Rattle.bgp_types.specs.declared.message.SessionState.TheVariants.{OpenSent, 
 use Rattle.bgp_types.specs.Prefixes.{PrefixValue, same_prefix}
 use Rattle.bgp_types.proofs.OnceLaws.{is_same}
 use Rattle.graft_steps.specs.declared.refusal.Refusal.{Refusal}
-use Rattle.graft_steps.specs.declared.refusal.Refusal.TheVariants.{RouterFull, PolicyMissing}
-use Rattle.graft_steps.specs.Refusals.{freeze_refusal, admit_refusal}
+use Rattle.graft_steps.specs.declared.refusal.Refusal.TheVariants.{SameRouter, NotEstablished, HoldTooShort, RouterFull, PolicyMissing}
+use Rattle.graft_steps.specs.declared.refusal.Outcome.TheVariants.{Refused}
+use Rattle.graft_steps.specs.Refusals.{freeze_refusal, admit_refusal, session_refusal, is_too_short}
 use Rattle.session_value.specs.Sessions.{SessionValue, state, hold_time}
 use Rattle.graft_model.specs.Sets.{has}
 use Rattle.graft_model.specs.Setups.{Setup, peerings_in, peering_numbers, routers_in, room_of, missing_policy}
 use Rattle.graft_model.specs.Parts.{Place, Vacant, Live, Frozen, Shadow, RouterPart, GraftOrder, Moved, Back}
 use Rattle.graft_model.specs.Decisions.{to_tell}
-use Rattle.graft_model.specs.RouterRows.{RouterTaken, OrderIn, MeshIn, RouterSent, MeshTo, IsToTell}
-use Rattle.graft_model.specs.GraftRows.{Admits, Freezes, Leaves, Lands, TurnsBack, taken_in, is_taken}
+use Rattle.graft_model.specs.RouterRows.{RouterTaken, OrderIn, MeshIn, RouterSent, MeshTo, ReportOut, IsToTell}
+use Rattle.graft_model.specs.GraftRows.{Admits, Refuses, Freezes, Leaves, Lands, TurnsBack, taken_in, is_taken}
 use Rattle.graft_model.specs.Steps.{Put, router_row}
-use Rattle.graft_model.specs.Conditions.{MayFreeze, is_vacant, vacant_in, HasRoom, IsWhyNot}
+use Rattle.graft_model.specs.Conditions.{MayFreeze, IsWhyNotFrozen, is_vacant, vacant_in, HasRoom, IsWhyNot}
+use Rattle.graft_model.proofs.Items.{moved_is}
 
 -- ---- what is due and dirty stays due
 
@@ -67,6 +69,37 @@ freezes r k before after taken sent row =
     let may = no_cause r row.target (state row.session) (hold_time row.session) row.no_cause in
     record { peering = row.peering; target = row.target; session = row.session; live = row.live.is; established = may.0; elsewhere = may.1; long = may.2 }
 
+-- why not, of the state and the hold time of a session
+abbrev WhyStays : ℕ → ℕ → SessionState → ℕ → Refusal → Type 0
+WhyStays r t s h refusal =
+    ((t ≡ r) × (refusal ≡ SameRouter))
+    ⊎ (((t ≢ r) × (s ≢ Established) × (refusal ≡ NotEstablished s))
+    ⊎ ((t ≢ r) × (s ≡ Established) × (0 < h) × (h < 30) × (refusal ≡ HoldTooShort h)))
+
+same_refusal : (x y : Refusal) → Some x ≡ Some y → y ≡ x
+same_refusal x y e = cc
+
+of_session : (r t : ℕ) (s : SessionState) (h : ℕ) (refusal : Refusal) → t ≢ r → session_refusal s h ≡ Some refusal → WhyStays r t s h refusal
+of_session r t OpenSent h refusal other e = inr (inl (other, (λ up. cc), same_refusal (NotEstablished OpenSent) refusal e))
+of_session r t OpenConfirm h refusal other e = inr (inl (other, (λ up. cc), same_refusal (NotEstablished OpenConfirm) refusal e))
+of_session r t Closed h refusal other e = inr (inl (other, (λ up. cc), same_refusal (NotEstablished Closed) refusal e))
+of_session r t Established h refusal other e = by_test (is_too_short h) refl e where
+  by_test : (b : Bool) → is_too_short h ≡ b → cond b (Some (HoldTooShort h)) None ≡ Some refusal → WhyStays r t Established h refusal
+  by_test true is f = inr (inr (other, refl, grind (arith, nat_tests), grind (arith, nat_tests), same_refusal (HoldTooShort h) refusal f))
+  by_test false is f = absurd cc
+
+cause : (r t : ℕ) (s : SessionState) (h : ℕ) (refusal : Refusal) → freeze_refusal (record { 0 = r }) (record { 0 = t }) s h ≡ Some refusal → WhyStays r t s h refusal
+cause r t s h refusal e = by_test (t == r) refl e where
+  by_test : (b : Bool) → (t == r) ≡ b → cond b (Some SameRouter) (session_refusal s h) ≡ Some refusal → WhyStays r t s h refusal
+  by_test true is f = inl (grind (arith, nat_tests), same_refusal SameRouter refusal f)
+  by_test false is f = of_session r t s h refusal (grind (arith, nat_tests)) f
+
+pub refuses : (r k : ℕ) (before after : RouterPart) (taken : Option RouterTaken) (sent : List RouterSent) → Refuses r k before taken sent after
+    → (p : ℕ) × (session : SessionValue) × (target : ℕ) × (refusal : Refusal) × (before.places p ≡ Live session (Some (record { graft = k; target = target })))
+    × IsWhyNotFrozen r target session refusal × (sent ≡ ReportOut (record { graft = k; outcome = Refused refusal }) ∷ [])
+refuses r k before after taken sent row =
+    (row.peering, row.session, row.target, row.refusal, row.live.is, cause r row.target (state row.session) (hold_time row.session) row.refusal row.cause, row.sends)
+
 pub leaves : (k : ℕ) (before after : RouterPart) (taken : Option RouterTaken) (sent : List RouterSent) → Leaves k before taken sent after
     → (p : ℕ) × (session : SessionValue) × (target : ℕ) × (before.places p ≡ Frozen session (record { graft = k; target = target })) × (sent ≡ MeshTo target (Moved k p session) ∷ [])
 leaves k before after taken sent row = (row.peering, row.session, row.target, row.frozen, row.sends)
@@ -83,9 +116,6 @@ pub counted : (setup : Setup) (part : RouterPart) → taken_in setup part + vaca
 counted setup part =
     length-filter_both (λ p. is_taken (part.places p)) (λ p. is_vacant (part.places p)) (λ p. taken_or_vacant (part.places p)) (peering_numbers setup)
     ∙ length-range_with_len 0 (peerings_in setup)
-
-moved_is : (q k l p m : ℕ) (s t : SessionValue) → Some (MeshIn q (Moved k p s)) ≡ Some (MeshIn q (Moved l m t)) → (k ≡ l) × (p ≡ m) × (s ≡ t)
-moved_is q k l p m s t e = (cc, cc, cc)
 
 no_refusal : (held room : ℕ) (missing : Option (List ℕ)) → admit_refusal held room missing ≡ None → (held < room) × (missing ≡ None)
 no_refusal held room None e = (grind (arith, nat_tests), refl)
@@ -123,8 +153,8 @@ module _ (setup : Setup) (r q k p : ℕ) (session : SessionValue) (before after 
   why_not came refusal (inl full) n e = inl ((λ (has : HasRoom setup r before). let f = full.0 in absurd (omega arith)), full.1)
   why_not came refusal (inr missing) n e = let f = missing.0 in inr (omega arith, missing.1, ap (λ (z : SessionValue). missing_policy setup r z.config) e ∙ missing.2, missing.3)
 
-  back_is : (l m : ℕ) (came : SessionValue) (refusal : Refusal) → k ≡ l → p ≡ m → session ≡ came → MeshTo q (Back l m came refusal) ∷ [] ≡ MeshTo q (Back k p session refusal) ∷ []
-  back_is l m came refusal e f g = cc
+  sent_back : (l m : ℕ) (came : SessionValue) (refusal : Refusal) → k ≡ l → p ≡ m → session ≡ came → MeshTo q (Back l m came refusal) ∷ [] ≡ MeshTo q (Back k p session refusal) ∷ []
+  sent_back l m came refusal e f g = cc
 
   pub turns_back : TurnsBack setup r q before (Some (MeshIn q (Moved k p session))) sent after
       → (before.places p ≡ Vacant) × (p < peerings_in setup) × (refusal : Refusal) × IsWhyNot setup r before session refusal × (sent ≡ MeshTo q (Back k p session refusal) ∷ [])
@@ -135,5 +165,5 @@ module _ (setup : Setup) (r q k p : ℕ) (session : SessionValue) (before after 
         subst (λ (z : ℕ). z < peerings_in setup) (sym e.1) row.comes.known,
         row.refusal,
         why_not row.comes.session row.refusal why (counted setup before) e.2,
-        row.sends ∙ back_is row.comes.graft row.comes.peering row.comes.session row.refusal e.0 e.1 e.2,
+        row.sends ∙ sent_back row.comes.graft row.comes.peering row.comes.session row.refusal e.0 e.1 e.2,
       )

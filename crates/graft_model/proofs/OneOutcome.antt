@@ -21,6 +21,7 @@ use Rattle.graft_model.specs.TableRows.{Decides, Tells, Hears, DueEverywhere, wi
 use Rattle.graft_model.specs.GraftRows.{Admits, Refuses, Freezes, Leaves, Lands, TurnsBack, Returns, Clears, DueAgain, refusal_of}
 use Rattle.graft_model.specs.Steps.{RouterEvent, Put, Emit, Arrive, Stray, Got, Decide, Tell, Hear, Admit, Refuse, Freeze, Leave, Land, TurnBack, Return, Clear, Tick, router_row}
 use Rattle.graft_model.specs.Laws.{HasGraft, HasOnce, HasOneOutcome}
+use Rattle.graft_model.proofs.Items.{told_is, moved_is, back_is, done_is}
 use Rattle.graft_model.proofs.Same.{same_table, same_set, same_marks, same_session, same_order, live_here, same_segment, same_end, same_next, same_round, same_due}
 
 module _ (setup : Setup) (r : ℕ) (before a b : RouterPart) (taken : Option RouterTaken) (sent items : List RouterSent) where
@@ -128,12 +129,6 @@ module _ (setup : Setup) (r : ℕ) (before a b : RouterPart) (taken : Option Rou
   one_tells : (q : ℕ) (prefix : PrefixValue) → Tells q prefix before taken sent a → Tells q prefix before taken items b → Same
   one_tells q prefix x y = (y.sends ∙ sym x.sends, y.effect ∙ sym x.effect)
 
-  told_prefix : (q : ℕ) (x y : PrefixValue) (s t : Option Route) → Some (MeshIn q (Told x s)) ≡ Some (MeshIn q (Told y t)) → x ≡ y
-  told_prefix q x y s t e = cc
-
-  told_route : (q : ℕ) (x y : PrefixValue) (s t : Option Route) → Some (MeshIn q (Told x s)) ≡ Some (MeshIn q (Told y t)) → s ≡ t
-  told_route q x y s t e = cc
-
   abbrev DirtyIf : ℕ → PrefixValue → Option Route → RouterPart → Type 0
   DirtyIf q prefix route v = ((route ≡ map.get (before.tellings q) prefix) × (v.dirty ≡ before.dirty)) ⊎ ((route ≢ map.get (before.tellings q) prefix) × (v.dirty ≡ map.insert before.dirty prefix tt))
 
@@ -149,8 +144,8 @@ module _ (setup : Setup) (r : ℕ) (before a b : RouterPart) (taken : Option Rou
   one_hears : (q : ℕ) → Hears q before taken sent a → Hears q before taken items b → Same
   one_hears q x y =
       let t : Some (MeshIn q (Told y.prefix y.route)) ≡ Some (MeshIn q (Told x.prefix x.route)) = sym y.takes ∙ x.takes in
-      let p : y.prefix ≡ x.prefix = told_prefix q y.prefix x.prefix y.route x.route t in
-      let o : y.route ≡ x.route = told_route q y.prefix x.prefix y.route x.route t in
+      let p : y.prefix ≡ x.prefix = (told_is q y.prefix x.prefix y.route x.route t).0 in
+      let o : y.route ≡ x.route = (told_is q y.prefix x.prefix y.route x.route t).1 in
       let d : DirtyIf q x.prefix x.route b = subst (λ (z : PrefixValue). DirtyIf q z x.route b) p (subst (λ (z : Option Route). DirtyIf q y.prefix z b) o y.dirty) in (
         y.sends ∙ sym x.sends,
         y.effect ∙ (ap (λ (z : PrefixValue). heard_with q z y.route b.dirty) p ∙ (ap (λ (z : Option Route). heard_with q x.prefix z b.dirty) o ∙ (ap (λ (z : Prefixes). heard_with q x.prefix x.route z) (same_dirty q x.prefix x.route d x.dirty) ∙ sym x.effect))),
@@ -246,16 +241,6 @@ module _ (setup : Setup) (r : ℕ) (before a b : RouterPart) (taken : Option Rou
         y.sends ∙ (ap (λ (z : ℕ). MeshTo y.target (Moved k z y.session) ∷ []) p ∙ (ap (λ (z : SessionValue). MeshTo y.target (Moved k x.peering z) ∷ []) f.0 ∙ (ap (λ (z : ℕ). MeshTo z (Moved k x.peering x.session) ∷ []) f.1 ∙ sym x.sends))),
         y.effect ∙ (ap (λ (z : ℕ). let v : RouterPart = record before { places = at before.places z (Shadow k); due_out = at before.due_out z map.empty } in v) p ∙ sym x.effect),
       )
-
-  -- an item that brings a session, or ends a graft
-  moved_is : (q k l p m : ℕ) (s t : SessionValue) → Some (MeshIn q (Moved k p s)) ≡ Some (MeshIn q (Moved l m t)) → (k ≡ l) × (p ≡ m) × (s ≡ t)
-  moved_is q k l p m s t e = (cc, cc, cc)
-
-  back_is : (q k l p m : ℕ) (s t : SessionValue) (f g : Refusal) → Some (MeshIn q (Back k p s f)) ≡ Some (MeshIn q (Back l m t g)) → (k ≡ l) × (p ≡ m) × (s ≡ t) × (f ≡ g)
-  back_is q k l p m s t f g e = (cc, cc, cc, cc)
-
-  done_is : (q k l p m : ℕ) → Some (MeshIn q (Done k p)) ≡ Some (MeshIn q (Done l m)) → (k ≡ l) × (p ≡ m)
-  done_is q k l p m e = (cc, cc)
 
   abbrev landed_at : ℕ → SessionValue → Entries → Prefixes → Prefixes → RouterPart
   landed_at p s entries dirty due = record before { places = at before.places p (Live s None); entries = at before.entries p entries; dirty = dirty; due_out = at before.due_out p due }

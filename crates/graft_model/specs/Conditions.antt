@@ -2,7 +2,7 @@
 use Rattle.std.specs.Prelude.{ℕ, ◌+◌, ◌≡◌, ◌≢◌, ◌≤◌, ◌<◌, ◌⊎◌, List, length, filter, Bool, true, false, Some}
 use Rattle.bgp_types.specs.declared.message.SessionState.TheVariants.{Established}
 use Rattle.graft_steps.specs.declared.refusal.Refusal.{Refusal}
-use Rattle.graft_steps.specs.declared.refusal.Refusal.TheVariants.{RouterFull, PolicyMissing}
+use Rattle.graft_steps.specs.declared.refusal.Refusal.TheVariants.{SameRouter, NotEstablished, HoldTooShort, RouterFull, PolicyMissing}
 use Rattle.session_value.specs.Sessions.{SessionValue, state, hold_time}
 use Rattle.graft_model.specs.Setups.{Setup, peering_numbers, peerings_in, room_of, missing_policy}
 use Rattle.graft_model.specs.Parts.{Place, Vacant, Live, Frozen, Shadow, RouterPart}
@@ -31,6 +31,14 @@ pub record MayFreeze (r k : ℕ) (part : RouterPart) : Type 0 where
   pub established : state session ≡ Established
   pub elsewhere : target ≢ r
   pub long : (hold_time session ≡ 0) ⊎ (30 ≤ hold_time session)
+
+-- Why the router r doesn't freeze a session for a target: the target is r itself; or else the session isn't established; or else its hold time
+-- runs and is below 30 seconds.
+abbrev pub IsWhyNotFrozen : ℕ → ℕ → SessionValue → Refusal → Type 0
+IsWhyNotFrozen r target session refusal =
+    ((target ≡ r) × (refusal ≡ SameRouter))
+    ⊎ (((target ≢ r) × (state session ≢ Established) × (refusal ≡ NotEstablished (state session)))
+    ⊎ ((target ≢ r) × (state session ≡ Established) × (0 < hold_time session) × (hold_time session < 30) × (refusal ≡ HoldTooShort (hold_time session))))
 
 abbrev pub is_vacant : Place → Bool
 is_vacant Vacant = true

@@ -4,13 +4,14 @@ ghost use Rattle.std.specs.Prelude.{◌≡◌, ◌≢◌, ◌<◌, ◌≤◌, �
 ghost use Rattle.bgp_types.specs.Prefixes.{PrefixValue};
 ghost use Rattle.bgp_types.specs.declared.message.SessionState.TheVariants.{Established, Closed};
 ghost use Rattle.graft_steps.specs.declared.refusal.Refusal.{Refusal};
+ghost use Rattle.graft_steps.specs.declared.refusal.Outcome.TheVariants.{Refused};
 ghost use Rattle.tcp_seq.specs.Endpoint.{received};
 ghost use Rattle.session_value.specs.declared.config.SessionConfig.{SessionConfig};
 ghost use Rattle.session_value.specs.Sessions.{SessionValue, state, hold_time};
 ghost use Rattle.graft_model.specs.Sets.{has};
 ghost use Rattle.graft_model.specs.Setups.{Setup, PeeringSetup, SayStep, MoveStep, peerings_in, routers_in, room_of, missing_policy, group_of, groups_in, graft_number, beat_of, rules_named};
 ghost use Rattle.graft_model.specs.Parts.{RouterPart, FarPart, OperatorPart, World, GraftOrder, Order, Vacant, Live, Frozen, Shadow, Moved, Back, Done, PointAt};
-ghost use Rattle.graft_model.specs.RouterRows.{RouterTaken, OrderIn, MeshIn, RouterSent, MeshTo};
+ghost use Rattle.graft_model.specs.RouterRows.{RouterTaken, OrderIn, MeshIn, RouterSent, MeshTo, ReportOut};
 ghost use Rattle.graft_model.specs.FarRows.{FarTaken, OutwardIn, FarSent};
 ghost use Rattle.graft_model.specs.OperatorRows.{OperatorTaken, OperatorSent, OrderTo, SayTo, placement};
 ghost use Rattle.graft_model.specs.Steps.{Step, ByOperator, Go, Put, Emit, Arrive, Stray, Got, Tell, Admit, Refuse, Freeze, Leave, Land, TurnBack, Return, Clear, Tick, Point, Beat, router_row, far_row, operator_row};
@@ -18,7 +19,7 @@ ghost use Rattle.graft_model.specs.Steps.{Order as OrderOf};
 ghost use Rattle.graft_model.specs.Quiet.{Quiet};
 ghost use Rattle.graft_model.specs.Claims.{sessions_at};
 ghost use Rattle.graft_model.specs.GraftRows.{taken_in};
-ghost use Rattle.graft_model.specs.Conditions.{HasNoLive, MayFreeze, vacant_in, HasRoom, IsWhyNot};
+ghost use Rattle.graft_model.specs.Conditions.{HasNoLive, MayFreeze, IsWhyNotFrozen, vacant_in, HasRoom, IsWhyNot};
 
 /// On a session that is frozen, away or absent nothing is put, emitted, got or ticked, and no segment arrives. Where one is live, no segment strays.
 pub fn live_sessions_alone_act()
@@ -59,13 +60,17 @@ pub fn dirty_prefixes_wait()
 {}
 
 /// A graft goes on only where it stands: its order is taken by a live session with no graft stored, to one of the routers; the session is frozen only as
-/// `MayFreeze` says; it leaves only where it is frozen; and its shadow alone is cleared, or made live again.
+/// `MayFreeze` says, and refused only with a reason why not; it leaves only where it is frozen; and its shadow alone is cleared, or made live again.
 pub fn grafts_go_on_where_they_stand()
     ensures admit { (setup : Setup) (r k : ℕ) (order : GraftOrder) (before after : RouterPart) (sent : List RouterSent)
         → router_row setup r (Admit k) before (Some (OrderIn order)) sent after
         → (order.graft ≡ k) × (order.target < routers_in setup) × (session : SessionValue) × (before.places order.peering ≡ Live session None) }
     ensures freeze { (setup : Setup) (r k : ℕ) (before after : RouterPart) (taken : Option RouterTaken) (sent : List RouterSent)
         → router_row setup r (Freeze k) before taken sent after → MayFreeze r k before }
+    ensures refuse { (setup : Setup) (r k : ℕ) (before after : RouterPart) (taken : Option RouterTaken) (sent : List RouterSent)
+        → router_row setup r (Refuse k) before taken sent after
+        → (p : ℕ) × (session : SessionValue) × (target : ℕ) × (refusal : Refusal) × (before.places p ≡ Live session (Some (record { graft = k; target = target })))
+        × IsWhyNotFrozen r target session refusal × (sent ≡ ReportOut (record { graft = k; outcome = Refused refusal }) ∷ []) }
     ensures leave { (setup : Setup) (r k : ℕ) (before after : RouterPart) (taken : Option RouterTaken) (sent : List RouterSent)
         → router_row setup r (Leave k) before taken sent after
         → (p : ℕ) × (session : SessionValue) × (target : ℕ) × (before.places p ≡ Frozen session (record { graft = k; target = target })) × (sent ≡ MeshTo target (Moved k p session) ∷ []) }

@@ -1,4 +1,4 @@
-use Rattle.graft_model.proofs.Needs.{admits, freezes, leaves}
+use Rattle.graft_model.proofs.Needs.{admits, freezes, refuses, leaves}
 use Rattle.graft_model.proofs.conditions.grafts_go_on_where_they_stand.Goals as goal
 
 -- src/conditions.rt
@@ -10,3 +10,6 @@ returns-clause-freeze c setup r k before after taken sent row = freezes r k befo
 
 pub returns-clause-leave : goal.returns-clause-leave
 returns-clause-leave c setup r k before after taken sent row = leaves k before after taken sent row
+
+pub returns-clause-refuse : goal.returns-clause-refuse
+returns-clause-refuse c setup r k before after taken sent row = refuses r k before after taken sent row
