@@ -7,7 +7,7 @@ use Rattle.bgp_types.specs.declared.attrs.Route.{Route}
 use Rattle.bgp_types.specs.Prefixes.{PrefixValue}
 use Rattle.bgp_types.specs.Tables.{prefix_cmp}
 use Rattle.bgp_types.proofs.TableLaws.{prefix_total}
-use Rattle.graft_model.specs.Sets.{Prefixes, has}
+use Rattle.session_value.specs.Sets.{Prefixes, has}
 use Rattle.graft_model.specs.Parts.{RouterPart, Told, Done}
 use Rattle.graft_model.specs.RouterRows.{MeshIn, RouterSent}
 use Rattle.graft_model.specs.TableRows.{Hears}

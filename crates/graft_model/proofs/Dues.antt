@@ -13,9 +13,10 @@ use Rattle.bgp_types.proofs.TableLaws.{prefix_total, tied}
 use Rattle.route_policy.specs.declared.best.Best.{Best}
 use Rattle.loc_rib.specs.Values.{with_best}
 use Rattle.session_value.specs.Sessions.{state}
-use Rattle.graft_model.specs.Sets.{Prefixes, has, Adds}
+use Rattle.session_value.specs.Sets.{BestRoutes, Prefixes, has}
+use Rattle.graft_model.specs.Sets.{Adds}
 use Rattle.graft_model.specs.Setups.{Setup, routers_in}
-use Rattle.graft_model.specs.Parts.{Place, Vacant, Live, Frozen, Shadow, RouterPart, BestRoutes}
+use Rattle.graft_model.specs.Parts.{Place, Vacant, Live, Frozen, Shadow, RouterPart}
 use Rattle.graft_model.specs.Decisions.{chosen}
 use Rattle.graft_model.specs.RouterRows.{RouterTaken, RouterSent}
 use Rattle.graft_model.specs.TableRows.{Decides, is_established, holds_established, only}

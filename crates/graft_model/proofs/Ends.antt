@@ -7,10 +7,10 @@ use Rattle.bgp_types.specs.declared.message.SessionState.{SessionState}
 use Rattle.bgp_types.specs.declared.message.SessionState.TheVariants.{OpenSent, OpenConfirm, Established, Closed}
 use Rattle.bgp_types.specs.Prefixes.{PrefixValue}
 use Rattle.session_value.specs.Sessions.{SessionValue, state}
+use Rattle.session_value.specs.Sets.{BestRoutes, Prefixes, has}
 use Rattle.graft_model.specs.Points.{at}
-use Rattle.graft_model.specs.Sets.{Prefixes, has}
 use Rattle.graft_model.specs.Setups.{Setup}
-use Rattle.graft_model.specs.Parts.{Order, Live, RouterPart, BestRoutes}
+use Rattle.graft_model.specs.Parts.{Order, Live, RouterPart}
 use Rattle.graft_model.specs.RouterRows.{DueThen, Follows}
 use Rattle.graft_model.proofs.Same.{same_session}
 

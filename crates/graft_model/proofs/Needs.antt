@@ -16,7 +16,7 @@ use Rattle.graft_steps.specs.declared.refusal.Refusal.TheVariants.{SameRouter, N
 use Rattle.graft_steps.specs.declared.refusal.Outcome.TheVariants.{Refused}
 use Rattle.graft_steps.specs.Refusals.{freeze_refusal, admit_refusal, session_refusal, is_too_short}
 use Rattle.session_value.specs.Sessions.{SessionValue, state, hold_time}
-use Rattle.graft_model.specs.Sets.{has}
+use Rattle.session_value.specs.Sets.{has}
 use Rattle.graft_model.specs.Setups.{Setup, peerings_in, peering_numbers, routers_in, room_of, missing_policy}
 use Rattle.graft_model.specs.Parts.{Place, Vacant, Live, Frozen, Shadow, RouterPart, GraftOrder, Moved, Back}
 use Rattle.graft_model.specs.Decisions.{to_tell}

@@ -10,8 +10,8 @@ use Rattle.loc_rib.specs.Values.{with_best}
 use Rattle.tcp_seq.specs.Endpoint.{Endpoint, PlacedSegment, TakesSegment}
 use Rattle.tcp_seq.proofs.Arriving.{leaves_one}
 use Rattle.session_value.specs.Sessions.{SessionValue, state}
+use Rattle.session_value.specs.Sets.{Prefixes, Marks}
 use Rattle.graft_model.specs.Points.{at}
-use Rattle.graft_model.specs.Sets.{Prefixes, has}
 use Rattle.graft_model.specs.Slices.{EmitsAt}
 use Rattle.graft_model.specs.Setups.{Setup}
 use Rattle.graft_model.specs.Parts.{Order, Place, Live, Frozen, Shadow, Vacant, RouterPart, Entries, Told, Moved, Back, Done, Seg, PointAt}
@@ -74,7 +74,7 @@ module _ (setup : Setup) (r : ℕ) (before a b : RouterPart) (taken : Option Rou
   one_follows : (p : ℕ) (s n : SessionValue) (o : Option Order) → Follows setup r p before s n o a → Follows setup r p before s n o b → b ≡ a
   one_follows p s n o x y =
       let e : b.entries p ≡ a.entries p = same_table (b.entries p) (a.entries p) (λ q. y.entries q ∙ sym (x.entries q)) in
-      let d : b.dirty ≡ a.dirty = same_marks before.dirty b.dirty a.dirty (before.entries p) (a.entries p) (subst (λ (z : Entries). Rattle.graft_model.specs.Sets.Marks before.dirty (before.entries p) z b.dirty) e y.dirty) x.dirty in
+      let d : b.dirty ≡ a.dirty = same_marks before.dirty b.dirty a.dirty (before.entries p) (a.entries p) (subst (λ (z : Entries). Marks before.dirty (before.entries p) z b.dirty) e y.dirty) x.dirty in
       let u : b.due_out p ≡ a.due_out p = same_due (state s) (state n) before.best (before.due_out p) (b.due_out p) (a.due_out p) y.due x.due in
       y.effect ∙ (ap (λ (z : Entries). followed p n o z b.dirty (b.due_out p)) e ∙ (ap (λ (z : Prefixes). followed p n o (a.entries p) z (b.due_out p)) d ∙ (ap (λ (z : Prefixes). followed p n o (a.entries p) a.dirty z) u ∙ sym x.effect)))
 
@@ -248,14 +248,14 @@ module _ (setup : Setup) (r : ℕ) (before a b : RouterPart) (taken : Option Rou
   -- what landing leaves, of the peering and the session that came
   record Landed (p : ℕ) (s : SessionValue) (v : RouterPart) : Type 0 where
     entries : BringsIn setup r s (v.entries p)
-    dirty : Rattle.graft_model.specs.Sets.Marks before.dirty (before.entries p) (v.entries p) v.dirty
+    dirty : Marks before.dirty (before.entries p) (v.entries p) v.dirty
     due : DueAgain before s (v.due_out p)
     effect : v ≡ landed_at p s (v.entries p) v.dirty (v.due_out p)
 
   one_landed : (p : ℕ) (s : SessionValue) → Landed p s a → Landed p s b → b ≡ a
   one_landed p s x y =
       let e : b.entries p ≡ a.entries p = same_table (b.entries p) (a.entries p) (λ q. y.entries q ∙ sym (x.entries q)) in
-      let d : b.dirty ≡ a.dirty = same_marks before.dirty b.dirty a.dirty (before.entries p) (a.entries p) (subst (λ (z : Entries). Rattle.graft_model.specs.Sets.Marks before.dirty (before.entries p) z b.dirty) e y.dirty) x.dirty in
+      let d : b.dirty ≡ a.dirty = same_marks before.dirty b.dirty a.dirty (before.entries p) (a.entries p) (subst (λ (z : Entries). Marks before.dirty (before.entries p) z b.dirty) e y.dirty) x.dirty in
       let u : b.due_out p ≡ a.due_out p = same_set (b.due_out p) (a.due_out p) (λ q. y.due.members q ∙ sym (x.due.members q)) in
       y.effect ∙ (ap (λ (z : Entries). landed_at p s z b.dirty (b.due_out p)) e ∙ (ap (λ (z : Prefixes). landed_at p s (a.entries p) z (b.due_out p)) d ∙ (ap (λ (z : Prefixes). landed_at p s (a.entries p) a.dirty z) u ∙ sym x.effect)))
 
@@ -297,7 +297,7 @@ module _ (setup : Setup) (r : ℕ) (before a b : RouterPart) (taken : Option Rou
   one_clears : (q : ℕ) → Clears q before taken sent a → Clears q before taken items b → Same
   one_clears q x y =
       let t = done_is q y.graft x.graft y.peering x.peering (sym y.takes ∙ x.takes) in
-      let d : b.dirty ≡ a.dirty = same_marks before.dirty b.dirty a.dirty (before.entries x.peering) map.empty (subst (λ (z : ℕ). Rattle.graft_model.specs.Sets.Marks before.dirty (before.entries z) map.empty b.dirty) t.1 y.dirty) x.dirty in (
+      let d : b.dirty ≡ a.dirty = same_marks before.dirty b.dirty a.dirty (before.entries x.peering) map.empty (subst (λ (z : ℕ). Marks before.dirty (before.entries z) map.empty b.dirty) t.1 y.dirty) x.dirty in (
         y.sends ∙ (ap (λ (k : ℕ). ReportOut (record { graft = k; outcome = Accepted }) ∷ []) t.0 ∙ sym x.sends),
         y.effect ∙ (ap (λ (p : ℕ). cleared_at p b.dirty) t.1 ∙ (ap (λ (z : Prefixes). cleared_at x.peering z) d ∙ sym x.effect)),
       )

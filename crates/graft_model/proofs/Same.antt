@@ -18,9 +18,9 @@ use Rattle.bgp_types.specs.FirstFault.{message_of}
 use Rattle.tcp_seq.specs.Endpoint.{Endpoint, PlacedSegment, EmitsSlice, EmitsEmpty, slice_at}
 use Rattle.session_value.specs.Sessions.{SessionValue, peering_of, state}
 use Rattle.session_value.specs.Cases.{GetsFrame, PassesRound, put_by, reading, sending}
-use Rattle.graft_model.specs.Sets.{Prefixes, has, Marks}
+use Rattle.session_value.specs.Sets.{BestRoutes, Prefixes, has, Marks}
 use Rattle.graft_model.specs.Slices.{EmitsAt}
-use Rattle.graft_model.specs.Parts.{Order, Live, RouterPart, BestRoutes}
+use Rattle.graft_model.specs.Parts.{Order, Live, RouterPart}
 use Rattle.graft_model.specs.RouterRows.{IsLive, DueThen}
 
 -- ---- tables and sets

@@ -7,7 +7,7 @@ use Rattle.bgp_types.specs.Tables.{prefix_cmp}
 use Rattle.tcp_seq.specs.Endpoint.{Endpoint}
 use Rattle.session_value.specs.Sessions.{SessionValue}
 use Rattle.session_value.specs.Cases.{GetsFrame}
-use Rattle.graft_model.specs.Sets.{Prefixes, has}
+use Rattle.session_value.specs.Sets.{Prefixes, has}
 use Rattle.graft_model.specs.Setups.{Setup, SayStep, MoveStep}
 use Rattle.graft_model.specs.Parts.{Order, Place, Live, World}
 use Rattle.graft_model.specs.RouterRows.{RouterTaken, OrderIn, SegmentIn, MeshIn}

@@ -1,10 +1,8 @@
 -- What is claimed of worlds and of runs.
-use Rattle.std.specs.Prelude.{ℕ, ◌≡◌, ◌≢◌, ◌<◌, List, [], ◌∷◌, ◌++◌, length, Option, Some, None, ◌⊎◌, filter, map, if◌then◌else◌, ◌==◌, not}
+use Rattle.std.specs.Prelude.{ℕ, ◌≡◌, ◌≢◌, ◌<◌, List, [], ◌∷◌, ◌++◌, length, Some, None, ◌⊎◌, filter, map, if◌then◌else◌, ◌==◌, not}
 use Rattle.std.specs.FinMap as map
 use Rattle.std.specs.List.{AllByRecursion, flat_map}
-use Rattle.bgp_types.specs.declared.attrs.Attrs.{Attrs}
-use Rattle.bgp_types.specs.declared.message.SessionState.{SessionState}
-use Rattle.bgp_types.specs.declared.message.SessionState.TheVariants.{OpenSent, OpenConfirm, Established, Closed}
+use Rattle.bgp_types.specs.declared.message.SessionState.TheVariants.{Closed}
 use Rattle.bgp_types.specs.Prefixes.{PrefixValue}
 use Rattle.bgp_story.specs.Laws.{IsGotLine}
 use Rattle.bgp_story.specs.Readings.{IsLegal, put_bytes, got_bytes, heard, told}
@@ -13,13 +11,13 @@ use Rattle.graft_steps.specs.declared.refusal.Refusal.{Refusal}
 use Rattle.route_policy.specs.Candidates.{SessionRoute, RouterRoute, candidates}
 use Rattle.route_policy.specs.Telling.{tell_in}
 use Rattle.tcp_seq.specs.Endpoint.{received_bytes}
-use Rattle.session_value.specs.Sessions.{SessionValue, peering_of, state}
+use Rattle.session_value.specs.Sessions.{SessionValue, peering_of, state, while_established}
+use Rattle.session_value.specs.Fronts.{AreFirst, BeginsNothing}
 use Rattle.graft_model.specs.Setups.{Setup, routers_in, peerings_in, router_numbers, peering_numbers, identifier_of, cost_between, has_network, config_of}
 use Rattle.graft_model.specs.Parts.{Place, Vacant, Live, Frozen, Shadow, Mesh, Told, Moved, Back, Done, World}
 use Rattle.graft_model.specs.Decisions.{session_route, to_tell}
 use Rattle.graft_model.specs.OperatorRows.{placement}
 use Rattle.graft_model.specs.Steps.{RouterEvent, Refuse, Freeze, Land, Return, Event, ByRouter, Step, Run}
-use Rattle.graft_model.specs.Quiet.{BeginsNothing}
 
 -- ---- where a session is
 
@@ -47,11 +45,6 @@ abbrev pub holders : Setup → World → ℕ → ℕ
 holders setup w p = length (sessions_of setup w p)
 
 -- ---- transparent
-
--- Some bytes are the first of others.
-pub record AreFirst (first bytes : List ℕ) : Type 0 where
-  pub rest : List ℕ
-  pub is : bytes ≡ first ++ rest
 
 -- The peering has one session, which is the peering's own, with a legal story (RFC 4271, sections 6 and 8.2.2). What the remote received are the first bytes of what that story
 -- put, and what it got are the first bytes of what the remote said. Its tables are those of the story (section 3.1).
@@ -109,13 +102,6 @@ abbrev pub router_routes : Setup → World → ℕ → PrefixValue → List Rout
 router_routes setup w r prefix = map
     (λ q. record { router = record { 0 = q }; identifier = identifier_of setup q; cost = cost_between setup r q; told = tell_in (map.get (w.router q).best prefix) })
     (filter (λ q. not (q == r)) (router_numbers setup))
-
--- what is told on a session in this state: nothing unless it is established
-abbrev pub while_established : SessionState → Option Attrs → Option Attrs
-while_established OpenSent attrs = None
-while_established OpenConfirm attrs = None
-while_established Established attrs = attrs
-while_established Closed attrs = None
 
 -- All that the remote said was got, message by message, up to the end of the session, or up to a rest that begins none.
 pub record GotAll (session : SessionValue) (said : List ℕ) : Type 0 where

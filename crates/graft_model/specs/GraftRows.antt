@@ -7,8 +7,8 @@ use Rattle.graft_steps.specs.declared.refusal.Refusal.{Refusal}
 use Rattle.graft_steps.specs.declared.refusal.Outcome.TheVariants.{Accepted, Refused}
 use Rattle.graft_steps.specs.Refusals.{freeze_refusal, admit_refusal}
 use Rattle.session_value.specs.Sessions.{SessionValue, state, hold_time}
+use Rattle.session_value.specs.Sets.{Prefixes, has, Marks}
 use Rattle.graft_model.specs.Points.{at}
-use Rattle.graft_model.specs.Sets.{Prefixes, has, Marks}
 use Rattle.graft_model.specs.Setups.{Setup, routers_in, peerings_in, peering_numbers, room_of, missing_policy}
 use Rattle.graft_model.specs.Parts.{Place, Vacant, Live, Frozen, Shadow, RouterPart, Moved, Back, Done, PointAt}
 use Rattle.graft_model.specs.RouterRows.{RouterTaken, OrderIn, MeshIn, RouterSent, MeshTo, OutwardTo, ReportOut, Alone, IsLive, BringsIn}

@@ -4,12 +4,11 @@ use Rattle.std.specs.FinMap as map
 use Rattle.bgp_types.specs.declared.attrs.Route.{Route}
 use Rattle.bgp_types.specs.Prefixes.{PrefixValue}
 use Rattle.bgp_types.specs.Tables.{prefix_cmp}
-use Rattle.route_policy.specs.declared.best.Best.{Best}
 use Rattle.tcp_seq.specs.Endpoint.{Endpoint, PlacedSegment}
 use Rattle.graft_steps.specs.declared.refusal.Refusal.{Refusal}
 use Rattle.graft_steps.specs.declared.refusal.Outcome.{Outcome}
 use Rattle.session_value.specs.Sessions.{SessionValue}
-use Rattle.graft_model.specs.Sets.{Prefixes}
+use Rattle.session_value.specs.Sets.{BestRoutes, Prefixes}
 
 -- ---- a router
 
@@ -39,9 +38,6 @@ Entries = map.FinMap prefix_cmp Entry
 -- the routes that another router told
 abbrev pub Tellings : Type 0
 Tellings = map.FinMap prefix_cmp Route
-
-abbrev pub BestRoutes : Type 0
-BestRoutes = map.FinMap prefix_cmp Best
 
 -- A home router: its places by peering; the entries by peering and by router; the best route to each prefix; the prefixes that are
 -- to be decided again; and those that are due to be told to each router and on each peering.

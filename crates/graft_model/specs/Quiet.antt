@@ -1,16 +1,12 @@
 -- When nothing is left to do.
-use Rattle.std.specs.Prelude.{ℕ, ◌≡◌, ◌≢◌, List, [], ◌++◌, length, Some, None, true, ◌⊎◌, slice_get}
+use Rattle.std.specs.Prelude.{ℕ, ◌≡◌, ◌≢◌, [], length, Some, None, true, ◌⊎◌, slice_get}
 use Rattle.std.specs.FinMap as map
 use Rattle.bgp_types.specs.declared.message.SessionState.TheVariants.{Closed}
-use Rattle.bgp_story.specs.Legal.{IsGot}
 use Rattle.session_value.specs.Sessions.{SessionValue, state, unread}
+use Rattle.session_value.specs.Fronts.{BeginsNothing}
 use Rattle.tcp_seq.specs.Endpoint.{Endpoint, received}
 use Rattle.graft_model.specs.Setups.{Setup, ScriptStep, MoveStep, SettleStep, group_of, graft_number}
 use Rattle.graft_model.specs.Parts.{Place, Vacant, Live, World}
-
--- no whole message and no faulty header stands at the front of bytes
-abbrev pub BeginsNothing : List ℕ → Type 0
-BeginsNothing bytes = (front rest : List ℕ) → bytes ≡ front ++ rest → IsGot front → ⊥
 
 -- the session has read what it can read
 abbrev pub HasRead : SessionValue → Type 0

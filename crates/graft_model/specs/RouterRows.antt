@@ -13,11 +13,12 @@ use Rattle.bgp_types.specs.Tables.{prefix_cmp}
 use Rattle.tcp_seq.specs.Endpoint.{Endpoint, PlacedSegment, TakesSegment}
 use Rattle.session_value.specs.Sessions.{SessionValue, state}
 use Rattle.session_value.specs.Cases.{GetsFrame, PutsUpdate, PassesRound}
+use Rattle.session_value.specs.Sets.{BestRoutes, Prefixes, has, Marks}
 use Rattle.graft_model.specs.Points.{at}
 use Rattle.graft_model.specs.Slices.{EmitsAt}
-use Rattle.graft_model.specs.Sets.{Prefixes, has, Drops, Marks, Lists}
+use Rattle.graft_model.specs.Sets.{Drops, Lists}
 use Rattle.graft_model.specs.Setups.{Setup}
-use Rattle.graft_model.specs.Parts.{Order, Live, RouterPart, Entries, BestRoutes, Mesh, Outward, Seg, GraftOrder, Report}
+use Rattle.graft_model.specs.Parts.{Order, Live, RouterPart, Entries, Mesh, Outward, Seg, GraftOrder, Report}
 use Rattle.graft_model.specs.Decisions.{entry_of, to_tell}
 
 -- what a router may take: the next item of the operator's channel, of a far side's, or of another router's

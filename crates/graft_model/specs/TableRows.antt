@@ -8,8 +8,9 @@ use Rattle.bgp_types.specs.Prefixes.{PrefixValue, same_prefix}
 use Rattle.route_policy.specs.Telling.{tell_in}
 use Rattle.loc_rib.specs.Values.{with_best}
 use Rattle.session_value.specs.Sessions.{state}
+use Rattle.session_value.specs.Sets.{has}
 use Rattle.graft_model.specs.Points.{at}
-use Rattle.graft_model.specs.Sets.{has, Adds}
+use Rattle.graft_model.specs.Sets.{Adds}
 use Rattle.graft_model.specs.Setups.{Setup, routers_in}
 use Rattle.graft_model.specs.Parts.{Place, Vacant, Live, Frozen, Shadow, RouterPart, Tellings, Told}
 use Rattle.graft_model.specs.Decisions.{chosen}

@@ -8,7 +8,7 @@ ghost use Rattle.graft_steps.specs.declared.refusal.Outcome.TheVariants.{Refused
 ghost use Rattle.tcp_seq.specs.Endpoint.{received};
 ghost use Rattle.session_value.specs.declared.config.SessionConfig.{SessionConfig};
 ghost use Rattle.session_value.specs.Sessions.{SessionValue, state, hold_time};
-ghost use Rattle.graft_model.specs.Sets.{has};
+ghost use Rattle.session_value.specs.Sets.{has};
 ghost use Rattle.graft_model.specs.Setups.{Setup, PeeringSetup, SayStep, MoveStep, peerings_in, routers_in, room_of, missing_policy, group_of, groups_in, graft_number, beat_of, rules_named};
 ghost use Rattle.graft_model.specs.Parts.{RouterPart, FarPart, OperatorPart, World, GraftOrder, Order, Vacant, Live, Frozen, Shadow, Moved, Back, Done, PointAt};
 ghost use Rattle.graft_model.specs.RouterRows.{RouterTaken, OrderIn, MeshIn, RouterSent, MeshTo, ReportOut};

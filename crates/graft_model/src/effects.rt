@@ -8,7 +8,7 @@ ghost use Rattle.bgp_types.specs.declared.attrs.Route.{Route};
 ghost use Rattle.graft_steps.specs.declared.refusal.Refusal.{Refusal};
 ghost use Rattle.tcp_seq.specs.Endpoint.{PlacedSegment};
 ghost use Rattle.session_value.specs.Sessions.{SessionValue, state};
-ghost use Rattle.graft_model.specs.Sets.{has};
+ghost use Rattle.session_value.specs.Sets.{has};
 ghost use Rattle.graft_model.specs.Setups.{Setup, RouterSetup, SayStep, routers_in, cost_between};
 ghost use Rattle.graft_model.specs.Parts.{RouterPart, FarPart, Order, Live, Told, Seg, Moved, Back, Done};
 ghost use Rattle.graft_model.specs.RouterRows.{RouterTaken, MeshIn, RouterSent, OutwardTo};

@@ -20,13 +20,14 @@ use Rattle.route_policy.specs.declared.best.Best.{Best}
 use Rattle.route_policy.specs.Candidates.{candidates}
 use Rattle.route_policy.specs.Telling.{tell_in}
 use Rattle.tcp_seq.specs.Endpoint.{received_bytes, run_from}
-use Rattle.session_value.specs.Sessions.{peering_of, state, unread}
+use Rattle.session_value.specs.Sessions.{peering_of, state, unread, while_established}
+use Rattle.session_value.specs.Fronts.{BeginsNothing}
 use Rattle.graft_model.specs.Points.{at}
 use Rattle.graft_model.specs.Setups.{ScriptStep, SayStep, SettleStep, MoveStep, group_of, graft_number, identifier_of, cost_between, has_network}
 use Rattle.graft_model.specs.Parts.{Vacant, Live, Entry, RouterPart, FarPart, OperatorPart}
 use Rattle.graft_model.specs.Decisions.{to_tell, remote_identifier}
-use Rattle.graft_model.specs.Quiet.{Quiet, IsIdle, BeginsNothing, HasRead, AllAcked}
-use Rattle.graft_model.specs.Claims.{Solves, SolvesOn, session_routes, router_routes, while_established}
+use Rattle.graft_model.specs.Quiet.{Quiet, IsIdle, HasRead, AllAcked}
+use Rattle.graft_model.specs.Claims.{Solves, SolvesOn, session_routes, router_routes}
 use Rattle.graft_worked.specs.Base.{base, config}
 use Rattle.graft_worked.specs.Places.{idle_router, idle_far, nothing, world_of}
 use Rattle.graft_worked.specs.Graft.{put_all, said_all, home_end, remote_end, heard_attrs, route, entry, over_peering, over_router, session, a_before, b_before, far_before, operator_before, a_after, b_after, far_after, operator_after, before_graft, after_graft, with_entry_kept}

@@ -21,8 +21,8 @@ use Rattle.graft_steps.specs.declared.refusal.Outcome.TheVariants.{Accepted}
 use Rattle.bgp_story.specs.WorkedSessions.{ten}
 use Rattle.loc_rib.specs.Values.{with_best}
 use Rattle.session_value.specs.Sessions.{state, hold_time}
+use Rattle.session_value.specs.Sets.{has}
 use Rattle.graft_model.specs.Points.{at}
-use Rattle.graft_model.specs.Sets.{has}
 use Rattle.graft_model.specs.Setups.{ScriptStep, SayStep, MoveStep, SettleStep, graft_number}
 use Rattle.graft_model.specs.Parts.{Place, Vacant, Live, Frozen, Shadow, Entry, RouterPart, Told, Moved, Done, PointAt}
 use Rattle.graft_model.specs.Decisions.{entry_candidate, telling_candidate, session_route, chosen, to_tell, out_side, remote_identifier}

@@ -6,7 +6,6 @@ use Rattle.bgp_types.specs.Spelling.{spell}
 use Rattle.bgp_story.specs.WorkedSessions.{keepalive_bytes, joined_lines}
 use Rattle.graft_steps.specs.declared.refusal.Refusal.TheVariants.{SameRouter, RouterFull}
 use Rattle.graft_steps.specs.declared.refusal.Outcome.TheVariants.{Refused}
-use Rattle.graft_model.specs.Sets.{has}
 use Rattle.graft_model.specs.Parts.{Place, Vacant, Live, Frozen, Shadow, Moved, Back, World}
 use Rattle.graft_model.specs.RouterRows.{SegmentIn, MeshIn, MeshTo, ReportOut, Strays, Ticks, BringsIn}
 use Rattle.graft_model.specs.GraftRows.{Refuses, TurnsBack, Returns, is_taken}
@@ -17,6 +16,7 @@ use Rattle.graft_worked.proofs.GraftRows.{hold_is}
 use Rattle.graft_worked.proofs.GraftEnds.{quiet_after}
 use Rattle.session_value.specs.Sessions.{hold_time}
 use Rattle.session_value.specs.Cases.{PassesRound}
+use Rattle.session_value.specs.Sets.{has}
 use Rattle.std.specs.Prelude.{option_map}
 use Rattle.std.proofs.lemmas.List.Elements.{All-from_recursion}
 use Rattle.bgp_story.specs.Legal.{IsEarlier}

@@ -24,7 +24,7 @@ use Rattle.bgp_story.specs.WorkedSessions.{ten, attrs_over, announcement_over}
 use Rattle.route_policy.specs.Telling.{tell_out}
 use Rattle.session_value.specs.Sessions.{state}
 use Rattle.session_value.specs.Cases.{PutsUpdate, Changes}
-use Rattle.graft_model.specs.Sets.{has}
+use Rattle.session_value.specs.Sets.{has}
 use Rattle.graft_model.specs.Parts.{Vacant, Live}
 use Rattle.graft_model.specs.Decisions.{to_tell, out_side}
 use Rattle.graft_model.specs.RouterRows.{IsToTell, PutsSome}

@@ -26,8 +26,8 @@ use Rattle.route_policy.specs.Candidates.{imported}
 use Rattle.tcp_seq.specs.Endpoint.{Bytes, bytes_in_order, run_from}
 use Rattle.session_value.specs.Sessions.{SessionValue}
 use Rattle.session_value.specs.Cases.{GetsFrame}
+use Rattle.session_value.specs.Sets.{Marks}
 use Rattle.graft_model.specs.Points.{at}
-use Rattle.graft_model.specs.Sets.{Marks}
 use Rattle.graft_model.specs.Parts.{Live, Vacant, Entry, RouterPart, Seg}
 use Rattle.graft_model.specs.Decisions.{remote_identifier, session_route}
 use Rattle.graft_model.specs.RouterRows.{OutwardTo, Emits, GetsNext, BringsIn}

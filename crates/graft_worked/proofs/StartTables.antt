@@ -6,8 +6,8 @@ use Rattle.decision_core.specs.Choice.{keep, left_of, choice}
 use Rattle.route_policy.specs.Telling.{tell_in, tell_out}
 use Rattle.loc_rib.specs.Values.{with_best}
 use Rattle.bgp_story.specs.WorkedSessions.{ten}
+use Rattle.session_value.specs.Sets.{has}
 use Rattle.graft_model.specs.Points.{at}
-use Rattle.graft_model.specs.Sets.{has}
 use Rattle.graft_model.specs.Parts.{Vacant, Live, Told}
 use Rattle.graft_model.specs.Decisions.{chosen, to_tell, out_side}
 use Rattle.graft_model.specs.RouterRows.{MeshIn, MeshTo, PutsNothing}

@@ -7,7 +7,8 @@ use Rattle.bgp_types.specs.Prefixes.{PrefixValue, same_prefix}
 use Rattle.bgp_types.specs.Tables.{prefix_cmp}
 use Rattle.bgp_types.proofs.TableLaws.{prefix_total, exact_prefixes, tied}
 use Rattle.bgp_story.specs.WorkedSessions.{ten}
-use Rattle.graft_model.specs.Sets.{has, Drops, Marks}
+use Rattle.session_value.specs.Sets.{has, Marks}
+use Rattle.graft_model.specs.Sets.{Drops}
 use Rattle.graft_worked.specs.Graft.{at_ten, ten_alone}
 
 -- whether a prefix is 10.0.0.0/8

@@ -14,8 +14,8 @@ use Rattle.tcp_seq.specs.Endpoint.{Bytes, Endpoint}
 use Rattle.graft_steps.specs.declared.refusal.Outcome.TheVariants.{Accepted}
 use Rattle.bgp_story.specs.WorkedSessions.{ten, open_bytes, keepalive_bytes, update_bytes, heard_lines}
 use Rattle.session_value.specs.Sessions.{SessionValue}
+use Rattle.session_value.specs.Sets.{Prefixes}
 use Rattle.graft_model.specs.Points.{at}
-use Rattle.graft_model.specs.Sets.{Prefixes}
 use Rattle.graft_model.specs.Parts.{Order as StoredOrder, Vacant, Live, Frozen, Shadow, Entry, RouterPart, FarPart, OperatorPart, World}
 use Rattle.graft_model.specs.Steps.{Event, ByRouter, ByFar, ByOperator, Go, Order, Admit, Freeze, Leave, Land, Point, Clear, Note, Decide, Put, Tell, Hear}
 use Rattle.graft_worked.specs.Base.{config}

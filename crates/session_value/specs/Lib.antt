@@ -1,2 +1,4 @@
+pub mod Sets
+pub mod Fronts
 pub mod Sessions
 pub mod Cases

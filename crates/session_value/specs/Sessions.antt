@@ -1,8 +1,10 @@
 -- A home session as one value (RFC 4271, section 3.2; RFC 9293, section 3.4).
-use Rattle.std.specs.Prelude.{ℕ, [], ◌∷◌, List}
+use Rattle.std.specs.Prelude.{ℕ, [], ◌∷◌, List, Option, None}
 use Rattle.std.specs.FinMap as map
+use Rattle.bgp_types.specs.declared.attrs.Attrs.{Attrs}
 use Rattle.bgp_types.specs.declared.message.Message.TheVariants.{OpenMsg}
 use Rattle.bgp_types.specs.declared.message.SessionState.{SessionState}
+use Rattle.bgp_types.specs.declared.message.SessionState.TheVariants.{OpenSent, OpenConfirm, Established, Closed}
 use Rattle.tcp_seq.specs.Endpoint.{Endpoint, fresh_endpoint, ready_bytes}
 use Rattle.bgp_story.specs.declared.line.Line.{Line}
 use Rattle.bgp_story.specs.declared.line.Line.TheVariants.{Put}
@@ -27,6 +29,13 @@ peering_of config = record { first = home_open config.home_as config.home_hold c
 
 abbrev pub state : SessionValue → SessionState
 state session = state_of session.story
+
+-- what is told on a session in this state: nothing unless it is established
+abbrev pub while_established : SessionState → Option Attrs → Option Attrs
+while_established OpenSent attrs = None
+while_established OpenConfirm attrs = None
+while_established Established attrs = attrs
+while_established Closed attrs = None
 
 -- the bytes that were received and not got yet
 abbrev pub unread : SessionValue → List ℕ
