@@ -20,12 +20,13 @@ use Rattle.bgp_story.specs.States.{state_of}
 use Rattle.bgp_story.proofs.Grows.{put_grows, got_grows, told_grows, heard_grows, none_told, none_heard}
 use Rattle.bgp_story.proofs.Shapes.{allowed_of}
 use Rattle.bgp_story.proofs.StoryLaws.{state_is}
+use Rattle.session_value.specs.Sets.{has}
+use Rattle.session_value.specs.Fronts.{AreFirst}
 use Rattle.pipe_model.specs.declared.pipe.Pipe.{Pipe}
 use Rattle.pipe_model.specs.Pipes.{session_of}
-use Rattle.pipe_model.specs.Worlds.{Session, World, has}
+use Rattle.pipe_model.specs.Worlds.{Session, World}
 use Rattle.pipe_model.specs.Decisions.{brought, to_tell}
 use Rattle.pipe_model.specs.Rows.{GetsRow, due_then}
-use Rattle.pipe_model.specs.Claims.{IsFront}
 use Rattle.pipe_model.proofs.Tables.{has_none, no_best}
 use Rattle.pipe_model.proofs.Replies.{no_update, answer_gets, answer_tells, answer_hears, while_unclosed, established_from, confirmed_from, same_update}
 use Rattle.pipe_model.proofs.Keeping.{Early, Keeps, same_session, unread_is, front_longer}
@@ -68,7 +69,7 @@ module _ (p : Peering) (lines : List Line) (bytes : List ℕ) (answer : List Lin
       ∙ ap (λ (x : List ℕ). got_bytes lines ++ (bytes ++ x)) (ap got_bytes answer_is ∙ answer_gets said)
       ∙ ap (λ (x : List ℕ). got_bytes lines ++ x) (append-nil bytes)
 
-  pub put_then : IsFront (put_bytes p lines) (put_bytes p (lines ++ more))
+  pub put_then : AreFirst (put_bytes p lines) (put_bytes p (lines ++ more))
   put_then = record { rest = _; is = put_grows p lines more (state_of lines) (allowed_of p lines (state_of lines) legal) }
 
   abbrev pub later : Expected
@@ -112,7 +113,7 @@ module _ (pipe : Pipe) (w v : World) (row : GetsRow pipe w v) (k : Keeps pipe w 
   then_is : state_of after.story ≡ row.next
   then_is = state_next (session_of pipe) s.story row.bytes row.answer row.next k.legal row.unclosed row.got row.reply
 
-  arrived_is : IsFront (got_bytes after.story) s.arrived
+  arrived_is : AreFirst (got_bytes after.story) s.arrived
   arrived_is = record {
     rest = row.rest;
     is = unread_is k
@@ -206,7 +207,7 @@ module _ (pipe : Pipe) (w v : World) (row : GetsRow pipe w v) (k : Keeps pipe w 
 
     clean : (p : PrefixValue) (t : Bool) → has v.dirty p ≡ t → has v.dirty p ≡ false
     clean p false h = h
-    clean p true h = by_mark p (row.marks.dirty p h)
+    clean p true h = by_mark p (row.marks.marked p h)
 
   pub gets_keeps : Keeps pipe v after
   gets_keeps = subst (λ (x : World). Keeps pipe x after) (sym row.effect) (record {
@@ -218,7 +219,7 @@ module _ (pipe : Pipe) (w v : World) (row : GetsRow pipe w v) (k : Keeps pipe w 
     received = Rattle.pipe_model.proofs.Keeping.front_trans k.received (put_then (session_of pipe) s.story row.bytes row.answer row.next k.legal row.unclosed row.got row.reply);
     heard = heard_is;
     told = told_is;
-    best = λ p clean. k.best p (row.marks.clean p clean).0 ∙ ap (brought pipe) (sym (row.marks.clean p clean).1);
+    best = λ p clean. k.best p (row.marks.others p clean).0 ∙ ap (brought pipe) (sym (row.marks.others p clean).1);
     due = due_is;
     untold = untold_from row.next;
     own_way = k.own_way;

@@ -10,14 +10,16 @@ use Rattle.bgp_story.specs.Legal.{IsPeering, Legal}
 use Rattle.bgp_story.specs.Opens.{IsAsNumber}
 use Rattle.bgp_story.specs.Readings.{IsLegal, put_bytes, got_bytes, heard, told}
 use Rattle.bgp_story.specs.States.{state_of}
+use Rattle.session_value.specs.Sets.{has}
+use Rattle.session_value.specs.Fronts.{AreFirst}
 use Rattle.pipe_model.specs.declared.pipe.Pipe.{Pipe}
 use Rattle.pipe_model.specs.Pipes.{IsSound, session_of}
-use Rattle.pipe_model.specs.Worlds.{Session, World, unread, has, first_world, first_session}
+use Rattle.pipe_model.specs.Worlds.{Session, World, unread, first_world, first_session}
 use Rattle.bgp_types.specs.declared.attrs.Attrs.{Attrs}
 use Rattle.route_policy.specs.declared.best.Best.{Best}
 use Rattle.route_policy.specs.Telling.{tell_out}
 use Rattle.pipe_model.specs.Decisions.{brought, to_tell, out_side}
-use Rattle.pipe_model.specs.Claims.{IsFront, placement}
+use Rattle.pipe_model.specs.Claims.{placement}
 use Rattle.pipe_model.proofs.Tables.{has_none}
 
 -- ---- fronts
@@ -32,20 +34,20 @@ pub drop_front : (xs ys : List ℕ) → drop (length xs) (xs ++ ys) ≡ ys
 drop_front [] ys = refl
 drop_front (x ∷ xs) ys = drop_front xs ys
 
-pub front_trans : {xs ys zs : List ℕ} → IsFront xs ys → IsFront ys zs → IsFront xs zs
+pub front_trans : {xs ys zs : List ℕ} → AreFirst xs ys → AreFirst ys zs → AreFirst xs zs
 front_trans {xs} f g = record { rest = f.rest ++ g.rest; is = g.is ∙ (ap (λ (l : List ℕ). l ++ g.rest) f.is ∙ append_assoc xs f.rest g.rest) }
 
-pub front_more : (xs ys : List ℕ) → IsFront xs (xs ++ ys)
+pub front_more : (xs ys : List ℕ) → AreFirst xs (xs ++ ys)
 front_more xs ys = record { rest = ys; is = refl }
 
-pub front_longer : {xs ys : List ℕ} (zs : List ℕ) → IsFront xs ys → IsFront xs (ys ++ zs)
+pub front_longer : {xs ys : List ℕ} (zs : List ℕ) → AreFirst xs ys → AreFirst xs (ys ++ zs)
 front_longer {xs} {ys} zs f = front_trans f (front_more ys zs)
 
-pub front_taken : (n : ℕ) (xs : List ℕ) → IsFront (take n xs) xs
+pub front_taken : (n : ℕ) (xs : List ℕ) → AreFirst (take n xs) xs
 front_taken n xs = record { rest = drop n xs; is = sym (Rattle.std.proofs.Common.take-append-drop n xs) }
 
 -- more of what a front is taken from has it as a front
-pub front_next : {xs ys : List ℕ} (n : ℕ) → IsFront xs ys → IsFront xs (take (length xs + n) ys)
+pub front_next : {xs ys : List ℕ} (n : ℕ) → AreFirst xs ys → AreFirst xs (take (length xs + n) ys)
 front_next {xs} {ys} n f = record { rest = take n f.rest; is = ap (take (length xs + n)) f.is ∙ take_past xs f.rest n }
 
 -- ---- the world and its session
@@ -62,9 +64,9 @@ pub record Keeps (pipe : Pipe) (w : World) (s : Session) : Type 0 where
   pub held : w.held ≡ Some s
   pub pointer : w.pointer ≡ placement pipe
   pub legal : IsLegal (session_of pipe) s.story (state_of s.story)
-  pub arrived : IsFront s.arrived w.said
-  pub got : IsFront (got_bytes s.story) s.arrived
-  pub received : IsFront w.received (put_bytes (session_of pipe) s.story)
+  pub arrived : AreFirst s.arrived w.said
+  pub got : AreFirst (got_bytes s.story) s.arrived
+  pub received : AreFirst w.received (put_bytes (session_of pipe) s.story)
   pub heard : s.heard ≡ heard (session_of pipe) s.story
   pub told : s.told ≡ told s.story
   pub best : (p : PrefixValue) → has w.dirty p ≡ false → map.get w.best p ≡ brought pipe (map.get s.heard p)

@@ -8,13 +8,15 @@ use Rattle.bgp_types.specs.declared.message.SessionState.TheVariants.{OpenSent, 
 use Rattle.bgp_types.specs.Prefixes.{PrefixValue}
 use Rattle.bgp_story.specs.States.{state_of}
 use Rattle.bgp_story.proofs.Shapes.{allowed_of, got_in_frames_is}
+use Rattle.session_value.specs.Sets.{Prefixes, has}
+use Rattle.session_value.specs.Sessions.{while_established}
 use Rattle.pipe_model.specs.declared.pipe.Pipe.{Pipe}
 use Rattle.pipe_model.specs.Pipes.{IsSound}
-use Rattle.pipe_model.specs.Worlds.{Prefixes, Session, World, unread, has, first_world, first_session}
+use Rattle.pipe_model.specs.Worlds.{Session, World, unread, first_world, first_session}
 use Rattle.pipe_model.specs.Decisions.{chosen, to_tell}
 use Rattle.pipe_model.specs.Rows.{Homeward, Remoteward, Event, Passes, Gets, Decides, Says, Orders, Carries}
 use Rattle.pipe_model.specs.Runs.{Step, Run}
-use Rattle.pipe_model.specs.Claims.{sessions_in, option_list, holders, Transparent, AtRest, Quiet, Solves, told_in}
+use Rattle.pipe_model.specs.Claims.{sessions_in, option_list, holders, Transparent, AtRest, Quiet, Solves}
 use Rattle.pipe_model.proofs.Tables.{has_none}
 use Rattle.pipe_model.proofs.Choices.{chosen_is}
 use Rattle.pipe_model.proofs.Keeping.{Keeps, same_session, unread_is, front_trans, first_keeps}
@@ -61,7 +63,7 @@ transparent pipe events w sound run = of (kept pipe events w sound run) where
 pub one_holder : (pipe : Pipe) (events : List Event) (w : World) → IsSound pipe → Run pipe (first_world pipe) events w → holders w ≡ 1
 one_holder pipe events w sound run = let k = kept pipe events w sound run in ap length (one_is k.1)
 
-told_by_state : (state : SessionState) (told tell : Option Attrs) → (state ≡ Established → told ≡ tell) → (state ≢ Established → told ≡ None) → told ≡ told_in state tell
+told_by_state : (state : SessionState) (told tell : Option Attrs) → (state ≡ Established → told ≡ tell) → (state ≢ Established → told ≡ None) → told ≡ while_established state tell
 told_by_state OpenSent told tell up down = down (λ e. absurd cc)
 told_by_state OpenConfirm told tell up down = down (λ e. absurd cc)
 told_by_state Established told tell up down = up refl

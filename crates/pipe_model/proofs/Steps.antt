@@ -8,13 +8,14 @@ use Rattle.bgp_types.specs.Prefixes.{PrefixValue}
 use Rattle.bgp_story.specs.Readings.{put_bytes, told}
 use Rattle.bgp_story.specs.States.{state_of}
 use Rattle.route_policy.specs.declared.best.Best.{Best}
+use Rattle.session_value.specs.Sets.{BestRoutes, Prefixes, has}
+use Rattle.session_value.specs.Fronts.{AreFirst}
 use Rattle.pipe_model.specs.declared.pipe.Pipe.{Pipe}
 use Rattle.pipe_model.specs.Pipes.{session_of}
-use Rattle.pipe_model.specs.Worlds.{BestRoutes, Prefixes, Session, World, has}
+use Rattle.pipe_model.specs.Worlds.{Session, World}
 use Rattle.pipe_model.specs.Decisions.{brought, chosen, to_tell}
 use Rattle.loc_rib.specs.Values.{with_best}
 use Rattle.pipe_model.specs.Rows.{PassesRow, DecidesRow, SaysRow, OrdersRow, CarriesHome, CarriesOut, due_in, due_on}
-use Rattle.pipe_model.specs.Claims.{IsFront}
 use Rattle.pipe_model.proofs.Tables.{same, same_is, has_put, has_removed, none_of, get_with}
 use Rattle.pipe_model.proofs.Choices.{chosen_is, brought_untold}
 use Rattle.pipe_model.proofs.Keeping.{Keeps, to_tell_of, same_session, front_trans, front_longer, front_taken, front_next}
@@ -109,7 +110,7 @@ carries_out_keeps pipe n w v s k row = subst (λ (x : World). Keeps pipe x s) (s
   legal = k.legal;
   arrived = k.arrived;
   got = k.got;
-  received = subst (λ (x : Session). IsFront (take (length w.received + n) (put_bytes (session_of pipe) row.session.story)) (put_bytes (session_of pipe) x.story)) (sym one) (front_taken _ _);
+  received = subst (λ (x : Session). AreFirst (take (length w.received + n) (put_bytes (session_of pipe) row.session.story)) (put_bytes (session_of pipe) x.story)) (sym one) (front_taken _ _);
   heard = k.heard;
   told = k.told;
   best = k.best;

@@ -8,7 +8,7 @@ use Rattle.bgp_types.specs.Prefixes.{PrefixValue}
 use Rattle.bgp_types.specs.Tables.{prefix_cmp}
 use Rattle.bgp_types.proofs.TableLaws.{prefix_total, tied}
 use Rattle.route_policy.specs.declared.best.Best.{Best}
-use Rattle.pipe_model.specs.Worlds.{BestRoutes, Prefixes, has}
+use Rattle.session_value.specs.Sets.{BestRoutes, Prefixes, has}
 use Rattle.loc_rib.specs.Values.{with_best}
 
 abbrev pub same : PrefixValue → PrefixValue → Bool

@@ -2,14 +2,13 @@
 use Rattle.std.specs.Prelude.{◌≡◌, ℕ, List, [], ◌∷◌, ◌++◌, length, Option, Some, None, ◌⊎◌}
 use Rattle.std.specs.FinMap as map
 use Rattle.std.specs.List.{AllByRecursion}
-use Rattle.bgp_types.specs.declared.attrs.Attrs.{Attrs}
-use Rattle.bgp_types.specs.declared.message.SessionState.{SessionState}
-use Rattle.bgp_types.specs.declared.message.SessionState.TheVariants.{OpenSent, OpenConfirm, Established, Closed}
+use Rattle.bgp_types.specs.declared.message.SessionState.TheVariants.{Closed}
 use Rattle.bgp_types.specs.Prefixes.{PrefixValue}
 use Rattle.bgp_story.specs.Laws.{IsGotLine}
-use Rattle.bgp_story.specs.Legal.{IsGot}
 use Rattle.bgp_story.specs.Readings.{IsLegal, put_bytes, got_bytes, heard, told}
 use Rattle.bgp_story.specs.States.{state_of}
+use Rattle.session_value.specs.Fronts.{AreFirst, BeginsNothing}
+use Rattle.session_value.specs.Sessions.{while_established}
 use Rattle.pipe_model.specs.declared.pipe.Pipe.{Pipe}
 use Rattle.pipe_model.specs.Pipes.{session_of}
 use Rattle.pipe_model.specs.Worlds.{Session, unread, World}
@@ -27,26 +26,17 @@ sessions_in w = option_list w.held
 abbrev pub holders : World → ℕ
 holders w = length (sessions_in w)
 
--- Some bytes are a front of others.
-pub record IsFront (front bytes : List ℕ) : Type 0 where
-  pub rest : List ℕ
-  pub is : bytes ≡ front ++ rest
-
--- The session has one holder and a legal story (RFC 4271, sections 6 and 8.2.2). What the remote received is a
--- front of what was put, what was got is a front of what the remote said, and the tables are those that the
+-- The session has one holder and a legal story (RFC 4271, sections 6 and 8.2.2). What the remote received are the
+-- first bytes of what was put, what was got are the first of what the remote said, and the tables are those that the
 -- story tells (section 3.1).
 pub record Transparent (pipe : Pipe) (w : World) : Type 0 where
   pub session : Session
   pub one : sessions_in w ≡ session ∷ []
   pub legal : IsLegal (session_of pipe) session.story (state_of session.story)
-  pub received : IsFront w.received (put_bytes (session_of pipe) session.story)
-  pub got : IsFront (got_bytes session.story) w.said
+  pub received : AreFirst w.received (put_bytes (session_of pipe) session.story)
+  pub got : AreFirst (got_bytes session.story) w.said
   pub heard : session.heard ≡ heard (session_of pipe) session.story
   pub told : session.told ≡ told session.story
-
--- no whole message and no faulty header stands at the front of bytes
-abbrev pub BeginsNothing : List ℕ → Type 0
-BeginsNothing bytes = (front rest : List ℕ) → bytes ≡ front ++ rest → ¬ (IsGot front)
 
 -- Both sides received all that the other said or put, and the session read what it can read.
 pub record AtRest (pipe : Pipe) (w : World) (session : Session) : Type 0 where
@@ -67,13 +57,6 @@ pub record Quiet (pipe : Pipe) (w : World) : Type 0 where
 abbrev pub placement : Pipe → ℕ
 placement pipe = pipe.start.0
 
--- what is told on a session in this state: nothing unless it is established
-abbrev pub told_in : SessionState → Option Attrs → Option Attrs
-told_in OpenSent attrs = None
-told_in OpenConfirm attrs = None
-told_in Established attrs = attrs
-told_in Closed attrs = None
-
 -- All that the remote said was got, message by message, up to the one that closed the session, or up to a
 -- rest that begins none.
 pub record GotAll (session : Session) (said : List ℕ) : Type 0 where
@@ -92,7 +75,7 @@ pub record Solves (pipe : Pipe) (w : World) : Type 0 where
   -- each best route is the choice of the candidates
   pub best : (p : PrefixValue) → map.get w.best p ≡ chosen pipe w.held p
   -- what was told is what is to be told, and the remote received all of it
-  pub told : (p : PrefixValue) → map.get session.told p ≡ told_in (state_of session.story) (to_tell pipe w p)
+  pub told : (p : PrefixValue) → map.get session.told p ≡ while_established (state_of session.story) (to_tell pipe w p)
   pub received : w.received ≡ put_bytes (session_of pipe) session.story
   -- what the remote said was got
   pub got : GotAll session w.said

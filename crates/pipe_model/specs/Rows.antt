@@ -10,10 +10,11 @@ use Rattle.bgp_story.specs.declared.line.Line.TheVariants.{Got}
 use Rattle.bgp_story.specs.Legal.{IsGot, expected_next, reply_to}
 use Rattle.bgp_story.specs.Readings.{Routes, apply_if, update_in, unless_closed, put_bytes}
 use Rattle.bgp_story.specs.States.{state_of}
+use Rattle.session_value.specs.Sets.{BestRoutes, Prefixes, has, Marks}
 use Rattle.pipe_model.specs.declared.pipe.Pipe.{Pipe}
 use Rattle.pipe_model.specs.Pipes.{session_of, said_at}
 use Rattle.loc_rib.specs.Values.{with_best}
-use Rattle.pipe_model.specs.Worlds.{BestRoutes, Prefixes, has, Session, unread, World}
+use Rattle.pipe_model.specs.Worlds.{Session, unread, World}
 use Rattle.pipe_model.specs.Decisions.{chosen, to_tell}
 
 pub data Way : Type 0 where
@@ -46,11 +47,6 @@ pub record PassesRow (pipe : Pipe) (w v : World) : Type 0 where
   pub left : (p : PrefixValue) → has v.due p ≡ (has w.due p && has w.dirty p)
   pub effect : v ≡ record w { due = v.due }
 
--- the prefixes whose routes changed, and no others, are dirty beside those that were
-pub record Marks (before after : Prefixes) (old new : Routes) : Type 0 where
-  pub dirty : (p : PrefixValue) → has after p ≡ true → (has before p ≡ true) ⊎ (map.get new p ≢ map.get old p)
-  pub clean : (p : PrefixValue) → has after p ≡ false → (has before p ≡ false) × (map.get new p ≡ map.get old p)
-
 -- Once the session is established all best routes are due on it, and once it is closed none is.
 abbrev pub due_then : SessionState → SessionState → BestRoutes → Prefixes → Prefixes
 due_then OpenConfirm Established best due = fold (λ prefixes p. map.insert prefixes p tt) due (map.keys best)
@@ -72,7 +68,7 @@ pub record GetsRow (pipe : Pipe) (w v : World) : Type 0 where
   pub reply : reply_to (message_of (expected_next (session_of pipe) session.story (state_of session.story)) bytes) ≡ (answer, next)
   pub heard : Routes
   pub hears : heard ≡ unless_closed next (apply_if session.heard (update_in (message_of (expected_next (session_of pipe) session.story (state_of session.story)) bytes)))
-  pub marks : Marks w.dirty v.dirty session.heard heard
+  pub marks : Marks w.dirty session.heard heard v.dirty
   pub effect : v ≡ record w {
     held = Some (record session { story = session.story ++ Got bytes ∷ answer; heard = heard; told = unless_closed next session.told });
     dirty = v.dirty;

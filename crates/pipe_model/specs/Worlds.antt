@@ -1,26 +1,13 @@
 -- The world of a pipe: what its router, its remote and its operator are, and what is between them.
-use Rattle.std.specs.Prelude.{ℕ, List, [], ◌∷◌, length, drop, Option, Some, Bool, is_some}
+use Rattle.std.specs.Prelude.{ℕ, List, [], ◌∷◌, length, drop, Option, Some}
 use Rattle.std.specs.FinMap as map
 use Rattle.bgp_types.specs.declared.message.Message.TheVariants.{OpenMsg}
-use Rattle.bgp_types.specs.Prefixes.{PrefixValue}
-use Rattle.bgp_types.specs.Tables.{prefix_cmp}
 use Rattle.bgp_story.specs.declared.line.Line.{Line}
 use Rattle.bgp_story.specs.declared.line.Line.TheVariants.{Put}
 use Rattle.bgp_story.specs.Readings.{Routes, got_bytes}
-use Rattle.route_policy.specs.declared.best.Best.{Best}
+use Rattle.session_value.specs.Sets.{BestRoutes, Prefixes}
 use Rattle.pipe_model.specs.declared.pipe.Pipe.{Pipe}
 use Rattle.pipe_model.specs.Pipes.{session_of, opening}
-
--- the best route to each prefix, and where it comes from
-abbrev pub BestRoutes : Type 0
-BestRoutes = map.FinMap prefix_cmp Best
-
--- a set of prefixes
-abbrev pub Prefixes : Type 0
-Prefixes = map.FinMap prefix_cmp (Unit {0})
-
-abbrev pub has : Prefixes → PrefixValue → Bool
-has prefixes prefix = is_some (map.get prefixes prefix)
 
 -- a session: its story, the routes that it heard and told, its Adj-RIB-In and Adj-RIB-Out (RFC 4271, section 3.2),
 -- and the remote's bytes that reached it

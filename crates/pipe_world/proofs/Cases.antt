@@ -20,8 +20,8 @@ use Rattle.bgp_story.specs.Readings.{Routes, put_in, apply, update_in}
 use Rattle.bgp_story.specs.States.{Begins, state_of}
 use Rattle.prefix_trie.specs.Table.{TableValue}
 use Rattle.loc_rib.specs.Values.{LocValue}
-use Rattle.pipe_model.specs.Worlds.{BestRoutes, Prefixes}
-use Rattle.pipe_model.specs.Rows.{Marks, due_then}
+use Rattle.session_value.specs.Sets.{BestRoutes, Prefixes, Marks}
+use Rattle.pipe_model.specs.Rows.{due_then}
 use Rattle.pipe_model.proofs.Keeping.{Early}
 use Rattle.pipe_world.specs.declared.world.PipeWorld.{PipeWorld}
 use Rattle.pipe_world.specs.Views.{session_in, world_of, noted, reading, AtFront, After}
@@ -50,8 +50,8 @@ keepalive_writable = record { body = tt; size = lit≤ tt }
 
 -- ---- nothing that was heard changes
 
-same_marks : (dirty : Prefixes) (routes : Routes) → Marks dirty dirty routes routes
-same_marks dirty routes = record { dirty = λ p h. inl h; clean = λ p h. (h, refl) }
+same_marks : (dirty : Prefixes) (routes : Routes) → Marks dirty routes routes dirty
+same_marks dirty routes = record { marked = λ p h. inl h; others = λ p h. (h, refl) }
 
 due_confirmed : (state : SessionState) (best : BestRoutes) (due : Prefixes) → due ≡ due_then state OpenConfirm best due
 due_confirmed OpenSent best due = refl
@@ -101,7 +101,7 @@ module _ (w : PipeWorld) (bytes : List ℕ) (f : AtFront w bytes) where
       (got_went w bytes [] Established w.heard w.loc.dirty w.due f reply
       (sym (ap (λ (o : Option Update). Rattle.bgp_story.specs.Readings.apply_if w.heard o) update)) (same_marks w.loc.dirty w.heard) (due_established (state_of w.story.lines) w.loc.best w.due.contents (no_best_yet w bytes f)))
 
-  pub hear_leaves : (v1 : PipeWorld) (u : Update) (heard : Routes) (loc : LocValue) → reading w bytes ≡ Ok (UpdateMsg u) → v1 ≡ with_got w bytes → heard ≡ apply v1.heard u → loc.best ≡ v1.loc.best → Marks v1.loc.dirty loc.dirty v1.heard heard
+  pub hear_leaves : (v1 : PipeWorld) (u : Update) (heard : Routes) (loc : LocValue) → reading w bytes ≡ Ok (UpdateMsg u) → v1 ≡ with_got w bytes → heard ≡ apply v1.heard u → loc.best ≡ v1.loc.best → Marks v1.loc.dirty v1.heard heard loc.dirty
       → Leaves (noted (record v1 { heard = heard; loc = loc }) 0 5 0 0)
   hear_leaves v1 u heard loc r e1 h b m =
       subst Leaves (sym (ap (λ (x : PipeWorld). noted (record x { heard = heard; loc = loc }) 0 5 0 0) e1
@@ -109,28 +109,28 @@ module _ (w : PipeWorld) (bytes : List ℕ) (f : AtFront w bytes) where
       ∙ ap (λ (l : List ℕ). noted (record (with_got w bytes) { heard = heard; loc = record w.loc { dirty = loc.dirty }; put = l }) 0 5 0 0) (sym (append-nil w.put)))))
       (got_went w bytes [] Established heard loc.dirty w.due f (ap reply_to r)
       (h ∙ (ap (λ (x : PipeWorld). apply x.heard u) e1 ∙ sym (ap (λ (m : Result Message Notice). Rattle.bgp_story.specs.Readings.apply_if w.heard (update_in m)) r)))
-      (subst (λ (x : PipeWorld). Marks x.loc.dirty loc.dirty x.heard heard) e1 m)
+      (subst (λ (x : PipeWorld). Marks x.loc.dirty x.heard heard loc.dirty) e1 m)
       (due_established (state_of w.story.lines) w.loc.best w.due.contents (no_best_yet w bytes f)))
 
   -- the routes are dropped
   abbrev pub dropped : PipeWorld → Prefixes → TableValue (Unit {0}) → PipeWorld
   dropped v dirty due = record v { heard = map.empty; loc = record v.loc { dirty = dirty }; due = due }
 
-  pub close_leaves : (v1 v2 : PipeWorld) → reply_to (reading w bytes) ≡ ([], Closed) → v1 ≡ with_got w bytes → v2 ≡ dropped v1 v2.loc.dirty v2.due → Marks v1.loc.dirty v2.loc.dirty v1.heard map.empty → v2.due.contents ≡ map.empty → Leaves (noted v2 0 5 0 0)
+  pub close_leaves : (v1 v2 : PipeWorld) → reply_to (reading w bytes) ≡ ([], Closed) → v1 ≡ with_got w bytes → v2 ≡ dropped v1 v2.loc.dirty v2.due → Marks v1.loc.dirty v1.heard map.empty v2.loc.dirty → v2.due.contents ≡ map.empty → Leaves (noted v2 0 5 0 0)
   close_leaves v1 v2 reply e1 e2 m d =
       subst Leaves (sym (ap (λ (x : PipeWorld). noted x 0 5 0 0) (e2 ∙ ap (λ (x : PipeWorld). dropped x v2.loc.dirty v2.due) e1)
       ∙ ap (λ (l : List ℕ). noted (record (dropped (with_got w bytes) v2.loc.dirty v2.due) { put = l }) 0 5 0 0) (sym (append-nil w.put))))
       (got_went w bytes [] Closed map.empty v2.loc.dirty v2.due f reply refl
-      (subst (λ (x : PipeWorld). Marks x.loc.dirty v2.loc.dirty x.heard map.empty) e1 m)
+      (subst (λ (x : PipeWorld). Marks x.loc.dirty x.heard map.empty v2.loc.dirty) e1 m)
       (d ∙ due_closed (state_of w.story.lines) w.loc.best w.due.contents))
 
-  pub refuse_leaves : (v1 v2 v3 : PipeWorld) (n : Notice) → reading w bytes ≡ Err n → v1 ≡ with_got w bytes → v2 ≡ with_put v1 (NoticeMsg n) → v3 ≡ dropped v2 v3.loc.dirty v3.due → Marks v2.loc.dirty v3.loc.dirty v2.heard map.empty → v3.due.contents ≡ map.empty → Leaves (noted v3 0 5 0 0)
+  pub refuse_leaves : (v1 v2 v3 : PipeWorld) (n : Notice) → reading w bytes ≡ Err n → v1 ≡ with_got w bytes → v2 ≡ with_put v1 (NoticeMsg n) → v3 ≡ dropped v2 v3.loc.dirty v3.due → Marks v2.loc.dirty v2.heard map.empty v3.loc.dirty → v3.due.contents ≡ map.empty → Leaves (noted v3 0 5 0 0)
   refuse_leaves v1 v2 v3 n r e1 e2 e3 m d =
       subst Leaves (sym (ap (λ (x : PipeWorld). noted x 0 5 0 0) (e3 ∙ ap (λ (x : PipeWorld). dropped x v3.loc.dirty v3.due) e)
       ∙ (ap (λ (l : List Line). noted (record (dropped (with_got w bytes) v3.loc.dirty v3.due) { story = record w.story { lines = l }; put = w.put ++ spell (NoticeMsg n) false }) 0 5 0 0) (joined (NoticeMsg n))
       ∙ ap (λ (l : List ℕ). noted (record (dropped (with_got w bytes) v3.loc.dirty v3.due) { story = record w.story { lines = w.story.lines ++ Got bytes ∷ (Put (NoticeMsg n) ∷ []) }; put = l }) 0 5 0 0) (put_once (NoticeMsg n)))))
       (got_went w bytes (Put (NoticeMsg n) ∷ []) Closed map.empty v3.loc.dirty v3.due f (ap reply_to r) refl
-      (subst (λ (x : PipeWorld). Marks x.loc.dirty v3.loc.dirty x.heard map.empty) e m)
+      (subst (λ (x : PipeWorld). Marks x.loc.dirty x.heard map.empty v3.loc.dirty) e m)
       (d ∙ due_closed (state_of w.story.lines) w.loc.best w.due.contents)) where
         e : v2 ≡ with_put (with_got w bytes) (NoticeMsg n)
         e = e2 ∙ ap (λ (x : PipeWorld). with_put x (NoticeMsg n)) e1

@@ -9,7 +9,7 @@ use Rattle.std.specs.FinMap as map
 use Rattle.bgp_types.specs.Prefixes.{PrefixValue}
 use Rattle.bgp_types.specs.Tables.{prefix_cmp, first_above}
 use Rattle.bgp_types.proofs.TableLaws.{prefix_total}
-use Rattle.pipe_model.specs.Worlds.{Prefixes, has}
+use Rattle.session_value.specs.Sets.{Prefixes, has}
 use Rattle.pipe_model.proofs.Tables.{same}
 
 nil_of : {A : Type 0} (xs : List A) → length xs ≡ 0 → xs ≡ []

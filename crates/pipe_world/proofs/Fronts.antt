@@ -6,7 +6,7 @@ use Rattle.std.proofs.lemmas.List.{append-nil}
 use Rattle.bgp_types.specs.declared.fault.HeaderFault.{HeaderFault}
 use Rattle.bgp_types.specs.Header.{header_fault, frame_at}
 use Rattle.bgp_types.proofs.FrameLaws.{front_frame, header_same}
-use Rattle.pipe_model.specs.Claims.{BeginsNothing}
+use Rattle.session_value.specs.Fronts.{BeginsNothing}
 
 -- without a whole message and a faulty header nothing can be got
 pub begins_nothing : (bytes : List ℕ) → frame_at bytes ≡ None → (19 ≤ length bytes → header_fault bytes ≡ None) → BeginsNothing bytes

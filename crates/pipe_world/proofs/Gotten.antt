@@ -19,10 +19,10 @@ use Rattle.bgp_story.proofs.Grows.{put_grows}
 use Rattle.bgp_story.proofs.HeaderKinds.{read_of}
 use Rattle.bgp_story.proofs.Shapes.{allowed_of}
 use Rattle.prefix_trie.specs.Table.{TableValue}
+use Rattle.session_value.specs.Sets.{Prefixes, Marks}
 use Rattle.pipe_model.specs.declared.pipe.Pipe.{Pipe}
 use Rattle.pipe_model.specs.Pipes.{session_of}
-use Rattle.pipe_model.specs.Worlds.{Prefixes}
-use Rattle.pipe_model.specs.Rows.{Gets, Marks, due_then}
+use Rattle.pipe_model.specs.Rows.{Gets, due_then}
 use Rattle.pipe_model.proofs.Gets.{state_next, got_then}
 use Rattle.pipe_model.proofs.Keeping.{Keeps, drop_front}
 use Rattle.pipe_world.specs.declared.world.PipeWorld.{PipeWorld}
@@ -64,7 +64,7 @@ gotten w bytes answer heard dirty due = noted (record w {
 pub got_went : (w : PipeWorld) (bytes : List ℕ) (answer : List Line) (next : SessionState) (heard : Routes) (dirty : Prefixes) (due : TableValue (Unit {0})) → AtFront w bytes
     → reply_to (reading w bytes) ≡ (answer, next)
     → heard ≡ unless_closed next (apply_if w.heard (update_in (reading w bytes)))
-    → Marks w.loc.dirty dirty w.heard heard
+    → Marks w.loc.dirty w.heard heard dirty
     → due.contents ≡ due_then (state_of w.story.lines) next w.loc.best w.due.contents
     → After w (gotten w bytes answer heard dirty due)
 got_went w bytes answer next heard dirty due f reply hears marks dues = went Gets (record w { framer = f.held }) (gotten w bytes answer heard dirty due) f.stands (record {

@@ -17,8 +17,7 @@ use Rattle.bgp_wire.proofs.SetLaws.{is_same}
 use Rattle.bgp_story.specs.Readings.{Routes}
 use Rattle.adj_rib.specs.Changes.{Changed}
 use Rattle.bgp_types.proofs.WalkLaws.{none_between, none_past}
-use Rattle.pipe_model.specs.Worlds.{Prefixes, has}
-use Rattle.pipe_model.specs.Rows.{Marks}
+use Rattle.session_value.specs.Sets.{Prefixes, has, Marks}
 use Rattle.pipe_model.proofs.Tables.{same, same_is, has_put, has_all, none_of}
 
 either : (a b : Bool) → (a || b) ≡ true → (a ≡ true) ⊎ (b ≡ true)
@@ -42,13 +41,13 @@ at_listed P p (q ∷ ps) all e = elim (either (same p q) (list_any (same p) ps) 
   | inr f ↦ at_listed P p ps all.1 f
 ]
 
-pub marks_changed : (dirty : Prefixes) (old new : Routes) (ps : List PrefixValue) → Changed old new ps → Marks dirty (fold (λ d p. map.insert d p tt) dirty ps) old new
+pub marks_changed : (dirty : Prefixes) (old new : Routes) (ps : List PrefixValue) → Changed old new ps → Marks dirty old new (fold (λ d p. map.insert d p tt) dirty ps)
 marks_changed dirty old new ps c = record {
-  dirty = λ p e. elim (either (list_any (same p) ps) (has dirty p) (sym (has_all ps dirty p) ∙ e)) [
+  marked = λ p e. elim (either (list_any (same p) ps) (has dirty p) (sym (has_all ps dirty p) ∙ e)) [
     | inl f ↦ inr (at_listed (λ q. map.get new q ≢ map.get old q) p ps (recursion_from_All (λ q. map.get new q ≢ map.get old q) ps c.changed) f)
     | inr f ↦ inl f
   ];
-  clean = λ p e.
+  others = λ p e.
       let n = none_of (list_any (same p) ps) (has dirty p) (sym (has_all ps dirty p) ∙ e) in
       (n.1, c.others p (any_same p ps ∙ n.0));
 }
@@ -111,13 +110,13 @@ module _ (before dirty : Prefixes) (heard : Routes) (last : Option PrefixValue) 
           passed_next q a n.0 n.1;
     }
 
-  pub marking_ends : first_above last (map.keys heard) ≡ None → Marks before dirty heard map.empty
+  pub marking_ends : first_above last (map.keys heard) ≡ None → Marks before heard map.empty dirty
   marking_ends end = record {
-    dirty = λ p e. elim (m.marked p e) [
+    marked = λ p e. elim (m.marked p e) [
       | inl f ↦ inl f
       | inr some ↦ inr (λ f. some (sym f ∙ map.get-empty {X = Attrs} prefix_cmp p))
     ];
-    clean = λ p e. (m.kept p e, map.get-empty {X = Attrs} prefix_cmp p ∙ sym (none_left p e));
+    others = λ p e. (m.kept p e, map.get-empty {X = Attrs} prefix_cmp p ∙ sym (none_left p e));
   } where
     none_left : (p : PrefixValue) → has dirty p ≡ false → map.get heard p ≡ None
     none_left p e =

@@ -13,11 +13,12 @@ use Rattle.bgp_story.specs.States.{state_of}
 use Rattle.route_policy.specs.declared.best.Best.{Best}
 use Rattle.route_policy.specs.Rules.{holds_as}
 use Rattle.prefix_trie.specs.Table.{TableValue}
+use Rattle.session_value.specs.Sets.{BestRoutes, Prefixes, has}
 use Rattle.pipe_model.specs.declared.pipe.Pipe.{Pipe}
 use Rattle.loc_rib.specs.Values.{LocValue, AreApart, with_best}
 use Rattle.pipe_model.specs.Decisions.{brought, the_peering, chosen}
 use Rattle.pipe_model.specs.Rows.{Passes, Decides, due_in}
-use Rattle.pipe_model.specs.Worlds.{BestRoutes, Prefixes, Session, has}
+use Rattle.pipe_model.specs.Worlds.{Session}
 use Rattle.pipe_model.proofs.Choices.{chosen_is}
 use Rattle.pipe_model.proofs.Keeping.{Keeps}
 use Rattle.pipe_model.proofs.Runs.{kept, Kept}

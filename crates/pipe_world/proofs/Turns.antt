@@ -6,8 +6,8 @@ use Rattle.std.proofs.lemmas.Bool.Decides.{nat_tests}
 use Rattle.std.proofs.lemmas.List.{take-append-le, drop-append-le}
 use Rattle.std.proofs.lemmas.Option.{same_Some}
 use Rattle.bgp_story.specs.Readings.{got_bytes}
+use Rattle.session_value.specs.Fronts.{AreFirst}
 use Rattle.pipe_model.specs.Worlds.{Session}
-use Rattle.pipe_model.specs.Claims.{IsFront}
 use Rattle.pipe_model.proofs.Runs.{Kept, kept}
 use Rattle.pipe_model.specs.Pipes.{said_at}
 use Rattle.pipe_model.specs.Rows.{Orders, Says, Carries, Homeward, Remoteward}
@@ -96,7 +96,7 @@ out_went w n s some there = went (Carries Remoteward n) w (noted (record w { rec
 
 -- ---- bytes that were said reach home
 
-front_short : {xs ys : List ℕ} → IsFront xs ys → length xs ≤ length ys
+front_short : {xs ys : List ℕ} → AreFirst xs ys → length xs ≤ length ys
 front_short {xs} {ys} f = let l = ap length f.is ∙ length-append xs f.rest in omega arith
 
 take_more : (m n : ℕ) (xs : List ℕ) → m ≤ length xs → take m xs ++ take n (drop m xs) ≡ take (m + n) xs
@@ -137,5 +137,5 @@ home_went w n framer s some there fed = went (Carries Homeward n) w (noted (reco
 
   read_short : w.read ≤ length (take w.arrived w.said)
   read_short = subst (λ (k : ℕ). k ≤ length (take w.arrived w.said)) (sym s.kept.read) (front_short (of (kept w.pipe s.events (world_of w) s.kept.sound s.run))) where
-    of : Kept w.pipe (world_of w) → IsFront (got_bytes w.story.lines) (take w.arrived w.said)
-    of (t, k) = subst (λ (x : Session). IsFront (got_bytes x.story) x.arrived) (sym (same_Some _ _ k.held)) k.got
+    of : Kept w.pipe (world_of w) → AreFirst (got_bytes w.story.lines) (take w.arrived w.said)
+    of (t, k) = subst (λ (x : Session). AreFirst (got_bytes x.story) x.arrived) (sym (same_Some _ _ k.held)) k.got

@@ -1,7 +1,7 @@
 -- What stands at the front of bytes, and what is left of them.
 use Rattle.std.specs.Prelude.{◌≡◌, ℕ, ◌≤◌, List, [], ◌++◌, length, Option, Some, None}
 use Rattle.bgp_types.specs.Header.{header_fault, frame_at}
-use Rattle.pipe_model.specs.Claims.{BeginsNothing}
+use Rattle.session_value.specs.Fronts.{BeginsNothing}
 use Rattle.pipe_world.specs.declared.front.Front.{Front}
 use Rattle.pipe_world.specs.declared.front.Front.TheVariants as fronts
 

@@ -10,9 +10,10 @@ use Rattle.bgp_types.specs.Header.{header_fault}
 use Rattle.bgp_story.specs.Legal.{IsGot, expected_next}
 use Rattle.bgp_story.specs.Readings.{put_bytes, got_bytes}
 use Rattle.bgp_story.specs.States.{state_of}
+use Rattle.session_value.specs.Fronts.{BeginsNothing}
 use Rattle.pipe_model.specs.Pipes.{IsSound, session_of}
 use Rattle.pipe_model.specs.Worlds.{Session, World, unread, first_world}
-use Rattle.pipe_model.specs.Claims.{BeginsNothing, Transparent}
+use Rattle.pipe_model.specs.Claims.{Transparent}
 use Rattle.pipe_model.specs.Rows.{Event}
 use Rattle.pipe_model.specs.Runs.{Step, Run}
 use Rattle.pipe_world.specs.Entries.{entry, entry_of, entries_after}

@@ -2,7 +2,7 @@
 
 ghost use Rattle.std.specs.Prelude.{◌≡◌, fold, OnOk};
 ghost use Rattle.std.specs.FinMap as map;
-ghost use Rattle.pipe_model.specs.Rows.{Marks};
+ghost use Rattle.session_value.specs.Sets.{Marks};
 
 use adj_rib::AdjRib;
 use bgp_types::{NoMemory, Prefix};
@@ -21,7 +21,7 @@ pub fn mark_all(loc: &mut LocRib, prefixes: &[Prefix]) -> Result<(), NoMemory>
 /// Makes each prefix dirty that has a route. After `NoMemory` some of them may be.
 pub fn mark_heard(loc: &mut LocRib, heard: &AdjRib) -> Result<(), NoMemory>
     ensures best { OnOk result (loc.new.best ≡ loc.old.best) }
-    ensures marks { OnOk result (Marks loc.old.dirty loc.new.dirty heard.now map.empty) }
+    ensures marks { OnOk result (Marks loc.old.dirty heard.now map.empty loc.new.dirty) }
 {
     let mut last = None;
     while let Some(prefix) = heard.next_after(last) {

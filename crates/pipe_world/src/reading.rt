@@ -3,7 +3,8 @@
 ghost use Rattle.std.specs.Prelude.{◌≡◌, ◌≤◌, ◌+◌, ◌++◌, ◌∷◌, ◌⊎◌, [], true, false, length, Ok, Err, Some, None, IfOk, OnOk};
 ghost use Rattle.std.specs.Prelude.{◌≢◌};
 ghost use Rattle.std.specs.FinMap as map;
-ghost use Rattle.pipe_model.specs.Rows.{Marks};
+ghost use Rattle.session_value.specs.Sets.{Marks};
+ghost use Rattle.session_value.specs.Fronts.{BeginsNothing};
 ghost use Rattle.bgp_types.specs.declared.message.Message.TheVariants as messages;
 ghost use Rattle.bgp_types.specs.declared.message.SessionState.TheVariants as states;
 ghost use Rattle.bgp_types.specs.Header.{header_fault, frame_at};
@@ -13,7 +14,6 @@ ghost use Rattle.bgp_story.specs.declared.line.Line.TheVariants as lines;
 ghost use Rattle.bgp_story.specs.Legal.{reply_to};
 ghost use Rattle.bgp_story.specs.Readings.{update_in};
 ghost use Rattle.bgp_story.specs.States.{state_of, Begins};
-ghost use Rattle.pipe_model.specs.Claims.{BeginsNothing};
 ghost use Rattle.pipe_model.specs.Worlds.{unread};
 ghost use Rattle.pipe_world.specs.Views.{Stands, Went, AtFront, reading, session_in};
 
@@ -100,7 +100,7 @@ impl PipeWorld {
     /// What was heard goes, its prefixes are dirty, and nothing is due any more.
     fn drop_routes(&mut self) -> Result<(), NoMemory>
         ensures routes { OnOk result (self.new ≡ record self.old { heard = map.empty; loc = record self.old.loc { dirty = self.new.loc.dirty }; due = self.new.due }) }
-        ensures marks { OnOk result (Marks self.old.loc.dirty self.new.loc.dirty self.old.heard map.empty) }
+        ensures marks { OnOk result (Marks self.old.loc.dirty self.old.heard map.empty self.new.loc.dirty) }
         ensures due { OnOk result (self.new.due.contents ≡ map.empty) }
     {
         mark_heard(&mut self.loc, &self.heard)?;

@@ -1,7 +1,7 @@
 use Rattle.std.proofs.Common.{Some, sym, ap, ◌∙◌, subst}
 use Rattle.std.specs.FinMap as map
 use Rattle.loc_rib.specs.Values.{LocValue}
-use Rattle.pipe_model.specs.Worlds.{Prefixes}
+use Rattle.session_value.specs.Sets.{Prefixes}
 use Rattle.bgp_types.proofs.WalkLaws.{fewer}
 use Rattle.pipe_world.proofs.Marking.{Marking, marking_more, marking_ends}
 use Rattle.pipe_world.proofs.marks.mark_heard.Goals as goal
