@@ -37,7 +37,7 @@ not_of setup p q k ne own = by_value (graft_at setup k) own where
   by_value None e = refl
   by_value (Some g) e = grind (arith, nat_tests)
 
-below_or : (p n : ℕ) → (p < n) ⊎ (n ≤ p)
+pub below_or : (p n : ℕ) → (p < n) ⊎ (n ≤ p)
 below_or p n = grind arith
 
 -- a peering of which something is there is one of the setup

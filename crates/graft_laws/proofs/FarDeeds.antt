@@ -147,7 +147,7 @@ say_each setup w v step taken sent part row = operator_as setup w v taken None s
 
 -- ---- a graft is ordered
 
-step_is : (setup : Setup) (n p t : ℕ) → IsSetup setup → slice_get setup.steps n ≡ Some (MoveStep p t) → (p < peerings_in setup) × (t < routers_in setup)
+pub step_is : (setup : Setup) (n p t : ℕ) → IsSetup setup → slice_get setup.steps n ≡ Some (MoveStep p t) → (p < peerings_in setup) × (t < routers_in setup)
 step_is setup n p t ok is =
     subst (IsStep setup) (get_or_from_slice_get setup.steps n (MoveStep p t) (MoveStep p t) is) (ok.steps n (MoveStep p t) (slice_get_within setup.steps n (MoveStep p t) is))
 

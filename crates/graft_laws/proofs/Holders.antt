@@ -64,7 +64,7 @@ item_step p (Done k q) items h = by_test (q == p) where
   by_test false = h
 
 -- the sessions of a peering are those of its own items
-items_of : (p : ℕ) (items : List Mesh) → flat_map (sessions_on p) items ≡ flat_map (sessions_on p) (mesh_of p items)
+pub items_of : (p : ℕ) (items : List Mesh) → flat_map (sessions_on p) items ≡ flat_map (sessions_on p) (mesh_of p items)
 items_of p [] = refl
 items_of p (x ∷ items) = item_step p x items (items_of p items)
 

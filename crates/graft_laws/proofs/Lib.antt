@@ -18,3 +18,6 @@ pub mod First
 pub mod Runs
 pub mod Configs
 pub mod Holders
+pub mod Heads
+pub mod OneGraft
+pub mod Growth

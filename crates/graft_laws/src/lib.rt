@@ -3,4 +3,7 @@
 
 mod laws;
 
-pub use laws::{every_world_is_owned, one_session_is_held, sessions_keep_their_config};
+pub use laws::{
+    every_world_is_owned, grafts_are_in_one_phase, no_item_is_dropped, one_session_is_held,
+    sessions_keep_their_config,
+};
