@@ -21,3 +21,4 @@ pub mod Holders
 pub mod Heads
 pub mod OneGraft
 pub mod Growth
+pub mod Pointing

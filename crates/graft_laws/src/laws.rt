@@ -13,6 +13,7 @@ ghost use Rattle.graft_laws.specs.Phases.{Stage, Phase, Busy};
 ghost use Rattle.graft_laws.specs.Owned.{Owned, Stands};
 ghost use Rattle.graft_laws.specs.Keeps.{Reached, Has};
 ghost use Rattle.graft_laws.specs.Configs.{IsOwn};
+ghost use Rattle.graft_laws.specs.Pointing.{Points};
 ghost use Rattle.graft_laws.specs.Facts.{NothingIsDropped, IsNowhereElse, IsUnderWay};
 
 /// Each peering has one session, and stands in one phase of its last graft, by which every place, every channel and the log have of it just
@@ -48,4 +49,10 @@ pub fn grafts_are_in_one_phase()
 /// The session of a peering keeps what it began with.
 pub fn sessions_keep_their_config()
     ensures { (setup : Setup) (w : World) (p : ℕ) → IsSetup setup → Reached setup w → p < peerings_in setup → Has setup (IsOwn setup) w p }
+{}
+
+/// Every word of a landing that is on its way to a far side, and the last that it followed, are of the last graft of its peering that landed or of
+/// earlier ones. Where the word of the last one isn't on its way, the link points to the router where the session is at home.
+pub fn links_follow_landings()
+    ensures { (setup : Setup) (w : World) (p : ℕ) → IsSetup setup → Reached setup w → p < peerings_in setup → Has setup (Points setup) w p }
 {}

@@ -1,7 +1,7 @@
 use Rattle.graft_laws.proofs.laws.grafts_are_in_one_phase.Goals as goal
 use Rattle.graft_laws.proofs.Runs.{always_owned}
 use Rattle.graft_laws.proofs.OneGraft.{under_way_once, nowhere_unissued, at_one_place}
-use Rattle.graft_laws.proofs.Growth as growth
+
 
 pub returns : goal.returns
 returns c = record {
