@@ -13,7 +13,7 @@ use Rattle.graft_laws.specs.Owned.{is_on, mesh_of, Stands}
 
 -- ---- lists joined over numbers
 
-flat_same : {A : Type 0} (f g : ℕ → List A) (xs : List ℕ) → ((k : ℕ) → f k ≡ g k) → flat_map f xs ≡ flat_map g xs
+pub flat_same : {A : Type 0} (f g : ℕ → List A) (xs : List ℕ) → ((k : ℕ) → f k ≡ g k) → flat_map f xs ≡ flat_map g xs
 flat_same f g [] h = refl
 flat_same f g (x ∷ xs) h = cc (h x, flat_same f g xs h)
 

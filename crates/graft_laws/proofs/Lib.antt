@@ -22,3 +22,4 @@ pub mod Heads
 pub mod OneGraft
 pub mod Growth
 pub mod Pointing
+pub mod Unchanged

@@ -95,6 +95,15 @@ module _ (setup : Setup) (I : World → Type 0) (keeps : (event : Event) (before
   along [] w v reached is i = subst I (sym is) i
   along (event ∷ events) w v reached (u, step, run) i = along events u v (reached_more setup event w u reached step) run (keeps event w u reached step i)
 
+-- a run goes on from a world that is reached
+pub reached_run : (setup : Setup) (events : List Event) (w v : World) → Reached setup w → Run setup w events v → Reached setup v
+reached_run setup [] w v reached is = subst (Reached setup) (sym is) reached
+reached_run setup (event ∷ events) w v reached (u, step, run) = reached_run setup events u v (reached_more setup event w u reached step) run
+
+pub carried_from : (setup : Setup) (I : World → Type 0) → ((event : Event) (before after : World) → Reached setup before → Step setup event before after → I before → I after)
+    → (events : List Event) (w v : World) → Reached setup w → Run setup w events v → I w → I v
+carried_from setup I keeps events w v reached run i = along setup I keeps events w v reached run i
+
 pub carried : (setup : Setup) (I : World → Type 0) → I (first_world setup) → ((event : Event) (before after : World) → Reached setup before → Step setup event before after → I before → I after)
     → (w : World) → Reached setup w → I w
 carried setup I first keeps w reached = along setup I keeps reached.events (first_world setup) w (reached_first setup) reached.run first

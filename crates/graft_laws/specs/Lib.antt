@@ -7,3 +7,4 @@ pub mod Keeps
 pub mod Configs
 pub mod Facts
 pub mod Pointing
+pub mod Unchanged

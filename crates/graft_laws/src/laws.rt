@@ -7,7 +7,7 @@ ghost use Rattle.graft_model.specs.Parts.{World};
 ghost use Rattle.graft_model.specs.OperatorRows.{placement};
 ghost use Rattle.graft_model.specs.First.{first_world};
 ghost use Rattle.graft_model.specs.Steps.{Event, Run};
-ghost use Rattle.graft_model.specs.Claims.{holders, sessions_at, sessions_of};
+ghost use Rattle.graft_model.specs.Claims.{holders, sessions_at, sessions_of, Unchanged};
 ghost use Rattle.graft_model.specs.Laws.{HasOnce};
 ghost use Rattle.graft_laws.specs.Phases.{Stage, Phase, Busy};
 ghost use Rattle.graft_laws.specs.Owned.{Owned, Stands};
@@ -55,4 +55,10 @@ pub fn sessions_keep_their_config()
 /// earlier ones. Where the word of the last one isn't on its way, the link points to the router where the session is at home.
 pub fn links_follow_landings()
     ensures { (setup : Setup) (w : World) (p : ℕ) → IsSetup setup → Reached setup w → p < peerings_in setup → Has setup (Points setup) w p }
+{}
+
+/// A graft that lands or is turned back leaves the session as the freeze found it, a landing at the target and a return at the source. A graft that
+/// the source refuses leaves every session as it is.
+pub fn always_unchanged()
+    ensures { (setup : Setup) (events : List Event) → IsSetup setup → Unchanged setup (first_world setup) events }
 {}

@@ -4,7 +4,6 @@
 mod laws;
 
 pub use laws::{
-    every_world_is_owned, grafts_are_in_one_phase, links_follow_landings, no_item_is_dropped,
-    one_session_is_held, sessions_keep_their_config,
-
+    always_unchanged, every_world_is_owned, grafts_are_in_one_phase, links_follow_landings,
+    no_item_is_dropped, one_session_is_held, sessions_keep_their_config,
 };
