@@ -18,3 +18,13 @@ pub mod First
 pub mod Runs
 pub mod Configs
 pub mod Holders
+pub mod Segments
+pub mod HomeLines
+pub mod FarLines
+pub mod Unissued
+pub mod SaidSteps
+pub mod SessionEnds
+pub mod Unbroken
+pub mod Transparent
+pub mod Placed
+pub mod StreamLaws

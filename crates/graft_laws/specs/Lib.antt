@@ -5,3 +5,5 @@ pub mod Moves
 pub mod Life
 pub mod Keeps
 pub mod Configs
+pub mod Streams
+pub mod Said

@@ -3,4 +3,7 @@
 
 mod laws;
 
-pub use laws::{every_world_is_owned, one_session_is_held, sessions_keep_their_config};
+pub use laws::{
+    always_transparent, every_world_is_owned, one_session_is_held, sessions_are_unbroken,
+    sessions_keep_their_config, what_is_said_has_room,
+};
