@@ -11,7 +11,7 @@ use Rattle.graft_laws.specs.Keeps.{Reached, Keeps, Has}
 use Rattle.graft_laws.proofs.Runs.{always_has}
 
 -- A worked example of a further invariant: what each change does to it, and one call for all runs.
-same_config : {setup : Setup} {w v : World} {p : ℕ} {phase next : Phase} {s t : SessionValue} → Change setup w v p phase s next t → t.config ≡ s.config
+pub same_config : {setup : Setup} {w v : World} {p : ℕ} {phase next : Phase} {s t : SessionValue} → Change setup w v p phase s next t → t.config ≡ s.config
 same_config (Puts r order update there puts line entries) = ap (λ (x : SessionValue). x.config) puts.effect
 same_config (Gets r order bytes there gets line entries) = ap (λ (x : SessionValue). x.config) gets.effect
 same_config (Ticks r order round there passes line entries) = ap (λ (x : SessionValue). x.config) passes.effect

@@ -23,3 +23,14 @@ pub mod OneGraft
 pub mod Growth
 pub mod Pointing
 pub mod Unchanged
+pub mod Segments
+pub mod HomeLines
+pub mod FarLines
+pub mod Unissued
+pub mod SaidSteps
+pub mod SessionEnds
+pub mod Unbroken
+pub mod Transparent
+pub mod Placed
+pub mod StreamLaws
+pub mod Dropped

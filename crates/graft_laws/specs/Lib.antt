@@ -8,3 +8,5 @@ pub mod Configs
 pub mod Facts
 pub mod Pointing
 pub mod Unchanged
+pub mod Streams
+pub mod Said

@@ -1,20 +1,23 @@
 //! What holds after every list of events.
 
-ghost use Rattle.std.specs.Prelude.{ℕ, ◌≡◌, ◌≢◌, ◌<◌, List, [], ◌∷◌, true, false, Some, None, slice_get};
+ghost use Rattle.std.specs.Prelude.{ℕ, ◌≡◌, ◌≢◌, ◌<◌, ◌≤◌, ◌+◌, ◌^◌, List, [], ◌∷◌, length, true, false, Some, None, slice_get};
+ghost use Rattle.std.specs.List.{AllByRecursion};
 ghost use Rattle.session_value.specs.Sessions.{SessionValue};
-ghost use Rattle.graft_model.specs.Setups.{Setup, IsSetup, MoveStep, peerings_in, graft_number};
+ghost use Rattle.graft_model.specs.Setups.{Setup, PeeringSetup, SayStep, MoveStep, IsSetup, peerings_in, graft_number};
 ghost use Rattle.graft_model.specs.Parts.{World};
 ghost use Rattle.graft_model.specs.OperatorRows.{placement};
 ghost use Rattle.graft_model.specs.First.{first_world};
 ghost use Rattle.graft_model.specs.Steps.{Event, Run};
-ghost use Rattle.graft_model.specs.Claims.{holders, sessions_at, sessions_of, Unchanged};
+ghost use Rattle.graft_model.specs.Claims.{holders, sessions_at, sessions_of, Transparent, Unchanged};
 ghost use Rattle.graft_model.specs.Laws.{HasOnce};
 ghost use Rattle.graft_laws.specs.Phases.{Stage, Phase, Busy};
 ghost use Rattle.graft_laws.specs.Owned.{Owned, Stands};
 ghost use Rattle.graft_laws.specs.Keeps.{Reached, Has};
 ghost use Rattle.graft_laws.specs.Configs.{IsOwn};
-ghost use Rattle.graft_laws.specs.Pointing.{Points};
 ghost use Rattle.graft_laws.specs.Facts.{NothingIsDropped, IsNowhereElse, IsUnderWay};
+ghost use Rattle.graft_laws.specs.Streams.{IsUnbroken, ArePlaced};
+ghost use Rattle.graft_laws.specs.Said.{Said, IsSayOf};
+ghost use Rattle.graft_laws.specs.Pointing.{Points};
 
 /// Each peering has one session, and stands in one phase of its last graft, by which every place, every channel and the log have of it just
 /// what belongs to that phase.
@@ -31,7 +34,7 @@ pub fn one_session_is_held()
     ensures alone { (setup : Setup) (w : World) (p r : ℕ) → IsSetup setup → Reached setup w → p < peerings_in setup → sessions_at ((w.router r).places p) ≢ [] → IsNowhereElse w p r }
 {}
 
-/// The next order, capsule, word of a landing and report of each channel finds what it is for, so that no actor has to drop one.
+/// Each actor may take the next item of each channel that leads to it, so that none is dropped.
 pub fn no_item_is_dropped()
     ensures { (setup : Setup) (w : World) → IsSetup setup → Reached setup w → NothingIsDropped setup w }
 {}
@@ -61,4 +64,27 @@ pub fn links_follow_landings()
 /// the source refuses leaves every session as it is.
 pub fn always_unchanged()
     ensures { (setup : Setup) (events : List Event) → IsSetup setup → Unchanged setup (first_world setup) events }
+{}
+
+/// After every list of events, in whatever order its turns come and whatever a link loses, repeats or reorders, each peering is transparent: it has
+/// one session, with a legal story and the tables of that story; what the remote received are the first bytes of what the story put, and what it got are the
+/// first bytes of what the remote said (RFC 4271, sections 3.1, 6 and 8.2.2).
+pub fn always_transparent()
+    ensures { (setup : Setup) (events : List Event) (w : World) (p : ℕ) → IsSetup setup → Run setup (first_world setup) events w → p < peerings_in setup → Transparent setup w p }
+{}
+
+/// Each peering has one unbroken session. Each segment of it in a link or a channel, however old and from whichever router, is a slice
+/// of the stream of the side that it comes from, as that side emitted it, and has places of streams of at most 1 MiB.
+pub fn sessions_are_unbroken()
+    ensures unbroken { (setup : Setup) (w : World) (p : ℕ) → IsSetup setup → Reached setup w → p < peerings_in setup → Has setup (IsUnbroken setup) w p }
+    ensures placed { (setup : Setup) (w : World) (p : ℕ) → IsSetup setup → Reached setup w → p < peerings_in setup → ArePlaced w p }
+{}
+
+/// What a remote is ordered to say is always there and has room in its stream, as has each KEEPALIVE of its timer: what it says over the whole
+/// script has at most 1 MiB, each step is ordered once, and a timer runs at most 27,594 times.
+pub fn what_is_said_has_room()
+    ensures sum { (setup : Setup) (p : ℕ) (peering : PeeringSetup) (w : World) → IsSetup setup → Reached setup w → slice_get setup.peerings p ≡ Some peering → Said setup p peering w }
+    ensures orders { (setup : Setup) (p : ℕ) (w : World) → IsSetup setup → Reached setup w → p < peerings_in setup → AllByRecursion (IsSayOf setup p) (w.says p) }
+    ensures room { (setup : Setup) (p step : ℕ) (rest bytes : List ℕ) (w : World) → IsSetup setup → Reached setup w → p < peerings_in setup
+        → w.says p ≡ step ∷ rest → slice_get setup.steps step ≡ Some (SayStep p bytes) → length (w.far p).end.stream + length bytes ≤ 2 ^ 20 }
 {}
