@@ -33,4 +33,12 @@ pub mod Unbroken
 pub mod Transparent
 pub mod Placed
 pub mod StreamLaws
+pub mod PrefixTables
+pub mod Routers
+pub mod Decided
+pub mod Entered
+pub mod Informed
 pub mod Dropped
+pub mod ToldNone
+pub mod Answered
+pub mod TableLaws

@@ -18,6 +18,7 @@ ghost use Rattle.graft_laws.specs.Facts.{NothingIsDropped, IsNowhereElse, IsUnde
 ghost use Rattle.graft_laws.specs.Streams.{IsUnbroken, ArePlaced};
 ghost use Rattle.graft_laws.specs.Said.{Said, IsSayOf};
 ghost use Rattle.graft_laws.specs.Pointing.{Points};
+ghost use Rattle.graft_laws.specs.Tables.{Decided, Informed, Answered, IsWhole};
 
 /// Each peering has one session, and stands in one phase of its last graft, by which every place, every channel and the log have of it just
 /// what belongs to that phase.
@@ -87,4 +88,14 @@ pub fn what_is_said_has_room()
     ensures orders { (setup : Setup) (p : ℕ) (w : World) → IsSetup setup → Reached setup w → p < peerings_in setup → AllByRecursion (IsSayOf setup p) (w.says p) }
     ensures room { (setup : Setup) (p step : ℕ) (rest bytes : List ℕ) (w : World) → IsSetup setup → Reached setup w → p < peerings_in setup
         → w.says p ≡ step ∷ rest → slice_get setup.steps step ≡ Some (SayStep p bytes) → length (w.far p).end.stream + length bytes ≤ 2 ^ 20 }
+{}
+
+/// A router's best route to each prefix that isn't to be decided again is the choice between what it has. What it has of another router is what that one
+/// tells of its best route, but for what is due or on its way. What was told on a live established session is what is to be told on it, but for what is
+/// due (RFC 4271, sections 9.1.2, 9.1.3 and 9.2). Nothing is assumed of the time for which a session was away: what was told, and what is best, is due again.
+pub fn tables_are_what_is_decided()
+    ensures decided { (setup : Setup) (w : World) (r : ℕ) → Reached setup w → Decided setup r (w.router r) }
+    ensures informed { (setup : Setup) (w : World) (a b : ℕ) → Reached setup w → Informed setup a b w }
+    ensures answered { (setup : Setup) (w : World) (r : ℕ) → IsSetup setup → Reached setup w → Answered setup r (w.router r) }
+    ensures whole { (setup : Setup) (w : World) (p : ℕ) → IsSetup setup → Reached setup w → p < peerings_in setup → Has setup (IsWhole setup) w p }
 {}
