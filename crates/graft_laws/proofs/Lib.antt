@@ -28,3 +28,8 @@ pub mod Unbroken
 pub mod Transparent
 pub mod Placed
 pub mod StreamLaws
+pub mod Heads
+pub mod OneGraft
+pub mod Growth
+pub mod Pointing
+pub mod Unchanged

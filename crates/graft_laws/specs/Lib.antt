@@ -7,3 +7,6 @@ pub mod Keeps
 pub mod Configs
 pub mod Streams
 pub mod Said
+pub mod Facts
+pub mod Pointing
+pub mod Unchanged
