@@ -15,7 +15,9 @@ use Rattle.graft_model.specs.Steps.{Heads}
 use Rattle.graft_laws.specs.Phases.{Stage, Ordered, Stored, Halted, Moving, Landed, Returning, Declined, Cleared, Phase, Idle, Busy, source_of, under_way, only, only2, place_by, mesh_by}
 use Rattle.graft_laws.specs.Log.{graft_at, is_peering, is_of, HasEnded, Waits, LogSays}
 use Rattle.graft_laws.specs.Owned.{is_on, mesh_of, orders_of, reports_of, Stands, IsHeld, Owned}
-use Rattle.graft_laws.specs.Facts.{MayStore, NothingIsDropped, IsNowhereElse, IsUnderWay}
+use Rattle.graft_laws.specs.Facts.{IsNowhereElse}
+use Rattle.graft_model.specs.RouterRows.{OrderIn}
+use Rattle.graft_model.specs.Taking.{RouterMayTake}
 use Rattle.graft_laws.proofs.Phases.{live_session, stored_at, halted_at, moved_in, back_in, done_in, order_in, refusal_in, success_in}
 use Rattle.graft_laws.proofs.Numbers.{the_graft, one_peering, step_known}
 use Rattle.graft_laws.proofs.Logs.{own_known}
@@ -100,14 +102,14 @@ nowhere_else setup w p r phase s b some =
 -- ---- the heads of channels
 
 module _ (setup : Setup) (w : World) (owned : Owned setup w) where
-  pub may_store : (r : ℕ) (o : GraftOrder) → Heads (w.orders r) o → MayStore setup w r o
+  pub may_store : (r : ℕ) (o : GraftOrder) → Heads (w.orders r) o → RouterMayTake setup (w.router r) (OrderIn o)
   may_store r o h =
       let p : ℕ = o.peering in
       let l : p < peerings_in setup = known_order setup w owned r p o h (equal p) in
       let held = owned.peerings p l in
       let e = order_in held.phase p r o (orders_of p h.rest) (own_head (λ (x : GraftOrder). x.peering == p) (w.orders r) h.rest o h.is (equal p) ∙ held.stands.orders r) in
       let b : Stands setup w p (Busy r o.graft o.target Ordered) held.session = subst (λ (x : Phase). Stands setup w p x held.session) e.0 held.stands in
-      record { peering = l; target = b.bounds.1; session = held.session; live = b.places r ∙ placed_here r (Live held.session None) }
+      (b.bounds.1, held.session, record { is = b.places r ∙ placed_here r (Live held.session None) })
 
   pub vacant_at : (q r k p : ℕ) (s : SessionValue) → Heads (w.mesh q r) (Moved k p s) → (p < peerings_in setup) × ((w.router r).places p ≡ Vacant)
   vacant_at q r k p s h =

@@ -18,6 +18,11 @@ pub mod First
 pub mod Runs
 pub mod Configs
 pub mod Holders
+pub mod Heads
+pub mod OneGraft
+pub mod Growth
+pub mod Pointing
+pub mod Unchanged
 pub mod Segments
 pub mod HomeLines
 pub mod FarLines
@@ -28,8 +33,4 @@ pub mod Unbroken
 pub mod Transparent
 pub mod Placed
 pub mod StreamLaws
-pub mod Heads
-pub mod OneGraft
-pub mod Growth
-pub mod Pointing
-pub mod Unchanged
+pub mod Dropped

@@ -8,14 +8,17 @@ use Rattle.graft_steps.specs.declared.refusal.Outcome.{Outcome}
 use Rattle.graft_steps.specs.declared.refusal.Outcome.TheVariants.{Accepted, Refused}
 use Rattle.session_value.specs.Sessions.{SessionValue}
 use Rattle.graft_model.specs.Setups.{Setup, IsSetup, ScriptGraft, MoveStep, peerings_in, grafts_in, grafts_after, graft_number}
-use Rattle.graft_model.specs.Parts.{Order, Place, Vacant, Live, Frozen, Shadow, OperatorPart, Report, World}
-use Rattle.graft_model.specs.OperatorRows.{placement}
+use Rattle.graft_model.specs.Parts.{Order, Place, Vacant, Live, Frozen, Shadow, OperatorPart, Told, Moved, Back, Done, Report, World}
+use Rattle.graft_model.specs.RouterRows.{RouterTaken, OrderIn, SegmentIn, MeshIn}
+use Rattle.graft_model.specs.Taking.{RouterMayTake, OperatorMayTake}
+use Rattle.graft_model.specs.OperatorRows.{OperatorTaken, ReportIn, placement}
 use Rattle.graft_model.specs.Laws.{HasGraft, HasOnce}
 use Rattle.graft_model.specs.Steps.{Heads}
 use Rattle.graft_laws.specs.Phases.{Stage, Ordered, Stored, Halted, Moving, Landed, Returning, Declined, Cleared, Phase, Idle, Busy, source_of, under_way, place_by}
 use Rattle.graft_laws.specs.Log.{graft_at, is_peering, is_of, HasEnded, Waits, GoesOnIn, LogSays}
 use Rattle.graft_laws.specs.Owned.{reports_of, Stands, IsHeld, Owned}
-use Rattle.graft_laws.specs.Facts.{NothingIsDropped, IsUnderWay}
+use Rattle.graft_laws.specs.Facts.{IsUnderWay}
+use Rattle.graft_laws.specs.Moves.{RouterHeads, OperatorHeads}
 use Rattle.graft_laws.proofs.Lists.{all_map, all_join}
 use Rattle.graft_laws.proofs.Phases.{refusal_in, success_in}
 use Rattle.graft_laws.proofs.Numbers.{the_graft, all_steps, one_peering, step_known, split_of, earlier_grafts, later_grafts, found_in}
@@ -75,14 +78,16 @@ module _ (setup : Setup) (w : World) (ok : IsSetup setup) (owned : Owned setup w
       let held = owned.peerings known.0 known.1 in
       report_goes_on setup w known.0 r o.graft o.outcome held.phase held.session (reports_of setup known.0 h.rest) (own_head (λ (x : Report). is_of setup known.0 x.graft) (w.reports r) h.rest o h.is known.2) held.stands
 
-  pub nothing_is_dropped : NothingIsDropped setup w
-  nothing_is_dropped = record {
-    order = may_store setup w owned;
-    moved = vacant_at setup w owned;
-    back = shadow_back setup w owned;
-    done = shadow_done setup w owned;
-    report = report_at;
-  }
+  pub router_may : (r : ℕ) (taken : RouterTaken) → RouterHeads w r (Some taken) → RouterMayTake setup (w.router r) taken
+  router_may r (OrderIn order) h = may_store setup w owned r order h
+  router_may r (SegmentIn p segment) h = tt
+  router_may r (MeshIn q (Told prefix route)) h = tt
+  router_may r (MeshIn q (Moved k p s)) h = vacant_at setup w owned q r k p s h
+  router_may r (MeshIn q (Back k p s refusal)) h = shadow_back setup w owned q r k p s refusal h
+  router_may r (MeshIn q (Done k p)) h = shadow_done setup w owned q r k p h
+
+  pub operator_may : (taken : OperatorTaken) → OperatorHeads w (Some taken) → OperatorMayTake w.operator taken
+  operator_may (ReportIn r report) h = report_at r report h
 
 -- ---- a graft of the log's three parts
 

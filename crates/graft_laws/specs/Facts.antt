@@ -1,31 +1,25 @@
 -- What follows for the actors: no item comes that one would have to drop, a session is at one place, and a graft in one phase.
-use Rattle.std.specs.Prelude.{ℕ, ◌≡◌, ◌≢◌, ◌<◌, List, [], None}
+use Rattle.std.specs.Prelude.{ℕ, ◌≡◌, ◌≢◌, ◌<◌, List, [], Some}
 use Rattle.std.specs.List.{flat_map}
-use Rattle.graft_steps.specs.declared.refusal.Refusal.{Refusal}
 use Rattle.session_value.specs.Sessions.{SessionValue}
-use Rattle.graft_model.specs.Setups.{Setup, routers_in, peerings_in}
-use Rattle.graft_model.specs.Parts.{Vacant, Live, Shadow, Moved, Back, Done, GraftOrder, Report, World}
+use Rattle.graft_model.specs.Setups.{Setup, peerings_in}
+use Rattle.graft_model.specs.Parts.{World}
+use Rattle.graft_model.specs.RouterRows.{RouterTaken}
+use Rattle.graft_model.specs.FarRows.{FarTaken}
+use Rattle.graft_model.specs.OperatorRows.{OperatorTaken}
+use Rattle.graft_model.specs.Taking.{RouterMayTake, FarMayTake, OperatorMayTake}
 use Rattle.graft_model.specs.Claims.{sessions_at, sessions_on}
-use Rattle.graft_model.specs.Steps.{Heads}
 use Rattle.graft_laws.specs.Phases.{Stage, Busy}
 use Rattle.graft_laws.specs.Owned.{Stands}
+use Rattle.graft_laws.specs.Moves.{RouterHeads, FarHeads, OperatorHeads}
 
 -- ---- items
 
--- an order that the router r can store: its session is live there without a graft, and its target is a router
-pub record MayStore (setup : Setup) (w : World) (r : ℕ) (order : GraftOrder) : Type 0 where
-  pub peering : order.peering < peerings_in setup
-  pub target : order.target < routers_in setup
-  pub session : SessionValue
-  pub live : (w.router r).places order.peering ≡ Live session None
-
--- The next item of each channel of a graft finds what it is for.
+-- Each actor may take the next item of each channel that leads to it.
 pub record NothingIsDropped (setup : Setup) (w : World) : Type 0 where
-  pub order : (r : ℕ) (order : GraftOrder) → Heads (w.orders r) order → MayStore setup w r order
-  pub moved : (q r k p : ℕ) (session : SessionValue) → Heads (w.mesh q r) (Moved k p session) → (p < peerings_in setup) × ((w.router r).places p ≡ Vacant)
-  pub back : (q r k p : ℕ) (session : SessionValue) (refusal : Refusal) → Heads (w.mesh q r) (Back k p session refusal) → (w.router r).places p ≡ Shadow k
-  pub done : (q r k p : ℕ) → Heads (w.mesh q r) (Done k p) → (w.router r).places p ≡ Shadow k
-  pub report : (r : ℕ) (report : Report) → Heads (w.reports r) report → (w.operator.source report.graft ≢ None) × (w.operator.outcome report.graft ≡ None)
+  pub routers : (r : ℕ) (taken : RouterTaken) → RouterHeads w r (Some taken) → RouterMayTake setup (w.router r) taken
+  pub far_sides : (p : ℕ) (taken : FarTaken) → p < peerings_in setup → FarHeads w p (Some taken) → FarMayTake setup p (w.far p) taken
+  pub operator : (taken : OperatorTaken) → OperatorHeads w (Some taken) → OperatorMayTake w.operator taken
 
 -- ---- sessions
 

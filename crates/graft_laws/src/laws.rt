@@ -1,23 +1,23 @@
 //! What holds after every list of events.
 
-ghost use Rattle.std.specs.Prelude.{ℕ, ◌≡◌, ◌<◌, ◌≤◌, ◌+◌, ◌^◌, List, [], ◌∷◌, length, Some, slice_get, ◌≢◌, true, false, None};
+ghost use Rattle.std.specs.Prelude.{ℕ, ◌≡◌, ◌≢◌, ◌<◌, ◌≤◌, ◌+◌, ◌^◌, List, [], ◌∷◌, length, true, false, Some, None, slice_get};
 ghost use Rattle.std.specs.List.{AllByRecursion};
 ghost use Rattle.session_value.specs.Sessions.{SessionValue};
-ghost use Rattle.graft_model.specs.Setups.{Setup, PeeringSetup, SayStep, IsSetup, peerings_in, MoveStep, graft_number};
+ghost use Rattle.graft_model.specs.Setups.{Setup, PeeringSetup, SayStep, MoveStep, IsSetup, peerings_in, graft_number};
 ghost use Rattle.graft_model.specs.Parts.{World};
 ghost use Rattle.graft_model.specs.OperatorRows.{placement};
 ghost use Rattle.graft_model.specs.First.{first_world};
 ghost use Rattle.graft_model.specs.Steps.{Event, Run};
-ghost use Rattle.graft_model.specs.Claims.{holders, sessions_of, Transparent, sessions_at, Unchanged};
-ghost use Rattle.graft_laws.specs.Phases.{Phase, Stage, Busy};
+ghost use Rattle.graft_model.specs.Claims.{holders, sessions_at, sessions_of, Transparent, Unchanged};
+ghost use Rattle.graft_model.specs.Laws.{HasOnce};
+ghost use Rattle.graft_laws.specs.Phases.{Stage, Phase, Busy};
 ghost use Rattle.graft_laws.specs.Owned.{Owned, Stands};
 ghost use Rattle.graft_laws.specs.Keeps.{Reached, Has};
 ghost use Rattle.graft_laws.specs.Configs.{IsOwn};
+ghost use Rattle.graft_laws.specs.Facts.{NothingIsDropped, IsNowhereElse, IsUnderWay};
 ghost use Rattle.graft_laws.specs.Streams.{IsUnbroken, ArePlaced};
 ghost use Rattle.graft_laws.specs.Said.{Said, IsSayOf};
-ghost use Rattle.graft_model.specs.Laws.{HasOnce};
 ghost use Rattle.graft_laws.specs.Pointing.{Points};
-ghost use Rattle.graft_laws.specs.Facts.{NothingIsDropped, IsNowhereElse, IsUnderWay};
 
 /// Each peering has one session, and stands in one phase of its last graft, by which every place, every channel and the log have of it just
 /// what belongs to that phase.
@@ -34,7 +34,7 @@ pub fn one_session_is_held()
     ensures alone { (setup : Setup) (w : World) (p r : ℕ) → IsSetup setup → Reached setup w → p < peerings_in setup → sessions_at ((w.router r).places p) ≢ [] → IsNowhereElse w p r }
 {}
 
-/// The next order, capsule, word of a landing and report of each channel finds what it is for, so that no actor has to drop one.
+/// Each actor may take the next item of each channel that leads to it, so that none is dropped.
 pub fn no_item_is_dropped()
     ensures { (setup : Setup) (w : World) → IsSetup setup → Reached setup w → NothingIsDropped setup w }
 {}
@@ -52,6 +52,18 @@ pub fn grafts_are_in_one_phase()
 /// The session of a peering keeps what it began with.
 pub fn sessions_keep_their_config()
     ensures { (setup : Setup) (w : World) (p : ℕ) → IsSetup setup → Reached setup w → p < peerings_in setup → Has setup (IsOwn setup) w p }
+{}
+
+/// Every word of a landing that is on its way to a far side, and the last that it followed, are of the last graft of its peering that landed or of
+/// earlier ones. Where the word of the last one isn't on its way, the link points to the router where the session is at home.
+pub fn links_follow_landings()
+    ensures { (setup : Setup) (w : World) (p : ℕ) → IsSetup setup → Reached setup w → p < peerings_in setup → Has setup (Points setup) w p }
+{}
+
+/// A graft that lands or is turned back leaves the session as the freeze found it, a landing at the target and a return at the source. A graft that
+/// the source refuses leaves every session as it is.
+pub fn always_unchanged()
+    ensures { (setup : Setup) (events : List Event) → IsSetup setup → Unchanged setup (first_world setup) events }
 {}
 
 /// After every list of events, in whatever order its turns come and whatever a link loses, repeats or reorders, each peering is transparent: it has
@@ -75,16 +87,4 @@ pub fn what_is_said_has_room()
     ensures orders { (setup : Setup) (p : ℕ) (w : World) → IsSetup setup → Reached setup w → p < peerings_in setup → AllByRecursion (IsSayOf setup p) (w.says p) }
     ensures room { (setup : Setup) (p step : ℕ) (rest bytes : List ℕ) (w : World) → IsSetup setup → Reached setup w → p < peerings_in setup
         → w.says p ≡ step ∷ rest → slice_get setup.steps step ≡ Some (SayStep p bytes) → length (w.far p).end.stream + length bytes ≤ 2 ^ 20 }
-{}
-
-/// Every word of a landing that is on its way to a far side, and the last that it followed, are of the last graft of its peering that landed or of
-/// earlier ones. Where the word of the last one isn't on its way, the link points to the router where the session is at home.
-pub fn links_follow_landings()
-    ensures { (setup : Setup) (w : World) (p : ℕ) → IsSetup setup → Reached setup w → p < peerings_in setup → Has setup (Points setup) w p }
-{}
-
-/// A graft that lands or is turned back leaves the session as the freeze found it, a landing at the target and a return at the source. A graft that
-/// the source refuses leaves every session as it is.
-pub fn always_unchanged()
-    ensures { (setup : Setup) (events : List Event) → IsSetup setup → Unchanged setup (first_world setup) events }
 {}
