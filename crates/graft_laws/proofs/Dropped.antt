@@ -23,7 +23,7 @@ far_may setup w p (SayIn step) ok reached l h =
 
 pub nothing_is_dropped : (setup : Setup) (w : World) → IsSetup setup → Reached setup w → NothingIsDropped setup w
 nothing_is_dropped setup w ok reached = record {
-    routers = router_may setup w ok (always_owned setup ok w reached);
-    far_sides = λ p taken l h. far_may setup w p taken ok reached l h;
-    operator = operator_may setup w ok (always_owned setup ok w reached);
-  }
+  routers = router_may setup w ok (always_owned setup ok w reached);
+  far_sides = λ p taken l h. far_may setup w p taken ok reached l h;
+  operator = operator_may setup w ok (always_owned setup ok w reached);
+}

@@ -29,15 +29,15 @@ first_operator setup = (first_world setup).operator
 
 first_log : (setup : Setup) (p : ℕ) → LogSays setup (first_operator setup) p (Idle (start_of setup p))
 first_log setup p = record {
-    past = [];
-    later = grafts_of setup p;
-    grafts = refl;
-    have_ended = tt;
-    goes_on = tt;
-    wait = all_of (Waits (first_operator setup)) (grafts_of setup p) (λ g. record { unordered = refl; unended = refl });
-    placed = ap (λ (gs : List ScriptGraft). unwrap_or (last_or None (map (λ g. g.target) gs)) (start_of setup p)) (none_counts p (grafts_in setup));
-    issued = λ n t e. refl;
-  }
+  past = [];
+  later = grafts_of setup p;
+  grafts = refl;
+  have_ended = tt;
+  goes_on = tt;
+  wait = all_of (Waits (first_operator setup)) (grafts_of setup p) (λ g. record { unordered = refl; unended = refl });
+  placed = ap (λ (gs : List ScriptGraft). unwrap_or (last_or None (map (λ g. g.target) gs)) (start_of setup p)) (none_counts p (grafts_in setup));
+  issued = λ n t e. refl;
+}
 
 -- ---- the places
 
@@ -103,8 +103,8 @@ some_peering setup p l = at (slice_get setup.peerings p) refl where
 
 pub first_owned : (setup : Setup) → IsSetup setup → Owned setup (first_world setup)
 first_owned setup ok = record {
-    peerings = λ p l. (let some = some_peering setup p l in record { phase = Idle (start_of setup p); session = begun some.0.config; stands = first_stands setup p some.0 ok some.1 });
-    no_others = λ p past. record { places = λ r. none_past setup p r past; mesh = λ a b. refl; orders = λ r. refl };
-    room = λ r l. subst (λ (n : ℕ). n ≤ room_of setup r) (sym (first_taken setup r)) (ok.room r l);
-    reports = λ r. tt;
-  }
+  peerings = λ p l. (let some = some_peering setup p l in record { phase = Idle (start_of setup p); session = begun some.0.config; stands = first_stands setup p some.0 ok some.1 });
+  no_others = λ p past. record { places = λ r. none_past setup p r past; mesh = λ a b. refl; orders = λ r. refl };
+  room = λ r l. subst (λ (n : ℕ). n ≤ room_of setup r) (sym (first_taken setup r)) (ok.room r l);
+  reports = λ r. tt;
+}

@@ -109,10 +109,10 @@ past_below setup operator p q k t j stage log own ended = of (at_number setup p 
 pub idle_ended : (setup : Setup) (operator : OperatorPart) (p q k : ℕ) → LogSays setup operator p (Idle q) → is_of setup p k ≡ true → operator.source k ≢ None → operator.outcome k ≢ None
 idle_ended setup operator p q k log own ordered = of (at_number setup p k (λ (g : ScriptGraft). HasEnded operator g ⊎ Waits operator g) (subst (λ (x : List ScriptGraft). AllByRecursion (λ (g : ScriptGraft). HasEnded operator g ⊎ Waits operator g) x) (sym log.grafts)
     (all_join (λ (g : ScriptGraft). HasEnded operator g ⊎ Waits operator g) log.past log.later (all_map (HasEnded operator) (λ (g : ScriptGraft). HasEnded operator g ⊎ Waits operator g) log.past (λ g e. inl e) log.have_ended)
-      (all_map (Waits operator) (λ (g : ScriptGraft). HasEnded operator g ⊎ Waits operator g) log.later (λ g e. inr e) log.wait))) own) where
-  of : (g : ScriptGraft) × (g.graft ≡ k) × (HasEnded operator g ⊎ Waits operator g) → operator.outcome k ≢ None
-  of (g, same, inl e) = subst (λ (x : ℕ). operator.outcome x ≢ None) same e.ended
-  of (g, same, inr x) = absurd (ordered (ap operator.source (sym same) ∙ x.unordered))
+    (all_map (Waits operator) (λ (g : ScriptGraft). HasEnded operator g ⊎ Waits operator g) log.later (λ g e. inr e) log.wait))) own) where
+      of : (g : ScriptGraft) × (g.graft ≡ k) × (HasEnded operator g ⊎ Waits operator g) → operator.outcome k ≢ None
+      of (g, same, inl e) = subst (λ (x : ℕ). operator.outcome x ≢ None) same e.ended
+      of (g, same, inr x) = absurd (ordered (ap operator.source (sym same) ∙ x.unordered))
 
 -- numbers count from 1
 pub above_zero : (setup : Setup) (p k : ℕ) → is_of setup p k ≡ true → 0 < k

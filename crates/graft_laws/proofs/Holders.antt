@@ -105,9 +105,9 @@ one_by setup (Busy q k t Cleared) p s l = at_router _ (Busy q k t Cleared) p t s
 pub one_session : (setup : Setup) (w : World) (p : ℕ) (phase : Phase) (s : SessionValue) → Stands setup w p phase s → sessions_of setup w p ≡ s ∷ []
 one_session setup w p phase s b =
     let held : flat_map (λ r. sessions_at ((w.router r).places p)) (router_numbers setup) ≡ flat_map (held_by phase s) (router_numbers setup) =
-        flat_same (λ r. sessions_at ((w.router r).places p)) (held_by phase s) (router_numbers setup) (λ r. ap sessions_at (b.places r)) in
+    flat_same (λ r. sessions_at ((w.router r).places p)) (held_by phase s) (router_numbers setup) (λ r. ap sessions_at (b.places r)) in
     let moves : flat_map (λ a. flat_map (λ c. flat_map (sessions_on p) (w.mesh a c)) (router_numbers setup)) (router_numbers setup) ≡ flat_map (λ a. flat_map (moves_by phase p s a) (router_numbers setup)) (router_numbers setup) =
-        flat_same (λ a. flat_map (λ c. flat_map (sessions_on p) (w.mesh a c)) (router_numbers setup)) (λ a. flat_map (moves_by phase p s a) (router_numbers setup)) (router_numbers setup)
-        (λ a. flat_same (λ c. flat_map (sessions_on p) (w.mesh a c)) (moves_by phase p s a) (router_numbers setup) (λ c. items_of p (w.mesh a c) ∙ ap (flat_map (sessions_on p)) (b.mesh a c))) in
+    flat_same (λ a. flat_map (λ c. flat_map (sessions_on p) (w.mesh a c)) (router_numbers setup)) (λ a. flat_map (moves_by phase p s a) (router_numbers setup)) (router_numbers setup)
+    (λ a. flat_same (λ c. flat_map (sessions_on p) (w.mesh a c)) (moves_by phase p s a) (router_numbers setup) (λ c. items_of p (w.mesh a c) ∙ ap (flat_map (sessions_on p)) (b.mesh a c))) in
     ap (λ (x : List SessionValue). x ++ flat_map (λ a. flat_map (λ c. flat_map (sessions_on p) (w.mesh a c)) (router_numbers setup)) (router_numbers setup)) held
     ∙ (ap (λ (x : List SessionValue). flat_map (held_by phase s) (router_numbers setup) ++ x) moves ∙ one_by setup phase p s b.bounds)

@@ -127,10 +127,10 @@ module _ (setup : Setup) (before : OperatorPart) (n p t q : ℕ) (step : slice_g
   -- what the order does to the log of another peering
   pub order_others : (other : ℕ) → other ≢ p → SameLog setup other before with_order
   order_others other ne = record {
-      source = λ k own. let differs : k ≢ number = (λ (is : k ≡ number). ne (one_peering setup other p number (subst (λ (x : ℕ). is_of setup other x ≡ true) is own) (own_step setup n p t step))) in grind (arith, nat_tests);
-      outcome = λ k own. refl;
-      issued = λ m u e. let differs : m ≢ n = (λ (is : m ≡ n). ne (let f : Some (MoveStep other u) ≡ Some (MoveStep p t) = sym e ∙ (ap (slice_get setup.steps) is ∙ step) in cc)) in grind (arith, nat_tests);
-    }
+    source = λ k own. let differs : k ≢ number = (λ (is : k ≡ number). ne (one_peering setup other p number (subst (λ (x : ℕ). is_of setup other x ≡ true) is own) (own_step setup n p t step))) in grind (arith, nat_tests);
+    outcome = λ k own. refl;
+    issued = λ m u e. let differs : m ≢ n = (λ (is : m ≡ n). ne (let f : Some (MoveStep other u) ≡ Some (MoveStep p t) = sym e ∙ (ap (slice_get setup.steps) is ∙ step) in cc)) in grind (arith, nat_tests);
+  }
 
 -- what it says of its own peering before, and after it
 pub record OrderSays (setup : Setup) (before after : OperatorPart) (p k t : ℕ) (phase : Phase) : Type 0 where
@@ -177,6 +177,6 @@ module _ (setup : Setup) (before : OperatorPart) (n p t : ℕ) (step : slice_get
 
   pub order_own : (phase : Phase) → LogSays setup before p phase → OrderSays setup before ordered p k t phase
   order_own phase log = record {
-      was = idle_if_none phase p (first phase log).none ∙ ap Idle (sym log.placed);
-      log = log_with phase log;
-    }
+    was = idle_if_none phase p (first phase log).none ∙ ap Idle (sym log.placed);
+    log = log_with phase log;
+  }

@@ -134,4 +134,4 @@ step_known setup n p t e =
     let k : ℕ = graft_number setup n in
     let P : ScriptGraft → Type 0 = λ g. graft_at setup g.graft ≡ Some g in
     found_in (grafts_after 0 (take n setup.steps)) (grafts_after k (drop (suc n) setup.steps)) (the_graft k p t) P
-        (subst (λ (x : List ScriptGraft). AllByRecursion P x) (split_at setup.steps n 0 k p t e (omega arith)) (known_all setup))
+    (subst (λ (x : List ScriptGraft). AllByRecursion P x) (split_at setup.steps n 0 k p t e (omega arith)) (known_all setup))

@@ -117,7 +117,7 @@ goes_on_is : (setup : Setup) (operator : OperatorPart) (n p t : ℕ) (phase : Ph
     → LogSays setup operator p phase → (stage : Stage) × (phase ≡ Busy (source_of phase) (graft_number setup n) t stage)
 goes_on_is setup operator n p t phase step issued unended log =
     by_part (found_in (earlier_grafts setup p n) (later_grafts setup p n) (the_graft (graft_number setup n) p t) (IsPart operator (under_way phase p))
-      (subst (λ (x : List ScriptGraft). AllByRecursion (IsPart operator (under_way phase p)) x) (sym log.grafts ∙ split_of setup n p t step) (parts setup operator p phase log)))
+    (subst (λ (x : List ScriptGraft). AllByRecursion (IsPart operator (under_way phase p)) x) (sym log.grafts ∙ split_of setup n p t step) (parts setup operator p phase log)))
   where
     by_part : IsPart operator (under_way phase p) (the_graft (graft_number setup n) p t) → (stage : Stage) × (phase ≡ Busy (source_of phase) (graft_number setup n) t stage)
     by_part (inl ended) = absurd (ended.ended unended)
@@ -143,7 +143,7 @@ under_way_once setup w n p t ok owned step issued unended =
       session = held.session;
       stands = b;
       one = λ x r u other s o. (let same : x ≡ p = one_peering_of setup w x p r q k u t other on.0 s held.session o b in
-        (same, one_phase setup w p (Busy r k u other) (Busy q k t on.0) s held.session (subst (λ (y : ℕ). Stands setup w y (Busy r k u other) s) same o) b));
+          (same, one_phase setup w p (Busy r k u other) (Busy q k t on.0) s held.session (subst (λ (y : ℕ). Stands setup w y (Busy r k u other) s) same o) b));
     }
 
 -- a graft that wasn't issued is in no phase

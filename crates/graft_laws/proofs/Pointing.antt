@@ -62,13 +62,13 @@ landed_ended setup w v p q k t r stage s u grows b then =
 
 words_same : (w v : World) (p home last : ℕ) → (v.far p).pointer ≡ (w.far p).pointer → (v.far p).followed ≡ (w.far p).followed → ((r : ℕ) → v.outward r p ≡ w.outward r p) → Words w p home last → Words v p home last
 words_same w v p home last pointer followed outward words = record {
-    all = λ r. subst (λ (x : List Outward). AllByRecursion (IsUpTo last) x) (sym (outward r)) (words.all r);
-    elsewhere = λ r ne. subst (λ (x : List Outward). AllByRecursion (IsBelow last) x) (sym (outward r)) (words.elsewhere r ne);
-    word = by_word words.word;
-  } where
-    by_word : WordOf last home (w.far p) (w.outward home p) → WordOf last home (v.far p) (v.outward home p)
-    by_word (inl on_way) = inl (ap (filter (is_word_of last)) (outward home) ∙ on_way.0, subst (λ (x : ℕ). x < last) (sym followed) on_way.1)
-    by_word (inr there) = inr (ap (filter (is_word_of last)) (outward home) ∙ there.0, pointer ∙ there.1, followed ∙ there.2)
+  all = λ r. subst (λ (x : List Outward). AllByRecursion (IsUpTo last) x) (sym (outward r)) (words.all r);
+  elsewhere = λ r ne. subst (λ (x : List Outward). AllByRecursion (IsBelow last) x) (sym (outward r)) (words.elsewhere r ne);
+  word = by_word words.word;
+} where
+  by_word : WordOf last home (w.far p) (w.outward home p) → WordOf last home (v.far p) (v.outward home p)
+  by_word (inl on_way) = inl (ap (filter (is_word_of last)) (outward home) ∙ on_way.0, subst (λ (x : ℕ). x < last) (sym followed) on_way.1)
+  by_word (inr there) = inr (ap (filter (is_word_of last)) (outward home) ∙ there.0, pointer ∙ there.1, followed ∙ there.2)
 
 pub line_words : (w v : World) (p home last : ℕ) → SameLine p w v → Words w p home last → Words v p home last
 line_words w v p home last line words = words_same w v p home last (ap (λ (x : FarPart). x.pointer) line.far) (ap (λ (x : FarPart). x.followed) line.far) line.outward words
@@ -95,16 +95,16 @@ filter_only test items m n item e = filter-append test items (only m item n) ∙
 
 segment_words : (w v : World) (p r home last : ℕ) (segment : PlacedSegment) → LineGets p r (Seg segment) w v → Words w p home last → Words v p home last
 segment_words w v p r home last segment line words = record {
-    all = λ x. subst (λ (y : List Outward). AllByRecursion (IsUpTo last) y) (sym (line.outward x)) (all_join (IsUpTo last) (w.outward x p) (only r (Seg segment) x) (words.all x) (only_all (IsUpTo last) r x (Seg segment) tt));
-    elsewhere = λ x ne. subst (λ (y : List Outward). AllByRecursion (IsBelow last) y) (sym (line.outward x)) (all_join (IsBelow last) (w.outward x p) (only r (Seg segment) x) (words.elsewhere x ne) (only_all (IsBelow last) r x (Seg segment) tt));
-    word = by_word words.word;
-  } where
-    found : filter (is_word_of last) (v.outward home p) ≡ filter (is_word_of last) (w.outward home p)
-    found = ap (filter (is_word_of last)) (line.outward home) ∙ filter_only (is_word_of last) (w.outward home p) r home (Seg segment) refl
+  all = λ x. subst (λ (y : List Outward). AllByRecursion (IsUpTo last) y) (sym (line.outward x)) (all_join (IsUpTo last) (w.outward x p) (only r (Seg segment) x) (words.all x) (only_all (IsUpTo last) r x (Seg segment) tt));
+  elsewhere = λ x ne. subst (λ (y : List Outward). AllByRecursion (IsBelow last) y) (sym (line.outward x)) (all_join (IsBelow last) (w.outward x p) (only r (Seg segment) x) (words.elsewhere x ne) (only_all (IsBelow last) r x (Seg segment) tt));
+  word = by_word words.word;
+} where
+  found : filter (is_word_of last) (v.outward home p) ≡ filter (is_word_of last) (w.outward home p)
+  found = ap (filter (is_word_of last)) (line.outward home) ∙ filter_only (is_word_of last) (w.outward home p) r home (Seg segment) refl
 
-    by_word : WordOf last home (w.far p) (w.outward home p) → WordOf last home (v.far p) (v.outward home p)
-    by_word (inl on_way) = inl (found ∙ on_way.0, subst (λ (x : FarPart). x.followed < last) (sym line.far) on_way.1)
-    by_word (inr there) = inr (found ∙ there.0, ap (λ (x : FarPart). x.pointer) line.far ∙ there.1, ap (λ (x : FarPart). x.followed) line.far ∙ there.2)
+  by_word : WordOf last home (w.far p) (w.outward home p) → WordOf last home (v.far p) (v.outward home p)
+  by_word (inl on_way) = inl (found ∙ on_way.0, subst (λ (x : FarPart). x.followed < last) (sym line.far) on_way.1)
+  by_word (inr there) = inr (found ∙ there.0, ap (λ (x : FarPart). x.pointer) line.far ∙ there.1, ap (λ (x : FarPart). x.followed) line.far ∙ there.2)
 
 -- ---- a session lands
 
@@ -129,24 +129,26 @@ followed_up_to last home far items (inr there) = omega (arith, there.2)
 
 landing_words : (w v : World) (p home last k t : ℕ) → last < k → LineGets p t (PointAt k) w v → Words w p home last → Words v p t k
 landing_words w v p home last k t l line words = record {
-    all = λ x. subst (λ (y : List Outward). AllByRecursion (IsUpTo k) y) (sym (line.outward x))
-        (all_join (IsUpTo k) (w.outward x p) (only t (PointAt k) x) (all_map (IsUpTo last) (IsUpTo k) (w.outward x p) (up_to_later last k l) (words.all x)) (only_all (IsUpTo k) t x (PointAt k) (omega arith)));
-    elsewhere = λ x ne. subst (λ (y : List Outward). AllByRecursion (IsBelow k) y) (sym (line.outward x ∙ (ap (λ (y : List Outward). w.outward x p ++ y) (none x ne) ∙ append-nil (w.outward x p)))) (below x);
-    word = inl (ap (filter (is_word_of k)) (line.outward t) ∙ (filter-append (is_word_of k) (w.outward t p) (only t (PointAt k) t)
-          ∙ (ap (λ (y : List Outward). y ++ filter (is_word_of k) (only t (PointAt k) t)) (none_found k (w.outward t p) (below t)) ∙ own)),
-        subst (λ (x : FarPart). x.followed < k) (sym line.far) (lower (followed_up_to last home (w.far p) (w.outward home p) words.word)));
-  } where
-    below : (x : ℕ) → AllByRecursion (IsBelow k) (w.outward x p)
-    below x = all_map (IsUpTo last) (IsBelow k) (w.outward x p) (up_to_below last k l) (words.all x)
+  all = λ x. subst (λ (y : List Outward). AllByRecursion (IsUpTo k) y) (sym (line.outward x))
+      (all_join (IsUpTo k) (w.outward x p) (only t (PointAt k) x) (all_map (IsUpTo last) (IsUpTo k) (w.outward x p) (up_to_later last k l) (words.all x)) (only_all (IsUpTo k) t x (PointAt k) (omega arith)));
+  elsewhere = λ x ne. subst (λ (y : List Outward). AllByRecursion (IsBelow k) y) (sym (line.outward x ∙ (ap (λ (y : List Outward). w.outward x p ++ y) (none x ne) ∙ append-nil (w.outward x p)))) (below x);
+  word = inl (
+    ap (filter (is_word_of k)) (line.outward t) ∙ (filter-append (is_word_of k) (w.outward t p) (only t (PointAt k) t)
+        ∙ (ap (λ (y : List Outward). y ++ filter (is_word_of k) (only t (PointAt k) t)) (none_found k (w.outward t p) (below t)) ∙ own)),
+    subst (λ (x : FarPart). x.followed < k) (sym line.far) (lower (followed_up_to last home (w.far p) (w.outward home p) words.word)),
+  );
+} where
+  below : (x : ℕ) → AllByRecursion (IsBelow k) (w.outward x p)
+  below x = all_map (IsUpTo last) (IsBelow k) (w.outward x p) (up_to_below last k l) (words.all x)
 
-    none : (x : ℕ) → x ≢ t → only t (PointAt k) x ≡ []
-    none x ne = ap (λ b. cond b (PointAt k ∷ []) []) (let e : (x == t) ≡ false = grind (arith, nat_tests) in e)
+  none : (x : ℕ) → x ≢ t → only t (PointAt k) x ≡ []
+  none x ne = ap (λ b. cond b (PointAt k ∷ []) []) (let e : (x == t) ≡ false = grind (arith, nat_tests) in e)
 
-    own : filter (is_word_of k) (only t (PointAt k) t) ≡ PointAt k ∷ []
-    own = ap (λ b. filter (is_word_of k) (cond b (PointAt k ∷ []) [])) (equal t) ∙ ap (λ b. cond b (PointAt k ∷ []) []) (equal k)
+  own : filter (is_word_of k) (only t (PointAt k) t) ≡ PointAt k ∷ []
+  own = ap (λ b. filter (is_word_of k) (cond b (PointAt k ∷ []) [])) (equal t) ∙ ap (λ b. cond b (PointAt k ∷ []) []) (equal k)
 
-    lower : (w.far p).followed ≤ last → (w.far p).followed < k
-    lower m = omega arith
+  lower : (w.far p).followed ≤ last → (w.far p).followed < k
+  lower m = omega arith
 
 -- ---- the far side acts
 
@@ -168,16 +170,16 @@ module _ (w v : World) (p home last : ℕ) (taken : Option FarTaken) (sent : Lis
 
   taken_words : ((r : ℕ) → filter (is_word_of last) (outward_taken p taken r p) ≡ []) → part.pointer ≡ (w.far p).pointer → part.followed ≡ (w.far p).followed → Words w p home last → Words v p home last
   taken_words none pointer followed words = record {
-      all = λ r. left_all (IsUpTo last) r (words.all r);
-      elsewhere = λ r ne. left_all (IsBelow last) r (words.elsewhere r ne);
-      word = by_word words.word;
-    } where
-      found : filter (is_word_of last) (v.outward home p) ≡ filter (is_word_of last) (w.outward home p)
-      found = ap (λ (x : List Outward). x ++ filter (is_word_of last) (v.outward home p)) (sym (none home)) ∙ left_found home
+    all = λ r. left_all (IsUpTo last) r (words.all r);
+    elsewhere = λ r ne. left_all (IsBelow last) r (words.elsewhere r ne);
+    word = by_word words.word;
+  } where
+    found : filter (is_word_of last) (v.outward home p) ≡ filter (is_word_of last) (w.outward home p)
+    found = ap (λ (x : List Outward). x ++ filter (is_word_of last) (v.outward home p)) (sym (none home)) ∙ left_found home
 
-      by_word : WordOf last home (w.far p) (w.outward home p) → WordOf last home (v.far p) (v.outward home p)
-      by_word (inl on_way) = inl (found ∙ on_way.0, subst (λ (x : ℕ). x < last) (sym (ap (λ (x : FarPart). x.followed) far_is ∙ followed)) on_way.1)
-      by_word (inr there) = inr (found ∙ there.0, ap (λ (x : FarPart). x.pointer) far_is ∙ (pointer ∙ there.1), ap (λ (x : FarPart). x.followed) far_is ∙ (followed ∙ there.2))
+    by_word : WordOf last home (w.far p) (w.outward home p) → WordOf last home (v.far p) (v.outward home p)
+    by_word (inl on_way) = inl (found ∙ on_way.0, subst (λ (x : ℕ). x < last) (sym (ap (λ (x : FarPart). x.followed) far_is ∙ followed)) on_way.1)
+    by_word (inr there) = inr (found ∙ there.0, ap (λ (x : FarPart). x.pointer) far_is ∙ (pointer ∙ there.1), ap (λ (x : FarPart). x.followed) far_is ∙ (followed ∙ there.2))
 
 -- a word of a landing is followed, where it is of a later graft than the last that was followed
 module _ (w v : World) (p home last r k : ℕ) (sent : List FarSent) (part : FarPart) (m : FarMoves p (Some (OutwardIn r (PointAt k))) sent part w v)
@@ -246,16 +248,16 @@ module _ (w v : World) (p home last r k : ℕ) (sent : List FarSent) (part : Far
 
   point_words : Words v p home last
   point_words = record {
-      all = λ x. left_all w v p home last (Some (OutwardIn r (PointAt k))) sent part m (IsUpTo last) x (words.all x);
-      elsewhere = λ x ne. left_all w v p home last (Some (OutwardIn r (PointAt k))) sent part m (IsBelow last) x (words.elsewhere x ne);
-      word = by_number (equal_or_not k last);
-    } where
-      by_number : (k ≡ last) ⊎ (k ≢ last) → WordOf last home (v.far p) (v.outward home p)
-      by_number (inr ne) = earlier_word (omega (arith, up_to)) words.word
-      by_number (inl is) = last_word is (by_place (equal_or_not r home)) words.word where
-        by_place : (r ≡ home) ⊎ (r ≢ home) → r ≡ home
-        by_place (inl here) = here
-        by_place (inr ne) = absurd (let l : k < last = own_channel ne in omega arith)
+    all = λ x. left_all w v p home last (Some (OutwardIn r (PointAt k))) sent part m (IsUpTo last) x (words.all x);
+    elsewhere = λ x ne. left_all w v p home last (Some (OutwardIn r (PointAt k))) sent part m (IsBelow last) x (words.elsewhere x ne);
+    word = by_number (equal_or_not k last);
+  } where
+    by_number : (k ≡ last) ⊎ (k ≢ last) → WordOf last home (v.far p) (v.outward home p)
+    by_number (inr ne) = earlier_word (omega (arith, up_to)) words.word
+    by_number (inl is) = last_word is (by_place (equal_or_not r home)) words.word where
+      by_place : (r ≡ home) ⊎ (r ≢ home) → r ≡ home
+      by_place (inl here) = here
+      by_place (inr ne) = absurd (let l : k < last = own_channel ne in omega arith)
 
 -- the far side's moves, with its item known
 far_as : (w v : World) (p : ℕ) (taken known : Option FarTaken) (sent : List FarSent) (part : FarPart) → taken ≡ known → FarMoves p taken sent part w v → FarMoves p known sent part w v
@@ -282,7 +284,7 @@ far_words setup w v p home last (Beat round) taken sent part row m =
     no_point w v p home last None sent part (far_as w v p taken None sent part row.takes m) (ap (λ (x : FarPart). x.pointer) row.effect) (ap (λ (x : FarPart). x.followed) row.effect) (λ r. refl)
 far_words setup w v p home last (Take router) taken sent part row m =
     taken_words w v p home last (Some (OutwardIn router (Seg row.segment))) sent part (far_as w v p taken (Some (OutwardIn router (Seg row.segment))) sent part row.takes m)
-      (λ r. none_only2 (is_word_of last) (Seg row.segment) router p r p refl) (ap (λ (x : FarPart). x.pointer) row.effect) (ap (λ (x : FarPart). x.followed) row.effect)
+    (λ r. none_only2 (is_word_of last) (Seg row.segment) router p r p refl) (ap (λ (x : FarPart). x.pointer) row.effect) (ap (λ (x : FarPart). x.followed) row.effect)
 far_words setup w v p home last (Point router) taken sent part row m =
     point_words w v p home last router row.graft sent part (far_as w v p taken (Some (OutwardIn router (PointAt row.graft))) sent part row.takes m) row.effect
 
@@ -319,17 +321,17 @@ module _ (setup : Setup) (w v : World) (p : ℕ) (grows : LogGrows w.operator v.
 
 first_points : (setup : Setup) (p : ℕ) (config : SessionConfig) → config_of setup p ≡ Some config → Points setup (first_world setup) p (Idle (start_of setup p)) (begun config)
 first_points setup p config is = record {
-    last = 0;
-    landed = inl refl;
-    words = record { all = λ r. tt; elsewhere = λ r ne. tt; word = inr (refl, pointer (slice_get setup.peerings p) is, followed (slice_get setup.peerings p)) };
-  } where
-    pointer : (o : Option PeeringSetup) → option_map (λ (x : PeeringSetup). x.config) o ≡ Some config → (first_far o).pointer ≡ unwrap_or (option_map (λ (x : PeeringSetup). x.start) o) 0
-    pointer None e = refl
-    pointer (Some peering) e = refl
+  last = 0;
+  landed = inl refl;
+  words = record { all = λ r. tt; elsewhere = λ r ne. tt; word = inr (refl, pointer (slice_get setup.peerings p) is, followed (slice_get setup.peerings p)) };
+} where
+  pointer : (o : Option PeeringSetup) → option_map (λ (x : PeeringSetup). x.config) o ≡ Some config → (first_far o).pointer ≡ unwrap_or (option_map (λ (x : PeeringSetup). x.start) o) 0
+  pointer None e = refl
+  pointer (Some peering) e = refl
 
-    followed : (o : Option PeeringSetup) → (first_far o).followed ≡ 0
-    followed None = refl
-    followed (Some peering) = refl
+  followed : (o : Option PeeringSetup) → (first_far o).followed ≡ 0
+  followed None = refl
+  followed (Some peering) = refl
 
 pub always_points : (setup : Setup) → IsSetup setup → (w : World) → Reached setup w → (p : ℕ) → p < peerings_in setup → Has setup (Points setup) w p
 always_points setup ok = always_has_along setup (Points setup) ok (first_points setup)

@@ -109,9 +109,9 @@ module _ (setup : Setup) (ok : IsSetup setup) (p r k t : ℕ) (l : p < peerings_
       let same : Live row.session (Some (record { graft = k; target = row.target })) ≡ Live found (Some (record { graft = k; target = t })) = sym row.live.is ∙ (ap (λ (x : ℕ). (w.router r).places x) here ∙ was) in
       let m : RouterMoves r step.taken step.sent step.part w v = router_moves setup r (Freeze k) w v step in
       let frozen : (v.router r).places p ≡ Frozen found (record { graft = k; target = t }) =
-          ap (λ (f : ℕ → RouterPart). (f r).places p) m.router ∙ (ap (λ (x : RouterPart). x.places p) (at_here w.router r step.part)
-          ∙ (ap (λ (x : RouterPart). x.places p) row.effect ∙ (ap (λ (x : ℕ). at (w.router r).places x (Frozen row.session (record { graft = k; target = row.target })) p) here
-          ∙ (at_here (w.router r).places p (Frozen row.session (record { graft = k; target = row.target })) ∙ frozen_same row.session found row.target same)))) in
+      ap (λ (f : ℕ → RouterPart). (f r).places p) m.router ∙ (ap (λ (x : RouterPart). x.places p) (at_here w.router r step.part)
+      ∙ (ap (λ (x : RouterPart). x.places p) row.effect ∙ (ap (λ (x : ℕ). at (w.router r).places x (Frozen row.session (record { graft = k; target = row.target })) p) here
+      ∙ (at_here (w.router r).places p (Frozen row.session (record { graft = k; target = row.target })) ∙ frozen_same row.session found row.target same)))) in
       is_away phase s b (sym frozen ∙ b.places r)
     where
       has_graft : (part : RouterPart) (x : ℕ) (y : SessionValue) (u : ℕ) → part.places x ≡ Live y (Some (record { graft = k; target = u })) → HasGraft k (part.places x)
@@ -227,16 +227,16 @@ module _ (setup : Setup) (w v : World) (r k p : ℕ) (step : Step setup (ByRoute
   same_mesh : (a b : ℕ) → v.mesh a b ≡ w.mesh a b
   same_mesh a b =
       let m : RouterMoves r None (ReportOut (record { graft = k; outcome = Refused row.refusal }) ∷ []) step.part w v =
-          moves_as w v r step.taken None step.sent (ReportOut (record { graft = k; outcome = Refused row.refusal }) ∷ []) step.part row.takes row.sends moves in
+      moves_as w v r step.taken None step.sent (ReportOut (record { graft = k; outcome = Refused row.refusal }) ∷ []) step.part row.takes row.sends moves in
       m.mesh a b ∙ append-nil (w.mesh a b)
 
   pub refused_sessions : sessions_of setup v p ≡ sessions_of setup w p
   refused_sessions =
       let held : flat_map (λ x. sessions_at ((v.router x).places p)) (router_numbers setup) ≡ flat_map (λ x. sessions_at ((w.router x).places p)) (router_numbers setup) =
-          flat_same (λ x. sessions_at ((v.router x).places p)) (λ x. sessions_at ((w.router x).places p)) (router_numbers setup) refused_places in
+      flat_same (λ x. sessions_at ((v.router x).places p)) (λ x. sessions_at ((w.router x).places p)) (router_numbers setup) refused_places in
       let on_way : flat_map (λ a. flat_map (λ b. flat_map (sessions_on p) (v.mesh a b)) (router_numbers setup)) (router_numbers setup) ≡ flat_map (λ a. flat_map (λ b. flat_map (sessions_on p) (w.mesh a b)) (router_numbers setup)) (router_numbers setup) =
-          flat_same (λ a. flat_map (λ b. flat_map (sessions_on p) (v.mesh a b)) (router_numbers setup)) (λ a. flat_map (λ b. flat_map (sessions_on p) (w.mesh a b)) (router_numbers setup)) (router_numbers setup)
-          (λ a. flat_same (λ b. flat_map (sessions_on p) (v.mesh a b)) (λ b. flat_map (sessions_on p) (w.mesh a b)) (router_numbers setup) (λ b. ap (flat_map (sessions_on p)) (same_mesh a b))) in
+      flat_same (λ a. flat_map (λ b. flat_map (sessions_on p) (v.mesh a b)) (router_numbers setup)) (λ a. flat_map (λ b. flat_map (sessions_on p) (w.mesh a b)) (router_numbers setup)) (router_numbers setup)
+      (λ a. flat_same (λ b. flat_map (sessions_on p) (v.mesh a b)) (λ b. flat_map (sessions_on p) (w.mesh a b)) (router_numbers setup) (λ b. ap (flat_map (sessions_on p)) (same_mesh a b))) in
       ap (λ (x : List SessionValue). x ++ flat_map (λ a. flat_map (λ b. flat_map (sessions_on p) (v.mesh a b)) (router_numbers setup)) (router_numbers setup)) held
       ∙ ap (λ (x : List SessionValue). flat_map (λ y. sessions_at ((w.router y).places p)) (router_numbers setup) ++ x) on_way
 
@@ -244,7 +244,7 @@ module _ (setup : Setup) (w v : World) (r k p : ℕ) (step : Step setup (ByRoute
 
 pub unchanged : (setup : Setup) (events : List Event) → IsSetup setup → Unchanged setup (first_world setup) events
 unchanged setup events ok = record {
-    returned = λ r k p target s q found session refusal after f. returned setup ok events r k p target s q found session refusal after f;
-    landed = λ r k p target s q found session after f. landed setup ok events r k p target s q found session after f;
-    refused = λ begun rest r k p w v among run step. (refused_sessions setup w v r k p step, refused_places setup w v r k p step);
-  }
+  returned = λ r k p target s q found session refusal after f. returned setup ok events r k p target s q found session refusal after f;
+  landed = λ r k p target s q found session after f. landed setup ok events r k p target s q found session after f;
+  refused = λ begun rest r k p w v among run step. (refused_sessions setup w v r k p step, refused_places setup w v r k p step);
+}
