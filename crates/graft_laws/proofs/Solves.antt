@@ -49,10 +49,10 @@ module _ (setup : Setup) (ok : IsSetup setup) (w : World) (reached : Reached set
       let a : IsAtRest setup w p = at_rest p l in
       let phase : Phase = Idle (placement setup w.operator p) in
       solves_on setup w p a.session quiet a.stands
-        (has_at setup (IsUnbroken setup) w p phase a.session (always_unbroken setup w p ok reached l) a.stands)
-        (has_at setup (Points setup) w p phase a.session (always_points setup ok w reached p l) a.stands)
-        (has_at setup (Entered setup) w p phase a.session (entered p l) a.stands)
-        (answered (placement setup w.operator p) a.stands.bounds)
+      (has_at setup (IsUnbroken setup) w p phase a.session (always_unbroken setup w p ok reached l) a.stands)
+      (has_at setup (Points setup) w p phase a.session (always_points setup ok w reached p l) a.stands)
+      (has_at setup (Entered setup) w p phase a.session (entered p l) a.stands)
+      (answered (placement setup w.operator p) a.stands.bounds)
 
   sessions_give : (r : ℕ) (x : PrefixValue) (p : ℕ) → p < peerings_in setup → GivesSame setup w r x p
   sessions_give r x p l =
@@ -61,11 +61,11 @@ module _ (setup : Setup) (ok : IsSetup setup) (w : World) (reached : Reached set
       let some = some_peering setup p l in
       let unbroken : IsUnbroken setup w p phase a.session = has_at setup (IsUnbroken setup) w p phase a.session (always_unbroken setup w p ok reached l) a.stands in
       entries_routes setup w r p (placement setup w.operator p) x a.session a.stands (has_at setup (Entered setup) w p phase a.session (entered p l) a.stands)
-        (own_number setup p some.0 a.session.config ok some.1 unbroken.own.config)
+      (own_number setup p some.0 a.session.config ok some.1 unbroken.own.config)
 
   pub solves : Solves setup w
   solves = record {
-      best = λ r x l. best_is setup w quiet r l x (decided r l) informed (λ p below. sessions_give r x p below);
-      tellings = λ r q x l m ne. heard_quiet setup w r q x quiet (informed r q) ne m;
-      peerings = peering_solves;
-    }
+    best = λ r x l. best_is setup w quiet r l x (decided r l) informed (λ p below. sessions_give r x p below);
+    tellings = λ r q x l m ne. heard_quiet setup w r q x quiet (informed r q) ne m;
+    peerings = peering_solves;
+  }

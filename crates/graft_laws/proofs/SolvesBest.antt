@@ -77,7 +77,7 @@ GivesSame setup w r x p = listed (entry_candidate setup.home_as p (map.get ((w.r
 -- the entry that a session brings in gives what its route gives
 entry_session : (setup : Setup) (r p : ℕ) (x : PrefixValue) (s : SessionValue) (o : Option Route) → s.config.peering ≡ record { 0 = p }
     → entry_candidate setup.home_as p (option_map (λ route. (let e : Entry = record { route = route; identifier = (session_route setup r s x).identifier; address = s.config.remote_address } in e)) o)
-      ≡ session_candidate setup.home_as (session_route setup r s x) o
+    ≡ session_candidate setup.home_as (session_route setup r s x) o
 entry_session setup r p x s None own = refl
 entry_session setup r p x s (Some route) own = ap (λ (id : PeeringId). session_candidate setup.home_as (record (session_route setup r s x) { peering = id }) (Some route)) (sym own)
 

@@ -51,11 +51,11 @@ module _ (setup : Setup) (w : World) (p q : ℕ) (s : SessionValue) (b : Stands 
 
   all_got : GotAll s (w.far p).end.stream
   all_got = record {
-      rest = unread s;
-      is = sym (whole (w.far p).end s.end unbroken.streams.linked.back done.remote) ∙ received_is s unbroken.story.tied;
-      whole = got_in_frames_is (peering_of s.config) s.story (state s) unbroken.story.tied.allowed;
-      end = done.read;
-    }
+    rest = unread s;
+    is = sym (whole (w.far p).end s.end unbroken.streams.linked.back done.remote) ∙ received_is s unbroken.story.tied;
+    whole = got_in_frames_is (peering_of s.config) s.story (state s) unbroken.story.tied.allowed;
+    end = done.read;
+  }
 
   -- what was told is what is to be told
   told_all : Answered setup q (w.router q) → (x : PrefixValue) → map.get s.told x ≡ while_established (state s) (to_tell setup q (w.router q) s x)
@@ -68,7 +68,6 @@ module _ (setup : Setup) (w : World) (p q : ℕ) (s : SessionValue) (b : Stands 
     by_state OpenSent now = none (λ (up : state s ≡ Established). (let e : OpenSent ≡ Established = sym now ∙ up in absurd cc))
     by_state OpenConfirm now = none (λ (up : state s ≡ Established). (let e : OpenConfirm ≡ Established = sym now ∙ up in absurd cc))
     by_state Closed now = none (λ (up : state s ≡ Established). (let e : Closed ≡ Established = sym now ∙ up in absurd cc))
-
 
 pub solves_on : (setup : Setup) (w : World) (p : ℕ) (s : SessionValue) → Quiet setup w → Stands setup w p (Idle (placement setup w.operator p)) s → IsUnbroken setup w p (Idle (placement setup w.operator p)) s
     → Points setup w p (Idle (placement setup w.operator p)) s → Entered setup w p (Idle (placement setup w.operator p)) s → Answered setup (placement setup w.operator p) (w.router (placement setup w.operator p)) → SolvesOn setup w p
