@@ -42,3 +42,7 @@ pub mod Dropped
 pub mod ToldNone
 pub mod Answered
 pub mod TableLaws
+pub mod QuietPhases
+pub mod SolvesOn
+pub mod SolvesBest
+pub mod Solves
