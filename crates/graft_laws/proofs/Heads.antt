@@ -28,13 +28,13 @@ use Rattle.graft_laws.proofs.Holders.{one_session, items_of}
 
 -- ---- one phase
 
-only_here : {A : Type 0} (m : ℕ) (x : A) → only m x m ≡ x ∷ []
+pub only_here : {A : Type 0} (m : ℕ) (x : A) → only m x m ≡ x ∷ []
 only_here m x = ap (λ b. cond b (x ∷ []) []) (equal m)
 
-only2_here : {A : Type 0} (j k : ℕ) (x : A) → only2 j k x j k ≡ x ∷ []
+pub only2_here : {A : Type 0} (j k : ℕ) (x : A) → only2 j k x j k ≡ x ∷ []
 only2_here j k x = ap (λ b. cond b (cond (k == k) (x ∷ []) []) []) (equal j) ∙ only_here k x
 
-placed_here : (q : ℕ) (place : Place) → cond (q == q) place Vacant ≡ place
+pub placed_here : (q : ℕ) (place : Place) → cond (q == q) place Vacant ≡ place
 placed_here q place = ap (λ b. cond b place Vacant) (equal q)
 
 same_target : (k p t u : ℕ) → Some (the_graft k p t) ≡ Some (the_graft k p u) → t ≡ u

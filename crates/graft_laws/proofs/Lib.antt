@@ -34,3 +34,8 @@ pub mod Transparent
 pub mod Placed
 pub mod StreamLaws
 pub mod Dropped
+pub mod QuietPhases
+pub mod ToldNone
+pub mod SolvesOn
+pub mod SolvesBest
+pub mod Solves

@@ -10,3 +10,4 @@ pub mod Pointing
 pub mod Unchanged
 pub mod Streams
 pub mod Said
+pub mod Tables
