@@ -46,3 +46,4 @@ pub mod QuietPhases
 pub mod SolvesOn
 pub mod SolvesBest
 pub mod Solves
+pub mod QuietSolves

@@ -8,8 +8,9 @@ ghost use Rattle.graft_model.specs.Parts.{World};
 ghost use Rattle.graft_model.specs.OperatorRows.{placement};
 ghost use Rattle.graft_model.specs.First.{first_world};
 ghost use Rattle.graft_model.specs.Steps.{Event, Run};
-ghost use Rattle.graft_model.specs.Claims.{holders, sessions_at, sessions_of, Transparent, Unchanged};
+ghost use Rattle.graft_model.specs.Claims.{holders, sessions_at, sessions_of, Transparent, Unchanged, Solves};
 ghost use Rattle.graft_model.specs.Laws.{HasOnce};
+ghost use Rattle.graft_model.specs.Quiet.{Quiet};
 ghost use Rattle.graft_laws.specs.Phases.{Stage, Phase, Busy};
 ghost use Rattle.graft_laws.specs.Owned.{Owned, Stands};
 ghost use Rattle.graft_laws.specs.Keeps.{Reached, Has};
@@ -98,4 +99,12 @@ pub fn tables_are_what_is_decided()
     ensures informed { (setup : Setup) (w : World) (a b : ℕ) → Reached setup w → Informed setup a b w }
     ensures answered { (setup : Setup) (w : World) (r : ℕ) → IsSetup setup → Reached setup w → Answered setup r (w.router r) }
     ensures whole { (setup : Setup) (w : World) (p : ℕ) → IsSetup setup → Reached setup w → p < peerings_in setup → Has setup (IsWhole setup) w p }
+{}
+
+/// Where nothing is left to do, the tables of all routers solve the decision equations (RFC 4271, section 9.1) for the placement by the operator's log:
+/// each best route is the choice between the router's own network, what the sessions that it holds heard, and what the others tell now; each session is
+/// live where it belongs, with the link turned there; its remote received all that was told, and all that the remote said was got; and no other router has
+/// anything of it.
+pub fn quiet_solves()
+    ensures { (setup : Setup) (events : List Event) (w : World) → IsSetup setup → Run setup (first_world setup) events w → Quiet setup w → Solves setup w }
 {}
