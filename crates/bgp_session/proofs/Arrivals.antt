@@ -1,12 +1,11 @@
 -- What an arriving segment is to the endpoint that an end stands for.
-use Rattle.std.proofs.Common.{◌≡◌, ℕ, ◌+◌, ◌-◌, ◌%◌, ◌^◌, ◌<◌, ◌≤◌, length, Bool, Option, Some, None, refl, sym, ap, ◌∙◌, subst, arith, inl, inr}
-use Rattle.std.specs.Prelude.{IsSome, nat_lt, if◌then◌else◌}
+use Rattle.std.proofs.Common.{◌≡◌, ℕ, ◌+◌, ◌%◌, ◌^◌, ◌<◌, ◌≤◌, length, Option, Some, None, sym, ap, ◌∙◌, subst, arith, inl, inr}
+use Rattle.std.specs.Prelude.{IsSome}
 use Rattle.std.specs.Option.{option_or}
-use Rattle.std.specs.FinMap as map
 use Rattle.std.proofs.lemmas.Bool.{cases_lt}
-use Rattle.tcp_seq.specs.Numbers.{number, offset_from}
+use Rattle.tcp_seq.specs.Numbers.{number}
 use Rattle.tcp_seq.specs.Rules.{IsAck}
-use Rattle.tcp_seq.specs.Endpoint.{Endpoint, PlacedSegment, IsInStreams, byte_brought, byte_from, received}
+use Rattle.tcp_seq.specs.Endpoint.{Endpoint, PlacedSegment, IsInStreams, byte_brought, received}
 use Rattle.tcp_seq.specs.declared.rules.AckKind.TheVariants.{New, Beyond}
 use Rattle.tcp_seq.specs.declared.segment.Segment.{Segment}
 use Rattle.tcp_seq.specs.declared.state.EndState.{EndState}
@@ -18,7 +17,7 @@ use Rattle.tcp_end.specs.State.{counted_from, expected, got, own_number}
 use Rattle.tcp_end.specs.Standing.{EndStands, Numbered}
 use Rattle.tcp_end.specs.declared.arrival.Arrival.{Arrival}
 use Rattle.tcp_end.specs.declared.arrival.Arrival.TheVariants.{Outside, Ahead, Duplicate, Accepted}
-use Rattle.tcp_end.proofs.Arrives.{acceptable_for, acceptable_to, beyond_for, beyond_to, brought_is, brought_to, byte_then_is, nothing_new, with_, within_sent}
+use Rattle.tcp_end.proofs.Arrives.{acceptable_for, acceptable_to, beyond_for, beyond_to, brought_is, brought_to, byte_then_is, nothing_new, within_sent}
 use Rattle.tcp_end.proofs.Places.{ahead_offset, behind_offset, held_from, new_place}
 use Rattle.tcp_end.proofs.Steps.{received_is}
 use Rattle.bgp_session.specs.Steps.{ArrivesAs, BringsTo}

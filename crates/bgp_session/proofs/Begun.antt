@@ -1,15 +1,13 @@
 -- A session that begins.
-use Rattle.std.proofs.Common.{◌≡◌, ℕ, ◌+◌, ◌^◌, ◌<◌, ◌≤◌, Bool, true, false, cond, List, [], ◌∷◌, ◌++◌, length, Option, None, refl, sym, ap, ◌∙◌, subst, append-nil, arith}
+use Rattle.std.proofs.Common.{◌≡◌, ℕ, ◌^◌, ◌<◌, ◌≤◌, Bool, true, false, cond, List, [], ◌∷◌, length, None, refl, sym, subst, append-nil, arith}
 use Rattle.std.specs.FinMap as map
 use Rattle.std.specs.List.{flat_map}
 use Rattle.bgp_types.specs.Spelling.{cap_octets, param_octets}
 use Rattle.bgp_story.specs.Opens.{as_cap}
 use Rattle.bgp_story.proofs.Ranges.{field_range}
 use Rattle.bgp_types.specs.declared.message.Message.TheVariants.{OpenMsg}
-use Rattle.bgp_types.specs.declared.message.OpenMsg as open_type
 use Rattle.bgp_types.specs.Spelling.{spell}
 use Rattle.bgp_types.specs.Writable.{IsWritable}
-use Rattle.tcp_seq.specs.Endpoint.{Endpoint, fresh_endpoint}
 use Rattle.tcp_seq.specs.declared.segment.Way.TheVariants.{Remote}
 use Rattle.tcp_seq.specs.declared.state.EndState.{EndState}
 use Rattle.tcp_end.specs.State.{fresh}
@@ -21,7 +19,6 @@ use Rattle.bgp_story.specs.Legal.{IsPeering}
 use Rattle.bgp_story.specs.Readings.{put_bytes}
 use Rattle.session_value.specs.declared.config.SessionConfig.{SessionConfig}
 use Rattle.session_value.specs.Sessions.{begun, peering_of}
-use Rattle.session_value.specs.Ties.{IsTied}
 use Rattle.session_value.proofs.Rooms.{open_size}
 use Rattle.session_value.proofs.Ties.{begun_is}
 use Rattle.bgp_session.specs.declared.parts.Parts.{Parts}

@@ -2,13 +2,13 @@
 use Rattle.std.proofs.Common.{◌≡◌, ℕ, ◌+◌, ◌-◌, ◌^◌, ◌≤◌, List, ◌++◌, length, length-append, take, drop, refl, sym, ap, ◌∙◌, subst, append_assoc, arith}
 use Rattle.std.proofs.Math.Seq.{drop-append_seam, take-append_seam}
 use Rattle.tcp_seq.specs.Numbers.{plus}
-use Rattle.tcp_seq.specs.Endpoint.{Bytes, Endpoint, ReadsBytes, SendsBytes}
+use Rattle.tcp_seq.specs.Endpoint.{Bytes, ReadsBytes, SendsBytes}
 use Rattle.tcp_seq.specs.declared.state.EndState.{EndState}
 use Rattle.tcp_end.specs.State.{got, stream_length, unsent}
 use Rattle.tcp_end.specs.Standing.{EndStands, Becomes}
 use Rattle.tcp_end.specs.Whole.{arrived_of, endpoint_of}
 use Rattle.tcp_end.proofs.Steps.{sends, reads_by}
-use Rattle.session_value.specs.Cases.{sending, reading}
+use Rattle.session_value.specs.Cases.{reading}
 
 -- bytes at the end of the waiting ones
 abbrev pub with_sent : EndState → List ℕ → EndState

@@ -1,21 +1,17 @@
 -- What a segment that arrives or is emitted leaves.
-use Rattle.std.proofs.Common.{◌≡◌, ℕ, ◌+◌, ◌-◌, ◌^◌, ◌<◌, ◌≤◌, Bool, true, List, length, take, drop, length-take, Option, Some, None, refl, sym, ap, ◌∙◌, subst, arith, inl, inr}
+use Rattle.std.proofs.Common.{◌≡◌, ℕ, ◌+◌, ◌^◌, ◌<◌, ◌≤◌, Bool, true, List, length, drop, length-take, Option, Some, None, refl, sym, ap, ◌∙◌, subst, arith, inl, inr}
 use Rattle.std.specs.Prelude.{◌⊎◌, ◌↔◌, IfOk, IfSome, IsNone, OnErr, OnOk, Result, Ok, Err}
 use Rattle.std.proofs.lemmas.Bool.{cases_lt}
 use Rattle.graft_edge.specs.declared.memory.NoMemory.{NoMemory}
-use Rattle.tcp_seq.specs.Numbers.{number}
-use Rattle.tcp_seq.specs.Rules.{IsInStream}
-use Rattle.tcp_seq.specs.Endpoint.{Endpoint, PlacedSegment, EmitsNext, EmitsAgain, EmitsAnswer, EmitsEmpty, EmitsSlice, IsInStreams, TakesSegment, received, received_bytes, slice_at}
+use Rattle.tcp_seq.specs.Endpoint.{Endpoint, PlacedSegment, EmitsNext, EmitsAgain, EmitsAnswer, EmitsEmpty, EmitsSlice, IsInStreams, TakesSegment, slice_at}
 use Rattle.tcp_seq.specs.Endpoint.{next_length as next_length_of, again_length as again_length_of}
 use Rattle.tcp_seq.specs.Placed.{placed}
 use Rattle.tcp_seq.specs.declared.segment.Segment.{Segment}
-use Rattle.tcp_seq.specs.declared.segment.Way.TheVariants.{Remote}
 use Rattle.tcp_seq.specs.declared.state.EndState.{EndState}
 use Rattle.tcp_seq.proofs.Emitting.{next_is_slice, again_is_slice}
 use Rattle.tcp_end.specs.Arriving.{IsArrival, Leaves}
-use Rattle.tcp_end.specs.State.{again_length, got, next_length, outstanding, segment_at, unsent}
+use Rattle.tcp_end.specs.State.{again_length, next_length, outstanding, segment_at, unsent}
 use Rattle.tcp_end.specs.Standing.{EndStands, Numbered, Becomes, BecomesEmitting, EmitsBy, TakesBy}
-use Rattle.tcp_end.specs.Whole.{endpoint_of}
 use Rattle.tcp_end.specs.declared.arrival.Arrival.{Arrival}
 use Rattle.tcp_end.specs.declared.arrival.Arrival.TheVariants.{Outside, Ahead, Duplicate, Accepted}
 use Rattle.tcp_end.proofs.Steps.{next_length_is, received_is, stream_is}

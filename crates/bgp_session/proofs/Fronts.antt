@@ -1,5 +1,5 @@
 -- Whether something stands at the front of bytes.
-use Rattle.std.proofs.Common.{◌≡◌, ℕ, ◌≤◌, Bool, List, [], ◌++◌, length, length-append, length-take, take, drop, take-append-drop, append-nil, Option, Some, None, Result, Ok, Err, refl, sym, ap, ◌∙◌, subst, inl, inr, arith}
+use Rattle.std.proofs.Common.{◌≡◌, ℕ, ◌≤◌, List, [], length, length-append, length-take, take, drop, take-append-drop, append-nil, Option, Some, None, Err, refl, sym, ap, ◌∙◌, subst, inl, inr, arith}
 use Rattle.std.specs.Prelude.{IsSome}
 use Rattle.bgp_types.specs.declared.fault.Expected.{Expected}
 use Rattle.bgp_types.specs.declared.fault.HeaderFault.{HeaderFault}

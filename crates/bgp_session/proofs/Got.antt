@@ -1,6 +1,6 @@
 -- What is got leaves a session that is tied, by the case of a frame.
-use Rattle.std.proofs.Common.{◌≡◌, ℕ, ◌+◌, ◌-◌, ◌^◌, ◌<◌, ◌≤◌, Bool, true, false, List, [], ◌∷◌, ◌++◌, length, drop, Option, Some, None, Result, Ok, Err, refl, sym, ap, ◌∙◌, subst, append-nil, length-append, lit≤, arith}
-use Rattle.std.specs.Prelude.{◌≢◌, IfSome, fold}
+use Rattle.std.proofs.Common.{◌≡◌, ℕ, ◌+◌, ◌^◌, ◌≤◌, Bool, false, List, [], ◌∷◌, ◌++◌, length, Option, Some, None, Result, Ok, Err, refl, sym, ap, ◌∙◌, subst, append-nil, length-append, lit≤, arith}
+use Rattle.std.specs.Prelude.{IfSome, fold}
 use Rattle.std.specs.Option.{option_map}
 use Rattle.std.specs.List.{flat_map}
 use Rattle.std.proofs.lemmas.List.Sums.{fold-append}
@@ -8,9 +8,7 @@ use Rattle.bgp_types.specs.declared.fault.Expected.{Expected}
 use Rattle.bgp_types.specs.declared.message.Message.{Message}
 use Rattle.bgp_types.specs.declared.message.Message.TheVariants.{OpenMsg, UpdateMsg, NoticeMsg, KeepaliveMsg}
 use Rattle.bgp_types.specs.declared.message.Notice.{Notice}
-use Rattle.bgp_types.specs.declared.message.OpenMsg as open_type
 use Rattle.bgp_types.specs.declared.message.SessionState.{SessionState}
-use Rattle.bgp_types.specs.declared.message.SessionState.TheVariants.{OpenSent, OpenConfirm, Established, Closed}
 use Rattle.bgp_types.specs.Faults.{fault_in}
 use Rattle.bgp_types.specs.FirstFault.{message_of}
 use Rattle.bgp_types.specs.Spelling.{spell}
@@ -24,13 +22,12 @@ use Rattle.tcp_end.specs.Whole.{endpoint_of}
 use Rattle.tcp_end.proofs.Steps.{stream_is}
 use Rattle.bgp_story.specs.declared.line.Line.{Line}
 use Rattle.bgp_story.specs.declared.line.Line.TheVariants.{Put, Got}
-use Rattle.bgp_story.specs.Legal.{Peering, Allowed, count_round, expected_next, got_open, hold, is_wide, open_in, reply_to, silence}
+use Rattle.bgp_story.specs.Legal.{Peering, Allowed, count_round, got_open, hold, is_wide, reply_to, silence}
 use Rattle.bgp_story.specs.Readings.{Routes, apply_if, put_bytes, put_in, got_bytes, unless_closed, update_in}
 use Rattle.bgp_story.specs.States.{Begins, answered, state_of}
 use Rattle.session_value.specs.Cases.{GetsFrame, put_by, sending}
 use Rattle.session_value.specs.Cases as cases
-use Rattle.session_value.specs.Sessions.{SessionValue, hold_time, peering_of}
-use Rattle.session_value.specs.Ties.{IsTied, most_put}
+use Rattle.session_value.specs.Sessions.{peering_of}
 use Rattle.session_value.proofs.Gets as lines_got
 use Rattle.session_value.proofs.GotTies.{gets_tied}
 use Rattle.session_value.proofs.Rooms.{got_has_room, most_any}

@@ -1,10 +1,8 @@
 -- An UPDATE that is put leaves a session that is tied.
-use Rattle.std.proofs.Common.{◌≡◌, ℕ, ◌+◌, ◌-◌, ◌^◌, ◌<◌, ◌≤◌, min, Bool, true, List, [], ◌∷◌, ◌++◌, length, Option, refl, sym, ap, ◌∙◌, subst, append-nil, arith}
+use Rattle.std.proofs.Common.{◌≡◌, ℕ, ◌+◌, ◌-◌, ◌^◌, ◌≤◌, min, Bool, true, List, [], ◌∷◌, ◌++◌, length, sym, ap, ◌∙◌, subst, append-nil, arith}
 use Rattle.std.specs.Option.{option_map}
-use Rattle.std.specs.Prelude.{fold}
 use Rattle.std.proofs.lemmas.List.Sums.{fold-append}
 use Rattle.bgp_types.specs.declared.message.Message.TheVariants.{UpdateMsg}
-use Rattle.bgp_types.specs.declared.message.SessionState.{SessionState}
 use Rattle.bgp_types.specs.declared.message.SessionState.TheVariants.{Established}
 use Rattle.bgp_types.specs.declared.message.Update.{Update}
 use Rattle.bgp_types.specs.Spelling.{spell}
@@ -15,12 +13,12 @@ use Rattle.tcp_end.specs.Whole.{endpoint_of}
 use Rattle.tcp_end.proofs.Steps.{stream_is}
 use Rattle.bgp_story.specs.declared.line.Line.{Line}
 use Rattle.bgp_story.specs.declared.line.Line.TheVariants.{Put}
-use Rattle.bgp_story.specs.Legal.{Peering, Allowed, IsOneWay, count_round, got_open, hold, is_up, is_wide, silence}
+use Rattle.bgp_story.specs.Legal.{Peering, Allowed, IsOneWay, count_round, is_up, is_wide, silence}
 use Rattle.bgp_story.specs.Readings.{Routes, apply, put_bytes, got_bytes}
 use Rattle.bgp_story.specs.States.{Begins, state_of}
 use Rattle.bgp_story.proofs.Grows.{hold_stays, open_stays}
 use Rattle.session_value.specs.Cases.{Changes, PutsUpdate, sending}
-use Rattle.session_value.specs.Sessions.{SessionValue, hold_time, peering_of}
+use Rattle.session_value.specs.Sessions.{peering_of}
 use Rattle.session_value.proofs.PutTies.{puts_tied}
 use Rattle.session_value.proofs.Updates as lines_put
 use Rattle.bgp_session.specs.declared.parts.Parts.{Parts}

@@ -1,6 +1,6 @@
 -- What the two OPENs settled.
-use Rattle.std.proofs.Common.{◌≡◌, ℕ, ◌+◌, ◌-◌, ◌<◌, ◌≤◌, min, Bool, true, false, cond, eqb, List, [], ◌∷◌, ◌++◌, length, drop, Option, Some, None, Result, Ok, Err, refl, sym, ap, ◌∙◌, subst, arith}
-use Rattle.std.specs.Prelude.{◌≢◌, ◌==◌, ◌&&◌, ◌||◌, not, fold}
+use Rattle.std.proofs.Common.{◌≡◌, ℕ, ◌<◌, ◌≤◌, Bool, true, false, cond, eqb, List, [], ◌∷◌, ◌++◌, drop, Option, Some, None, Result, Ok, Err, refl, sym, ap, ◌∙◌, arith}
+use Rattle.std.specs.Prelude.{◌≢◌, ◌==◌, ◌&&◌, not}
 use Rattle.std.specs.Option.{option_map}
 use Rattle.std.proofs.lemmas.Bool.Decides.{nat_tests}
 use Rattle.bgp_types.specs.declared.fault.Expected.{Expected}
@@ -20,12 +20,12 @@ use Rattle.bgp_types.specs.UpdateBody.{update_of}
 use Rattle.bgp_types.specs.Values.{is_no_host, is_short_hold}
 use Rattle.bgp_story.specs.declared.line.Line.{Line}
 use Rattle.bgp_story.specs.declared.line.Line.TheVariants.{Put, Got, Tick}
-use Rattle.bgp_story.specs.Legal.{Peering, Allowed, both_offer, expected_next, got_open, hold, is_up, is_wide, open_in, smaller_hold}
-use Rattle.bgp_story.specs.Opens.{offers, home_open, as_cap}
+use Rattle.bgp_story.specs.Legal.{Peering, Allowed, both_offer, expected_next, got_open, hold, is_wide, open_in, smaller_hold}
+use Rattle.bgp_story.specs.Opens.{offers, home_open}
 use Rattle.bgp_story.proofs.Grows.{open_stays}
 use Rattle.bgp_story.proofs.HeaderKinds.{read_of}
 use Rattle.bgp_story.proofs.Ranges.{peering_of as its_peering}
-use Rattle.session_value.specs.Sessions.{hold_time, peering_of}
+use Rattle.session_value.specs.Sessions.{peering_of}
 use Rattle.session_value.proofs.Openings.{only_opened}
 use Rattle.session_value.proofs.Replies.{only_open}
 use Rattle.bgp_session.specs.declared.parts.Opened.{Opened}

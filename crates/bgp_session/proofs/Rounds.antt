@@ -1,5 +1,5 @@
 -- A round leaves a session that is tied.
-use Rattle.std.proofs.Common.{◌≡◌, ℕ, ◌+◌, ◌-◌, ◌/◌, ◌%◌, ◌^◌, ◌<◌, ◌≤◌, Bool, true, false, cond, eqb, List, [], ◌∷◌, ◌++◌, length, Option, Some, None, Result, Ok, Err, refl, sym, ap, ◌∙◌, subst, append-nil, lit≤, arith}
+use Rattle.std.proofs.Common.{◌≡◌, ℕ, ◌+◌, ◌-◌, ◌/◌, ◌%◌, ◌^◌, ◌≤◌, Bool, true, false, cond, eqb, List, [], ◌∷◌, ◌++◌, length, Option, Some, None, refl, sym, ap, ◌∙◌, subst, append-nil, lit≤, arith}
 use Rattle.std.specs.Prelude.{◌≢◌, IfSome, fold}
 use Rattle.std.specs.FinMap as map
 use Rattle.bgp_types.specs.Prefixes.{PrefixValue}
@@ -8,10 +8,9 @@ use Rattle.std.specs.List.{flat_map}
 use Rattle.std.proofs.lemmas.Bool.Decides.{nat_tests}
 use Rattle.std.proofs.lemmas.List.Sums.{fold-append}
 use Rattle.bgp_types.specs.declared.message.Message.{Message}
-use Rattle.bgp_types.specs.declared.message.Message.TheVariants.{OpenMsg, UpdateMsg, NoticeMsg, KeepaliveMsg}
-use Rattle.bgp_types.specs.declared.message.OpenMsg as open_type
+use Rattle.bgp_types.specs.declared.message.Message.TheVariants.{NoticeMsg, KeepaliveMsg}
 use Rattle.bgp_types.specs.declared.message.SessionState.{SessionState}
-use Rattle.bgp_types.specs.declared.message.SessionState.TheVariants.{OpenSent, OpenConfirm, Established, Closed}
+use Rattle.bgp_types.specs.declared.message.SessionState.TheVariants.{Closed}
 use Rattle.bgp_types.specs.Spelling.{spell}
 use Rattle.bgp_types.specs.Writable.{IsWritable}
 use Rattle.tcp_seq.specs.Endpoint.{Endpoint}
@@ -21,19 +20,17 @@ use Rattle.tcp_end.specs.Whole.{endpoint_of}
 use Rattle.tcp_end.proofs.Steps.{stream_is}
 use Rattle.bgp_story.specs.declared.line.Line.{Line}
 use Rattle.bgp_story.specs.declared.line.Line.TheVariants.{Put, Tick}
-use Rattle.bgp_story.specs.Legal.{Peering, Allowed, count_round, got_open, hold, hold_expired, is_up, is_wide, reply_at, silence}
+use Rattle.bgp_story.specs.Legal.{Peering, Allowed, count_round, hold, hold_expired, is_wide, reply_at, silence}
 use Rattle.bgp_story.specs.Readings.{Routes, put_bytes, put_in, got_bytes, unless_closed}
 use Rattle.bgp_story.specs.States.{Begins, answered, state_of}
 use Rattle.bgp_story.proofs.Grows.{hold_stays, open_stays}
 use Rattle.session_value.specs.Cases.{PassesRound, put_by, sending}
-use Rattle.session_value.specs.Sessions.{SessionValue, hold_time, peering_of}
-use Rattle.session_value.specs.Ties.{IsTied, most_put}
+use Rattle.session_value.specs.Sessions.{peering_of}
 use Rattle.session_value.proofs.Rounds as lines_passed
 use Rattle.session_value.proofs.Rounds.{Answers, ends, beats, stays, answers_are}
 use Rattle.session_value.proofs.RoundTies.{passes_tied}
 use Rattle.session_value.proofs.Replies.{up_open, while_unclosed}
 use Rattle.session_value.proofs.Rooms.{passed_has_room, most_any}
-use Rattle.bgp_session.specs.declared.parts.Opened.{Opened}
 use Rattle.bgp_session.specs.declared.parts.Parts.{Parts}
 use Rattle.bgp_session.specs.declared.answers.TickStep.{TickStep}
 use Rattle.bgp_session.specs.declared.answers.TickStep.TheVariants as tick

@@ -1,4 +1,3 @@
-use Rattle.std.proofs.Common.{rules, ap}
 use Rattle.bgp_session.proofs.Reading.{closes}
 use Rattle.bgp_session.proofs.parts.Parts.close.Goals as goal
 

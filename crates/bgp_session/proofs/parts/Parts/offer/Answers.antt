@@ -1,4 +1,4 @@
-use Rattle.std.proofs.Common.{rules, ◌≤◌, arith, sym}
+use Rattle.std.proofs.Common.{rules, ◌≤◌}
 use Rattle.bgp_session.specs.Inner.{value_of}
 use Rattle.bgp_session.specs.Steps.{offered_length}
 use Rattle.bgp_session.proofs.Offered.{offered_begins, offered_fits, offers_to}

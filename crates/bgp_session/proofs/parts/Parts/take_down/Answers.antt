@@ -1,6 +1,6 @@
-use Rattle.std.proofs.Common.{rules, refl, ℕ, ◌+◌, ◌^◌, ◌≤◌, length, List, sym, subst}
+use Rattle.std.proofs.Common.{rules, refl, ℕ, ◌+◌, ◌^◌, ◌≤◌, length, List, subst}
 use Rattle.tcp_end.specs.State.{stream_length}
-use Rattle.bgp_session.proofs.Got.{front_within, got_begins, got_room, reply_of, reply_writable}
+use Rattle.bgp_session.proofs.Got.{got_begins, got_room, reply_of, reply_writable}
 use Rattle.bgp_session.proofs.parts.Parts.take_down.Goals as goal
 
 pub written-requires : goal.written-requires

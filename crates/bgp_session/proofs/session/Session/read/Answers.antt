@@ -1,7 +1,7 @@
 use Rattle.std.proofs.Common.{ap, ◌∙◌, subst}
 use Rattle.std.specs.Prelude.{IfOk}
 use Rattle.bgp_session.specs.Running.{RunningSession}
-use Rattle.bgp_session.specs.Inner.{running, value_of}
+use Rattle.bgp_session.specs.Inner.{running}
 use Rattle.bgp_session.specs.Steps.{Reads}
 use Rattle.bgp_session.proofs.session.Session.read.Goals as goal
 
