@@ -1,24 +1,22 @@
 -- What was told on a live established session is what is to be told, but for what is due.
-use Rattle.std.proofs.Common.{◌≡◌, ◌≢◌, ◌==◌, cond, ℕ, zero, suc, ◌<◌, Bool, true, false, List, [], ◌∷◌, ◌++◌, length, Option, Some, None, refl, sym, ap, ◌∙◌, subst, arith, ◌⊎◌, inl, inr}
+use Rattle.std.proofs.Common.{◌≡◌, ◌≢◌, ◌==◌, ℕ, zero, suc, Bool, true, false, List, [], ◌∷◌, ◌++◌, Option, Some, None, refl, sym, ap, ◌∙◌, subst, arith, ◌⊎◌, inl, inr}
 use Rattle.std.specs.Prelude.{◌||◌, ◌&&◌, ◌↔◌, not, is_some, Contains, IsTrue, if◌then◌else◌}
-use Rattle.std.specs.List.{AllByRecursion, list_any, slice_index_or}
+use Rattle.std.specs.List.{AllByRecursion, list_any}
 use Rattle.std.specs.FinMap as map
 use Rattle.std.proofs.lemmas.Bool.{cases_eq}
-use Rattle.std.proofs.lemmas.Bool.Decides.{nat_tests}
-use Rattle.std.proofs.lemmas.List.Elements.{recursion_from_All, Contains-append_cases}
+use Rattle.std.proofs.lemmas.List.Elements.{recursion_from_All}
 use Rattle.bgp_types.specs.declared.attrs.Attrs.{Attrs}
 use Rattle.bgp_types.specs.declared.message.SessionState.{SessionState}
 use Rattle.bgp_types.specs.declared.message.SessionState.TheVariants.{OpenSent, OpenConfirm, Established, Closed}
-use Rattle.bgp_types.specs.FirstFault.{message_of}
 use Rattle.bgp_types.specs.Prefixes.{PrefixValue, same_prefix}
 use Rattle.bgp_types.specs.Tables.{prefix_cmp}
 use Rattle.bgp_types.proofs.Equality.{attrs_equal}
 use Rattle.bgp_types.proofs.OnceLaws.{is_same, same_itself}
 use Rattle.bgp_story.specs.Legal.{expected_next}
-use Rattle.bgp_story.specs.Readings.{Routes, IsLegal, ChangesTold, told, apply, unless_closed}
+use Rattle.bgp_story.specs.Readings.{Routes, IsLegal, told, apply, unless_closed}
 use Rattle.bgp_story.proofs.Updates.{PutUpdate, told_announced, told_withdrawn, told_others}
 use Rattle.session_value.specs.declared.config.SessionConfig.{SessionConfig}
-use Rattle.session_value.specs.Cases.{GetsFrame, PutsUpdate, PassesRound, Changes}
+use Rattle.session_value.specs.Cases.{GetsFrame, PassesRound, Changes}
 use Rattle.session_value.specs.Sessions.{SessionValue, peering_of, state, hold_time}
 use Rattle.session_value.specs.Sets.{BestRoutes, Prefixes, has}
 use Rattle.session_value.specs.Ties.{IsOfStory}
@@ -29,12 +27,12 @@ use Rattle.session_value.proofs.Updates as updates
 use Rattle.graft_model.specs.Decisions.{chosen, to_tell, out_side}
 use Rattle.graft_model.specs.First.{first_router, place_in}
 use Rattle.graft_model.specs.GraftRows.{DueAgain}
-use Rattle.graft_model.specs.Parts.{Order, Place, Vacant, Live, Frozen, Shadow, RouterPart}
+use Rattle.graft_model.specs.Parts.{Order, Place, Vacant, Live, Shadow, RouterPart}
 use Rattle.graft_model.specs.Points.{at}
 use Rattle.graft_model.specs.RouterRows.{RouterTaken, RouterSent, DueThen, Follows, PutsNothing, PutsSome, update_for}
 use Rattle.graft_model.specs.Setups.{Setup, PeeringSetup}
 use Rattle.graft_model.specs.Steps.{RouterEvent, Put, Emit, Arrive, Stray, Got, Decide, Tell, Hear, Admit, Refuse, Freeze, Leave, Land, TurnBack, Return, Clear, Tick, router_row}
-use Rattle.graft_model.specs.TableRows.{Decides, DueEverywhere, holds_established, is_established, only}
+use Rattle.graft_model.specs.TableRows.{Decides, DueEverywhere, holds_established, is_established}
 use Rattle.graft_laws.specs.Tables.{Answered}
 use Rattle.graft_laws.proofs.Decided.{best_stays}
 use Rattle.graft_laws.proofs.Lists.{all_front}

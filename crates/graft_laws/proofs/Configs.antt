@@ -5,7 +5,7 @@ use Rattle.session_value.specs.declared.config.SessionConfig.{SessionConfig}
 use Rattle.graft_model.specs.Setups.{Setup, IsSetup, peerings_in}
 use Rattle.graft_model.specs.Parts.{World}
 use Rattle.graft_laws.specs.Phases.{Phase}
-use Rattle.graft_laws.specs.Life.{Change, Rests, Begins, Admits, Refuses, Freezes, Leaves, Lands, TurnsBack, Returns, Clears, NotesRefusal, NotesSuccess, Puts, Emits, Arrives, Gets, Ticks, Strays, IsToSay, FarActs}
+use Rattle.graft_laws.specs.Life.{Change, Puts, Gets, Ticks}
 use Rattle.graft_laws.specs.Configs.{IsOwn}
 use Rattle.graft_laws.specs.Keeps.{Reached, Keeps, Has}
 use Rattle.graft_laws.proofs.Runs.{always_has}

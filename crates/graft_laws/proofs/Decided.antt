@@ -1,6 +1,6 @@
 -- What isn't to be decided again has been decided on what the router has.
-use Rattle.std.proofs.Common.{◌≡◌, ◌≢◌, ℕ, zero, suc, Bool, true, false, cond, List, [], ◌∷◌, ◌++◌, Option, Some, None, refl, sym, ap, ◌∙◌, subst, ◌⊎◌, inl, inr}
-use Rattle.std.specs.Prelude.{◌||◌, fold, if◌then◌else◌}
+use Rattle.std.proofs.Common.{◌≡◌, ◌≢◌, ℕ, zero, suc, Bool, true, false, cond, List, [], ◌∷◌, ◌++◌, Option, None, refl, sym, ap, ◌∙◌, ◌⊎◌, inl, inr}
+use Rattle.std.specs.Prelude.{◌||◌, fold}
 use Rattle.std.specs.List.{cons_option, filter_map, list_any}
 use Rattle.std.specs.FinMap as map
 use Rattle.std.proofs.lemmas.Bool.{cases_eq}
@@ -8,13 +8,11 @@ use Rattle.bgp_types.specs.Prefixes.{PrefixValue, same_prefix}
 use Rattle.bgp_types.specs.Tables.{prefix_cmp}
 use Rattle.bgp_types.proofs.OnceLaws.{same_itself}
 use Rattle.decision_core.specs.Choice.{choice, left_of, keep}
-use Rattle.loc_rib.specs.Values.{with_best}
 use Rattle.route_policy.specs.declared.best.Best.{Best}
 use Rattle.route_policy.specs.Candidates.{Candidate, own_candidates}
 use Rattle.session_value.specs.Sets.{Prefixes, has, Marks}
 use Rattle.graft_model.specs.Decisions.{entry_candidate, telling_candidate, chosen}
 use Rattle.graft_model.specs.First.{first_router}
-use Rattle.graft_model.specs.GraftRows.{Lands, Clears}
 use Rattle.graft_model.specs.Parts.{RouterPart, Entries, Tellings}
 use Rattle.graft_model.specs.Points.{at}
 use Rattle.graft_model.specs.RouterRows.{RouterTaken, RouterSent}

@@ -1,21 +1,19 @@
 -- What each event of a router does to the peerings: to its own, if it has one, and to the others.
-use Rattle.std.proofs.Common.{◌≡◌, ◌==◌, cond, ℕ, zero, suc, ◌<◌, ◌≤◌, Bool, true, false, List, [], ◌∷◌, ◌++◌, Option, Some, None, refl, sym, ap, ◌∙◌, subst, arith, inl, inr}
+use Rattle.std.proofs.Common.{◌≡◌, ◌==◌, ℕ, ◌<◌, ◌≤◌, Bool, true, false, List, [], ◌∷◌, ◌++◌, Option, Some, None, refl, sym, ap, ◌∙◌, subst, arith, inl, inr}
 use Rattle.std.proofs.lemmas.Bool.Decides.{nat_tests}
 use Rattle.std.proofs.lemmas.List.{append-nil}
 use Rattle.std.specs.Prelude.{◌≢◌, ◌⊎◌, filter, IsSome}
 use Rattle.std.specs.List.{AllByRecursion}
 use Rattle.session_value.specs.Sessions.{SessionValue}
-use Rattle.graft_steps.specs.declared.refusal.Outcome.{Outcome}
-use Rattle.graft_model.specs.Points.{at}
 use Rattle.graft_model.specs.Setups.{Setup, ScriptGraft, peerings_in, room_of}
-use Rattle.graft_model.specs.Parts.{Place, Vacant, Mesh, RouterPart, GraftOrder, Report, Outward, World}
-use Rattle.graft_model.specs.RouterRows.{RouterTaken, OrderIn, SegmentIn, MeshIn, RouterSent, MeshTo, OutwardTo, ReportOut}
+use Rattle.graft_model.specs.Parts.{Place, Vacant, Mesh, RouterPart, GraftOrder, Report, World}
+use Rattle.graft_model.specs.RouterRows.{RouterTaken, OrderIn, MeshIn, RouterSent, MeshTo, ReportOut}
 use Rattle.graft_model.specs.GraftRows.{taken_in}
 use Rattle.graft_model.specs.Steps.{Heads}
 use Rattle.graft_laws.specs.Phases.{Phase, only, only2}
 use Rattle.graft_laws.specs.Log.{graft_at, is_peering, is_of}
-use Rattle.graft_laws.specs.Owned.{is_on, mesh_of, orders_of, reports_of, Stands, IsHeld, IsAbsent, Owned}
-use Rattle.graft_laws.specs.Moves.{mesh_taken, inward_taken, orders_taken, mesh_sent, outward_sent, reports_sent, RouterMoves}
+use Rattle.graft_laws.specs.Owned.{is_on, mesh_of, orders_of, Stands, IsAbsent, Owned}
+use Rattle.graft_laws.specs.Moves.{mesh_taken, orders_taken, reports_sent, RouterMoves}
 use Rattle.graft_laws.proofs.Others.{AreOthers, Apart, absent_still, untouched_by_router}
 use Rattle.graft_laws.proofs.Rests.{rests_by_router}
 use Rattle.graft_laws.proofs.Following.{Followed, none_only, none_only2, own_head}

@@ -1,8 +1,6 @@
 -- No actor drops an item.
-use Rattle.std.proofs.Common.{◌≡◌, ◌==◌, cond, ℕ, ◌<◌, ◌≤◌, ◌+◌, ◌^◌, Bool, true, false, List, [], ◌∷◌, length, Option, Some, None, refl, sym, ap, ◌∙◌, subst}
-use Rattle.std.specs.Prelude.{slice_get}
-use Rattle.std.specs.List.{AllByRecursion}
-use Rattle.graft_model.specs.Setups.{Setup, IsSetup, SayStep, peerings_in}
+use Rattle.std.proofs.Common.{ℕ, ◌<◌, Some}
+use Rattle.graft_model.specs.Setups.{Setup, IsSetup, peerings_in}
 use Rattle.graft_model.specs.Parts.{World}
 use Rattle.graft_model.specs.FarRows.{FarTaken, OutwardIn, SayIn}
 use Rattle.graft_model.specs.Taking.{FarMayTake}

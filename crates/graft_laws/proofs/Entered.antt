@@ -1,5 +1,5 @@
 -- Each router has of a peering the entries that it is to have.
-use Rattle.std.proofs.Common.{◌≡◌, ◌≢◌, ◌==◌, cond, ℕ, ◌<◌, Bool, true, false, List, [], ◌∷◌, ◌++◌, Option, Some, None, refl, sym, ap, ◌∙◌, subst, arith, ◌⊎◌, inl, inr}
+use Rattle.std.proofs.Common.{◌≡◌, ◌≢◌, ◌==◌, ℕ, true, false, List, [], ◌∷◌, ◌++◌, Option, refl, sym, ap, ◌∙◌, subst, arith, ◌⊎◌, inl, inr}
 use Rattle.std.specs.Prelude.{option_map, unwrap_or}
 use Rattle.std.proofs.lemmas.Bool.{cases_eq}
 use Rattle.std.proofs.lemmas.Bool.Decides.{nat_tests}
@@ -18,14 +18,12 @@ use Rattle.session_value.specs.Cases.{PutsUpdate}
 use Rattle.session_value.specs.Sessions.{SessionValue, peering_of, begun}
 use Rattle.route_policy.specs.Candidates.{imported}
 use Rattle.graft_model.specs.Decisions.{entry_of, remote_identifier, session_route}
-use Rattle.graft_model.specs.First.{first_world}
 use Rattle.graft_model.specs.Parts.{Order, Live, Entries, Entry, World}
 use Rattle.graft_model.specs.RouterRows.{BringsIn}
 use Rattle.graft_model.specs.Setups.{Setup, rules_for}
-use Rattle.graft_laws.specs.Keeps.{Reached, Keeps}
-use Rattle.graft_laws.specs.Life.{Change, Rests, Begins, Admits, Refuses, Freezes, Leaves, Lands, TurnsBack, Returns, Clears, NotesRefusal, NotesSuccess, Puts, Emits, Arrives, Gets, Ticks, Strays, IsToSay, FarActs, SameEntries, Enters, Drops}
-use Rattle.graft_laws.specs.Owned.{Stands}
-use Rattle.graft_laws.specs.Phases.{Stage, Ordered, Stored, Halted, Moving, Landed, Returning, Declined, Cleared, Phase, Idle, Busy, place_by, InBounds}
+use Rattle.graft_laws.specs.Keeps.{Keeps}
+use Rattle.graft_laws.specs.Life.{Change, Rests, Begins, Admits, Refuses, Freezes, Leaves, Lands, TurnsBack, Returns, Clears, NotesRefusal, NotesSuccess, Puts, Emits, Arrives, Gets, Ticks, Strays, IsToSay, FarActs, SameEntries, Enters}
+use Rattle.graft_laws.specs.Phases.{Ordered, Stored, Halted, Moving, Landed, Returning, Declined, Cleared, Phase, Idle, Busy, place_by, InBounds}
 use Rattle.graft_laws.specs.Tables.{has_entries, is_late, Entered}
 
 -- ---- what a session brings in

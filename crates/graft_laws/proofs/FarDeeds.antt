@@ -1,11 +1,9 @@
 -- What the events of far sides and of the operator do.
-use Rattle.std.proofs.Common.{◌≡◌, ◌==◌, cond, ℕ, ◌<◌, ◌≤◌, Bool, true, false, List, [], ◌∷◌, ◌++◌, Option, Some, None, refl, sym, ap, ◌∙◌, subst, arith, inl, inr}
+use Rattle.std.proofs.Common.{◌≡◌, ◌==◌, cond, ℕ, ◌<◌, Bool, true, false, List, [], ◌∷◌, ◌++◌, Option, Some, None, refl, sym, ap, ◌∙◌, subst, arith, inl, inr}
 use Rattle.std.proofs.lemmas.Bool.Decides.{nat_tests}
 use Rattle.std.proofs.lemmas.List.{append-nil}
 use Rattle.std.proofs.lemmas.Option.{slice_get_within, get_or_from_slice_get}
-use Rattle.std.specs.Prelude.{◌≢◌, ◌⊎◌, slice_get, filter, IsSome}
-use Rattle.std.specs.List.{AllByRecursion}
-use Rattle.graft_steps.specs.declared.refusal.Refusal.{Refusal}
+use Rattle.std.specs.Prelude.{◌≢◌, slice_get}
 use Rattle.graft_steps.specs.declared.refusal.Outcome.{Outcome}
 use Rattle.graft_steps.specs.declared.refusal.Outcome.TheVariants.{Accepted, Refused}
 use Rattle.tcp_seq.specs.Endpoint.{PlacedSegment}
@@ -15,14 +13,14 @@ use Rattle.graft_model.specs.Setups.{Setup, SayStep, MoveStep, IsSetup, IsStep, 
 use Rattle.graft_model.specs.Parts.{RouterPart, FarPart, OperatorPart, Mesh, Outward, GraftOrder, Report, World}
 use Rattle.graft_model.specs.FarRows.{FarTaken, OutwardIn, SayIn, FarSent}
 use Rattle.graft_model.specs.OperatorRows.{OperatorTaken, ReportIn, OperatorSent, OrderTo, SayTo, OrdersSay, OrdersGraft, Notes, BeginsGroup, placement}
-use Rattle.graft_model.specs.Steps.{FarEvent, far_row, OperatorEvent, Order, Note, Go, operator_row, Heads}
+use Rattle.graft_model.specs.Steps.{FarEvent, far_row, OperatorEvent, Order, Note, Go, operator_row}
 use Rattle.graft_laws.specs.Phases.{Stage, Ordered, Declined, Cleared, Phase, Idle, Busy, only, only2, place_by, mesh_by, orders_by, reports_by}
 use Rattle.graft_laws.specs.Log.{is_of, LogSays}
 use Rattle.graft_laws.specs.Owned.{mesh_of, orders_of, reports_of, Stands, IsAbsent}
 use Rattle.graft_laws.specs.Moves.{FarMoves, OperatorMoves, outward_taken, inward_sent, says_taken, orders_sent, says_sent, reports_taken}
 use Rattle.graft_laws.specs.Life.{SameLine, LineSays, SameEntries, Change, Rests, FarActs, Begins, NotesRefusal, NotesSuccess, IsToSay}
 use Rattle.graft_laws.proofs.Phases.{refusal_in, success_in}
-use Rattle.graft_laws.proofs.Others.{SameLog, same_log, absent_still, untouched_by_far, untouched_by_operator, still_sent, still_taken}
+use Rattle.graft_laws.proofs.Others.{SameLog, absent_still, untouched_by_far, untouched_by_operator, still_sent, still_taken}
 use Rattle.graft_laws.proofs.LogOrders.{order_others, order_own}
 use Rattle.graft_laws.proofs.LogNotes.{with_outcome, note_others, refused_log, accepted_log}
 use Rattle.graft_laws.proofs.Rests.{stands_still, rests}

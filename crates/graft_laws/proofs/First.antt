@@ -1,19 +1,17 @@
 -- Where everything stands in the first world.
-use Rattle.std.proofs.Common.{◌≡◌, ◌==◌, cond, ℕ, zero, suc, ◌+◌, ◌<◌, ◌≤◌, Bool, true, false, List, [], ◌∷◌, ◌++◌, length, Option, Some, None, refl, sym, ap, ◌∙◌, subst, arith}
+use Rattle.std.proofs.Common.{◌≡◌, ◌==◌, cond, ℕ, zero, suc, ◌+◌, ◌<◌, ◌≤◌, Bool, true, false, List, [], ◌∷◌, length, Option, Some, None, refl, sym, ap, ◌∙◌, subst, arith}
 use Rattle.std.proofs.lemmas.Bool.Decides.{nat_tests}
-use Rattle.std.proofs.lemmas.Option.{slice_get_within, slice_get_past}
-use Rattle.std.specs.Prelude.{◌≢◌, ◌&&◌, filter, map, slice_get, option_map, unwrap_or, is_some}
-use Rattle.std.specs.List.{AllByRecursion, range_with_len, last_or}
-use Rattle.session_value.specs.Sessions.{SessionValue, begun}
-use Rattle.session_value.specs.declared.config.SessionConfig.{SessionConfig}
-use Rattle.graft_model.specs.Setups.{Setup, PeeringSetup, ScriptGraft, IsSetup, routers_in, peerings_in, peering_numbers, room_of, starting_at, start_of, config_of, grafts_in}
-use Rattle.graft_model.specs.Parts.{Place, Vacant, Live, OperatorPart}
+use Rattle.std.proofs.lemmas.Option.{slice_get_past}
+use Rattle.std.specs.Prelude.{◌&&◌, filter, map, slice_get, option_map, unwrap_or}
+use Rattle.std.specs.List.{range_with_len, last_or}
+use Rattle.session_value.specs.Sessions.{begun}
+use Rattle.graft_model.specs.Setups.{Setup, PeeringSetup, ScriptGraft, IsSetup, routers_in, peerings_in, room_of, starting_at, start_of, grafts_in}
+use Rattle.graft_model.specs.Parts.{Vacant, Live, OperatorPart}
 use Rattle.graft_model.specs.First.{place_in, first_router, first_world}
 use Rattle.graft_model.specs.GraftRows.{is_taken, taken_in}
-use Rattle.graft_model.specs.OperatorRows.{placement, is_accepted}
-use Rattle.graft_laws.specs.Phases.{Phase, Idle, place_by}
+use Rattle.graft_laws.specs.Phases.{Idle, place_by}
 use Rattle.graft_laws.specs.Log.{grafts_of, Waits, LogSays}
-use Rattle.graft_laws.specs.Owned.{Stands, IsHeld, IsAbsent, Owned}
+use Rattle.graft_laws.specs.Owned.{Stands, Owned}
 use Rattle.graft_laws.proofs.Lists.{all_of, filter_none}
 
 -- ---- the log

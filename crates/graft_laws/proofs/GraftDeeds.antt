@@ -1,7 +1,7 @@
 -- What the events of a graft at routers do.
-use Rattle.std.proofs.Common.{◌≡◌, ◌==◌, cond, ℕ, ◌<◌, ◌≤◌, ◌+◌, Bool, true, false, List, [], ◌∷◌, ◌++◌, Option, Some, None, refl, sym, ap, ◌∙◌, subst, arith, inl, inr}
+use Rattle.std.proofs.Common.{◌≡◌, ◌==◌, cond, ℕ, ◌<◌, ◌≤◌, ◌+◌, Bool, true, false, List, [], ◌∷◌, ◌++◌, Option, Some, None, refl, sym, ap, ◌∙◌, subst, arith}
 use Rattle.std.proofs.lemmas.Bool.Decides.{nat_tests}
-use Rattle.std.specs.Prelude.{◌≢◌, ◌⊎◌, IsSome}
+use Rattle.std.specs.Prelude.{◌≢◌, IsSome}
 use Rattle.std.specs.List.{AllByRecursion}
 use Rattle.std.specs.FinMap as map
 use Rattle.graft_steps.specs.declared.refusal.Refusal.{Refusal}
@@ -13,20 +13,20 @@ use Rattle.session_value.specs.Sessions.{SessionValue, state, hold_time}
 use Rattle.graft_model.specs.Points.{at}
 use Rattle.graft_model.specs.Setups.{Setup, peerings_in, room_of}
 use Rattle.graft_model.specs.Parts.{Order, Place, Vacant, Live, Frozen, Shadow, RouterPart, Mesh, Moved, Back, Done, Outward, PointAt, GraftOrder, Report, World}
-use Rattle.graft_model.specs.RouterRows.{RouterTaken, OrderIn, SegmentIn, MeshIn, RouterSent, MeshTo, OutwardTo, ReportOut, BringsIn}
+use Rattle.graft_model.specs.RouterRows.{RouterTaken, OrderIn, MeshIn, RouterSent, MeshTo, OutwardTo, ReportOut, BringsIn}
 use Rattle.graft_model.specs.GraftRows.{Admits, Refuses, Freezes, Leaves, Lands, TurnsBack, Returns, Clears, is_taken, taken_in, refusal_of}
 use Rattle.graft_model.specs.Steps.{Heads}
 use Rattle.graft_laws.specs.Phases.{Ordered, Stored, Halted, Moving, Landed, Returning, Phase, Busy, only}
 use Rattle.graft_laws.specs.Log.{graft_at, is_of}
 use Rattle.graft_laws.specs.Owned.{is_on, Stands, Owned}
-use Rattle.graft_laws.specs.Moves.{reports_sent, RouterMoves}
+use Rattle.graft_laws.specs.Moves.{RouterMoves}
 use Rattle.graft_laws.proofs.Phases.{live_session, stored_at, halted_at, moved_in, back_in, done_in, order_in}
-use Rattle.graft_laws.proofs.Others.{AreOthers, Apart}
+use Rattle.graft_laws.proofs.Others.{AreOthers}
 use Rattle.graft_laws.proofs.Logs.{own_known}
-use Rattle.graft_laws.proofs.Following.{Followed, at_phase, at_here, at_other, own_head}
+use Rattle.graft_laws.proofs.Following.{at_phase, at_here, at_other, own_head}
 use Rattle.graft_laws.proofs.Grafts.{equal, admit_own, refuse_own, freeze_own, leave_own, land_own, turn_back_own, return_own, clear_own}
 use Rattle.graft_laws.proofs.Room.{no_more_taken, one_more_taken, room_left}
-use Rattle.graft_laws.proofs.Deeds.{differs, of_known, not_of, known_place, known_mesh, known_order, Deed, own_or_apart, no_items, other_order, other_report, other_mesh, other_sent, other_taken, no_outward}
+use Rattle.graft_laws.proofs.Deeds.{differs, of_known, not_of, known_place, known_order, Deed, own_or_apart, no_items, other_order, other_report, other_mesh, other_sent, other_taken, no_outward}
 
 abbrev order_of : ℕ → ℕ → Order
 order_of k t = record { graft = k; target = t }

@@ -1,5 +1,5 @@
 -- The events of a graft at routers: each leads its peering from one phase to the next.
-use Rattle.std.proofs.Common.{◌≡◌, ◌==◌, cond, ℕ, ◌<◌, Bool, true, false, List, [], ◌∷◌, ◌++◌, Option, Some, None, refl, sym, ap, ◌∙◌, subst, arith}
+use Rattle.std.proofs.Common.{◌≡◌, ◌==◌, cond, ℕ, Bool, true, false, [], ◌∷◌, ◌++◌, Some, None, refl, ap, ◌∙◌, arith}
 use Rattle.std.proofs.lemmas.Bool.Decides.{nat_tests}
 use Rattle.std.proofs.lemmas.List.{append-nil}
 use Rattle.std.specs.Prelude.{◌≢◌, filter}
@@ -8,17 +8,17 @@ use Rattle.graft_steps.specs.declared.refusal.Refusal.{Refusal}
 use Rattle.graft_steps.specs.declared.refusal.Outcome.TheVariants.{Accepted, Refused}
 use Rattle.graft_steps.specs.Refusals.{freeze_refusal}
 use Rattle.session_value.specs.Sessions.{SessionValue, state, hold_time}
-use Rattle.graft_model.specs.Setups.{Setup, routers_in}
-use Rattle.graft_model.specs.Parts.{Order, Place, Vacant, Live, Frozen, Shadow, RouterPart, Mesh, Moved, Back, Done, PointAt, GraftOrder, Report, World}
-use Rattle.graft_model.specs.RouterRows.{RouterTaken, OrderIn, SegmentIn, MeshIn, RouterSent, MeshTo, OutwardTo, ReportOut, BringsIn}
+use Rattle.graft_model.specs.Setups.{Setup}
+use Rattle.graft_model.specs.Parts.{Place, Vacant, Live, Frozen, Shadow, RouterPart, Mesh, Moved, Back, Done, PointAt, GraftOrder, Report, World}
+use Rattle.graft_model.specs.RouterRows.{OrderIn, MeshIn, MeshTo, OutwardTo, ReportOut, BringsIn}
 use Rattle.graft_model.specs.GraftRows.{refusal_of}
-use Rattle.graft_laws.specs.Phases.{Stage, Ordered, Stored, Halted, Moving, Landed, Returning, Declined, Cleared, Phase, Idle, Busy, only, only2, place_by}
-use Rattle.graft_laws.specs.Log.{graft_at, is_of, LogSays}
+use Rattle.graft_laws.specs.Phases.{Ordered, Stored, Halted, Moving, Landed, Returning, Declined, Cleared, Busy, only, only2, place_by}
+use Rattle.graft_laws.specs.Log.{is_of}
 use Rattle.graft_laws.specs.Owned.{is_on, mesh_of, Stands}
 use Rattle.graft_laws.specs.Moves.{RouterMoves}
-use Rattle.graft_laws.specs.Life.{SameLine, LineGets, SameEntries, Enters, Drops, Change, Admits, Refuses, Freezes, Leaves, Lands, TurnsBack, Returns, Clears}
+use Rattle.graft_laws.specs.Life.{Admits, Refuses, Freezes, Leaves, Lands, TurnsBack, Returns, Clears}
 use Rattle.graft_laws.proofs.Logs.{log_on, own_known}
-use Rattle.graft_laws.proofs.Following.{Followed, own_only, own_only2, none_only, none_only2, Shifts, shifted, line_by_router, line_gets, same_entries, enters, drops}
+use Rattle.graft_laws.proofs.Following.{Followed, own_only, own_only2, shifted, line_by_router, line_gets, same_entries, enters, drops}
 
 pub equal : (n : ℕ) → (n == n) ≡ true
 equal n = grind (arith, nat_tests)

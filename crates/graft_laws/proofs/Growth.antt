@@ -1,15 +1,14 @@
 -- What is in the log stays there, and where a graft of a peering stands in it.
-use Rattle.std.proofs.Common.{◌≡◌, ◌==◌, cond, ℕ, ◌<◌, ◌≤◌, ◌+◌, Bool, true, false, List, [], ◌∷◌, ◌++◌, Option, Some, None, refl, sym, ap, ◌∙◌, subst, arith, inl, inr}
+use Rattle.std.proofs.Common.{◌≡◌, ◌==◌, cond, ℕ, ◌<◌, ◌+◌, Bool, true, false, List, [], ◌∷◌, ◌++◌, Option, Some, None, refl, sym, ap, ◌∙◌, subst, arith, inl, inr}
 use Rattle.std.proofs.lemmas.Bool.Decides.{nat_tests}
 use Rattle.std.specs.Prelude.{◌≢◌, ◌⊎◌, filter}
-use Rattle.std.specs.List.{AllByRecursion, find}
-use Rattle.graft_steps.specs.declared.refusal.Outcome.{Outcome}
+use Rattle.std.specs.List.{AllByRecursion}
 use Rattle.graft_model.specs.Points.{at}
 use Rattle.graft_model.specs.Setups.{Setup, ScriptStep, SayStep, MoveStep, SettleStep, ScriptGraft, grafts_in, grafts_after}
 use Rattle.graft_model.specs.Parts.{OperatorPart, World}
-use Rattle.graft_model.specs.OperatorRows.{OperatorTaken, OperatorSent, OrdersSay, OrdersGraft, Notes, BeginsGroup}
+use Rattle.graft_model.specs.OperatorRows.{OperatorTaken, OperatorSent}
 use Rattle.graft_model.specs.Steps.{Event, ByRouter, ByFar, ByOperator, OperatorEvent, Order, Note, Go, operator_row, Step}
-use Rattle.graft_laws.specs.Phases.{Stage, Phase, Idle, Busy, under_way}
+use Rattle.graft_laws.specs.Phases.{Stage, Idle, Busy}
 use Rattle.graft_laws.specs.Log.{grafts_of, graft_at, is_peering, is_of, HasEnded, Waits, LogSays}
 use Rattle.graft_laws.proofs.Lists.{all_map, all_join, filter_all}
 use Rattle.graft_laws.proofs.Moves.{router_moves, far_moves, operator_moves}

@@ -1,28 +1,24 @@
 -- What a phase says for the items at the heads of channels, for the session's place and for the graft's number.
-use Rattle.std.proofs.Common.{◌≡◌, ◌==◌, cond, ℕ, zero, suc, ◌<◌, ◌≤◌, Bool, true, false, List, [], ◌∷◌, ◌++◌, Option, Some, None, refl, sym, ap, ◌∙◌, subst, arith, inl, inr}
+use Rattle.std.proofs.Common.{◌≡◌, ◌==◌, cond, ℕ, ◌<◌, [], ◌∷◌, Some, None, refl, sym, ap, ◌∙◌, subst, arith}
 use Rattle.std.proofs.lemmas.Bool.Decides.{nat_tests}
-use Rattle.std.specs.Prelude.{◌≢◌, ◌⊎◌, slice_get, is_some, IsSome}
-use Rattle.std.specs.List.{flat_map, AllByRecursion}
+use Rattle.std.specs.Prelude.{◌≢◌}
+use Rattle.std.specs.List.{flat_map}
 use Rattle.graft_steps.specs.declared.refusal.Refusal.{Refusal}
-use Rattle.graft_steps.specs.declared.refusal.Outcome.{Outcome}
 use Rattle.graft_steps.specs.declared.refusal.Outcome.TheVariants.{Accepted, Refused}
 use Rattle.session_value.specs.Sessions.{SessionValue}
-use Rattle.graft_model.specs.Setups.{Setup, IsSetup, ScriptStep, ScriptGraft, SayStep, MoveStep, SettleStep, IsStep, routers_in, peerings_in, grafts_in, grafts_after, graft_number}
-use Rattle.graft_model.specs.Parts.{Order, Place, Vacant, Live, Frozen, Shadow, Mesh, Moved, Back, Done, GraftOrder, Report, World}
-use Rattle.graft_model.specs.Claims.{sessions_at, sessions_on, sessions_of}
-use Rattle.graft_model.specs.Laws.{HasGraft, HasOnce}
+use Rattle.graft_model.specs.Setups.{Setup, ScriptGraft, peerings_in}
+use Rattle.graft_model.specs.Parts.{Place, Vacant, Live, Frozen, Shadow, Moved, Back, Done, GraftOrder, Report, World}
+use Rattle.graft_model.specs.Claims.{sessions_at, sessions_on}
 use Rattle.graft_model.specs.Steps.{Heads}
-use Rattle.graft_laws.specs.Phases.{Stage, Ordered, Stored, Halted, Moving, Landed, Returning, Declined, Cleared, Phase, Idle, Busy, source_of, under_way, only, only2, place_by, mesh_by}
-use Rattle.graft_laws.specs.Log.{graft_at, is_peering, is_of, HasEnded, Waits, LogSays}
-use Rattle.graft_laws.specs.Owned.{is_on, mesh_of, orders_of, reports_of, Stands, IsHeld, Owned}
+use Rattle.graft_laws.specs.Phases.{Stage, Ordered, Stored, Halted, Moving, Landed, Returning, Declined, Cleared, Phase, Idle, Busy, only, only2, place_by, mesh_by}
+use Rattle.graft_laws.specs.Owned.{is_on, mesh_of, orders_of, Stands, Owned}
 use Rattle.graft_laws.specs.Facts.{IsNowhereElse}
 use Rattle.graft_model.specs.RouterRows.{OrderIn}
 use Rattle.graft_model.specs.Taking.{RouterMayTake}
-use Rattle.graft_laws.proofs.Phases.{live_session, stored_at, halted_at, moved_in, back_in, done_in, order_in, refusal_in, success_in}
-use Rattle.graft_laws.proofs.Numbers.{the_graft, one_peering, step_known}
-use Rattle.graft_laws.proofs.Logs.{own_known}
+use Rattle.graft_laws.proofs.Phases.{stored_at, halted_at, moved_in, back_in, done_in, order_in, refusal_in, success_in}
+use Rattle.graft_laws.proofs.Numbers.{the_graft}
 use Rattle.graft_laws.proofs.Following.{own_head}
-use Rattle.graft_laws.proofs.Deeds.{known_mesh, known_order, equal_or_not, of_known}
+use Rattle.graft_laws.proofs.Deeds.{known_mesh, known_order}
 use Rattle.graft_laws.proofs.Grafts.{equal}
 use Rattle.graft_laws.proofs.Holders.{one_session, items_of}
 

@@ -1,15 +1,15 @@
 -- A peering that stands somewhere has one session in the world.
-use Rattle.std.proofs.Common.{◌≡◌, ◌==◌, cond, ℕ, zero, suc, ◌<◌, ◌≤◌, ◌+◌, Bool, true, false, List, [], ◌∷◌, ◌++◌, length, Option, Some, None, refl, sym, ap, ◌∙◌, subst, arith}
+use Rattle.std.proofs.Common.{◌≡◌, ◌==◌, cond, ℕ, zero, suc, ◌<◌, ◌≤◌, ◌+◌, Bool, true, false, List, [], ◌∷◌, ◌++◌, refl, ap, ◌∙◌, arith}
 use Rattle.std.proofs.lemmas.Bool.Decides.{nat_tests}
 use Rattle.std.proofs.lemmas.List.{append-nil}
 use Rattle.std.specs.Prelude.{◌≢◌}
 use Rattle.std.specs.List.{flat_map, range_with_len}
 use Rattle.session_value.specs.Sessions.{SessionValue}
-use Rattle.graft_model.specs.Setups.{Setup, routers_in, peerings_in, router_numbers}
+use Rattle.graft_model.specs.Setups.{Setup, routers_in, router_numbers}
 use Rattle.graft_model.specs.Parts.{Mesh, Told, Moved, Back, Done, World}
 use Rattle.graft_model.specs.Claims.{sessions_at, sessions_on, sessions_of}
-use Rattle.graft_laws.specs.Phases.{Stage, Ordered, Stored, Halted, Moving, Landed, Returning, Declined, Cleared, Phase, Idle, Busy, place_by, mesh_by, InBounds}
-use Rattle.graft_laws.specs.Owned.{is_on, mesh_of, Stands}
+use Rattle.graft_laws.specs.Phases.{Ordered, Stored, Halted, Moving, Landed, Returning, Declined, Cleared, Phase, Idle, Busy, place_by, mesh_by, InBounds}
+use Rattle.graft_laws.specs.Owned.{mesh_of, Stands}
 
 -- ---- lists joined over numbers
 

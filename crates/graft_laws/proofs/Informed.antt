@@ -2,24 +2,22 @@
 use Rattle.std.proofs.Common.{◌≡◌, ◌≢◌, ◌==◌, cond, ℕ, zero, suc, ◌<◌, Bool, true, false, List, [], ◌∷◌, ◌++◌, Option, Some, None, refl, sym, ap, ◌∙◌, subst, arith, ◌⊎◌, inl, inr}
 use Rattle.std.specs.Prelude.{◌||◌, ◌&&◌, not, nat_lt, if◌then◌else◌}
 use Rattle.std.specs.FinMap as map
-use Rattle.std.proofs.lemmas.Bool.{cases_eq, lt-ltb}
+use Rattle.std.proofs.lemmas.Bool.{cases_eq}
 use Rattle.std.proofs.lemmas.Bool.Decides.{nat_tests}
 use Rattle.std.proofs.lemmas.List.{append-nil}
 use Rattle.bgp_types.specs.declared.attrs.Route.{Route}
 use Rattle.bgp_types.specs.Prefixes.{PrefixValue, same_prefix}
 use Rattle.bgp_types.specs.Tables.{prefix_cmp}
 use Rattle.bgp_types.proofs.OnceLaws.{same_itself}
-use Rattle.route_policy.specs.declared.best.Best.{Best}
 use Rattle.route_policy.specs.Telling.{tell_in}
 use Rattle.session_value.specs.Sets.{BestRoutes, Prefixes, has}
 use Rattle.graft_model.specs.Decisions.{chosen}
 use Rattle.graft_model.specs.First.{first_world}
-use Rattle.graft_model.specs.GraftRows.{Lands}
 use Rattle.graft_model.specs.Parts.{RouterPart, Tellings, Mesh, Told, Moved, Back, Done, World}
 use Rattle.graft_model.specs.Points.{at}
 use Rattle.graft_model.specs.RouterRows.{RouterTaken, OrderIn, SegmentIn, MeshIn, RouterSent, MeshTo, OutwardTo, ReportOut}
 use Rattle.graft_model.specs.Setups.{Setup, routers_in}
-use Rattle.graft_model.specs.Steps.{Event, ByRouter, ByFar, ByOperator, RouterEvent, Put, Emit, Arrive, Stray, Got, Decide, Tell, Hear, Admit, Refuse, Freeze, Leave, Land, TurnBack, Return, Clear, Tick, RouterStep, Step, router_row}
+use Rattle.graft_model.specs.Steps.{Event, ByRouter, ByFar, ByOperator, RouterEvent, Put, Emit, Arrive, Stray, Got, Decide, Tell, Hear, Admit, Refuse, Freeze, Leave, Land, TurnBack, Return, Clear, Tick, Step, router_row}
 use Rattle.graft_model.specs.TableRows.{Decides, DueEverywhere, Tells, Hears, with_telling}
 use Rattle.graft_laws.specs.Keeps.{Reached}
 use Rattle.graft_laws.specs.Moves.{mesh_taken, mesh_sent, RouterMoves}
@@ -27,7 +25,7 @@ use Rattle.graft_laws.specs.Phases.{only2}
 use Rattle.graft_laws.specs.Tables.{last_told, heard_then, Informed}
 use Rattle.graft_laws.proofs.Decided.{best_stays}
 use Rattle.graft_laws.proofs.Moves.{router_moves, far_moves, operator_moves}
-use Rattle.graft_laws.proofs.PrefixTables.{same, same_self, one_or_not, has_none, has_removed, get_with, get_telling, none_of}
+use Rattle.graft_laws.proofs.PrefixTables.{same, same_self, one_or_not, has_none, has_removed, get_telling, none_of}
 use Rattle.graft_laws.proofs.Routers.{at_same, at_apart}
 use Rattle.graft_laws.proofs.Runs.{carried}
 

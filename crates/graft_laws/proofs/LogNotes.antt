@@ -1,23 +1,22 @@
 -- The log when the outcome of a graft is noted.
-use Rattle.std.proofs.Common.{◌≡◌, ◌==◌, cond, ℕ, ◌<◌, ◌+◌, Bool, true, false, List, [], ◌∷◌, ◌++◌, Option, Some, None, refl, sym, ap, ◌∙◌, subst, arith, append_assoc}
+use Rattle.std.proofs.Common.{◌≡◌, ◌==◌, cond, ℕ, Bool, true, false, List, [], ◌∷◌, ◌++◌, Option, Some, None, refl, sym, ap, ◌∙◌, subst, arith, append_assoc}
 use Rattle.std.proofs.lemmas.Bool.Decides.{nat_tests}
 use Rattle.std.proofs.lemmas.List.Elements.{filter-append}
-use Rattle.std.proofs.lemmas.List.{append-nil}
-use Rattle.std.specs.Prelude.{◌≢◌, ◌&&◌, filter, map, slice_get, is_some, unwrap_or}
+use Rattle.std.specs.Prelude.{◌≢◌, ◌&&◌, filter, map, unwrap_or}
 use Rattle.std.specs.List.{AllByRecursion, last_or}
 use Rattle.graft_steps.specs.declared.refusal.Refusal.{Refusal}
 use Rattle.graft_steps.specs.declared.refusal.Outcome.{Outcome}
 use Rattle.graft_steps.specs.declared.refusal.Outcome.TheVariants.{Accepted, Refused}
 use Rattle.graft_model.specs.Points.{at}
-use Rattle.graft_model.specs.Setups.{Setup, ScriptGraft, MoveStep, grafts_in, graft_number, start_of}
+use Rattle.graft_model.specs.Setups.{Setup, ScriptGraft, grafts_in, start_of}
 use Rattle.graft_model.specs.Parts.{OperatorPart}
 use Rattle.graft_model.specs.OperatorRows.{placement, is_accepted}
-use Rattle.graft_laws.specs.Phases.{Stage, Phase, Idle, Busy, source_of, under_way}
-use Rattle.graft_laws.specs.Log.{grafts_of, graft_at, is_of, HasEnded, Waits, GoesOn, GoesOnIn, LogSays}
+use Rattle.graft_laws.specs.Phases.{Stage, Idle, Busy}
+use Rattle.graft_laws.specs.Log.{grafts_of, is_of, HasEnded, Waits, LogSays}
 use Rattle.graft_laws.proofs.Lists.{all_of, all_map, all_join, filter_same, filter_twice, filter_none, last_end}
-use Rattle.graft_laws.proofs.Numbers.{the_graft, one_peering}
+use Rattle.graft_laws.proofs.Numbers.{the_graft}
 use Rattle.graft_laws.proofs.Others.{SameLog}
-use Rattle.graft_laws.proofs.Logs.{own_known, counts}
+use Rattle.graft_laws.proofs.Logs.{counts}
 
 -- where the session belongs then
 abbrev pub ends_at : Outcome → ℕ → ℕ → ℕ

@@ -1,18 +1,18 @@
 -- The log when a graft is ordered.
-use Rattle.std.proofs.Common.{◌≡◌, ◌==◌, cond, ℕ, zero, suc, ◌<◌, ◌+◌, ◌≤◌, Bool, true, false, List, [], ◌∷◌, ◌++◌, length, take, drop, Option, Some, None, refl, sym, ap, ◌∙◌, subst, arith, append_assoc, inl, inr}
+use Rattle.std.proofs.Common.{◌≡◌, ◌==◌, ℕ, zero, suc, ◌<◌, ◌+◌, Bool, true, false, List, [], ◌∷◌, ◌++◌, length, take, drop, Option, Some, None, refl, sym, ap, ◌∙◌, subst, arith}
 use Rattle.std.proofs.lemmas.Bool.Decides.{nat_tests}
-use Rattle.std.specs.Prelude.{◌≢◌, ◌⊎◌, filter, slice_get, is_some}
+use Rattle.std.specs.Prelude.{◌≢◌, slice_get, is_some}
 use Rattle.std.specs.List.{AllByRecursion}
 use Rattle.graft_model.specs.Points.{at}
 use Rattle.graft_model.specs.Setups.{Setup, ScriptStep, ScriptGraft, MoveStep, grafts_after, graft_number}
 use Rattle.graft_model.specs.Parts.{OperatorPart}
-use Rattle.graft_model.specs.OperatorRows.{placement, OrdersGraft}
-use Rattle.graft_laws.specs.Phases.{Stage, Ordered, Phase, Idle, Busy, source_of, under_way}
-use Rattle.graft_laws.specs.Log.{grafts_of, graft_at, is_of, HasEnded, Waits, GoesOn, GoesOnIn, LogSays}
+use Rattle.graft_model.specs.OperatorRows.{placement}
+use Rattle.graft_laws.specs.Phases.{Ordered, Phase, Idle, Busy, source_of, under_way}
+use Rattle.graft_laws.specs.Log.{is_of, HasEnded, Waits, GoesOnIn, LogSays}
 use Rattle.graft_laws.proofs.Lists.{all_map, all_both, filter_all, filter_tests}
 use Rattle.graft_laws.proofs.Numbers.{the_graft, all_above, all_steps, step_known, split_of, earlier_grafts, later_grafts, other_number, one_peering}
 use Rattle.graft_laws.proofs.Others.{SameLog}
-use Rattle.graft_laws.proofs.Logs.{own_known, own_step}
+use Rattle.graft_laws.proofs.Logs.{own_step}
 
 -- ---- which graft comes next
 

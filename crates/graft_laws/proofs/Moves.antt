@@ -1,18 +1,18 @@
 -- A step of the world in equations, channel by channel.
-use Rattle.std.proofs.Common.{◌≡◌, ◌==◌, ℕ, Bool, true, false, cond, List, [], ◌∷◌, ◌++◌, Option, Some, None, refl, sym, ap, ◌∙◌, subst, arith, append_assoc}
-use Rattle.std.specs.Prelude.{fold, if◌then◌else◌}
+use Rattle.std.proofs.Common.{◌≡◌, ℕ, List, [], ◌∷◌, ◌++◌, Option, Some, None, refl, sym, ap, ◌∙◌, arith, append_assoc}
+use Rattle.std.specs.Prelude.{fold}
 use Rattle.std.proofs.lemmas.Bool.Decides.{nat_tests}
 use Rattle.std.proofs.lemmas.List.{append-nil}
 use Rattle.tcp_seq.specs.Endpoint.{PlacedSegment}
 use Rattle.graft_model.specs.Points.{at, at2}
 use Rattle.graft_model.specs.Setups.{Setup}
-use Rattle.graft_model.specs.Parts.{RouterPart, FarPart, OperatorPart, Mesh, Outward, GraftOrder, Report, World}
+use Rattle.graft_model.specs.Parts.{RouterPart, FarPart, Outward, GraftOrder, Report, World}
 use Rattle.graft_model.specs.RouterRows.{RouterTaken, OrderIn, SegmentIn, MeshIn, RouterSent, MeshTo, OutwardTo, ReportOut}
 use Rattle.graft_model.specs.FarRows.{FarTaken, OutwardIn, SayIn, FarSent}
 use Rattle.graft_model.specs.OperatorRows.{OperatorTaken, ReportIn, OperatorSent, OrderTo, SayTo}
-use Rattle.graft_model.specs.Steps.{RouterEvent, FarEvent, OperatorEvent, Heads, RouterTook, FarTook, OperatorTook, router_sends, far_sends, operator_sends, RouterStep, FarStep, OperatorStep}
+use Rattle.graft_model.specs.Steps.{RouterEvent, FarEvent, OperatorEvent, RouterTook, FarTook, OperatorTook, router_sends, far_sends, operator_sends, RouterStep, FarStep, OperatorStep}
 use Rattle.graft_laws.specs.Phases.{only, only2}
-use Rattle.graft_laws.specs.Moves.{mesh_taken, inward_taken, orders_taken, mesh_sent, outward_sent, reports_sent, RouterHeads, RouterMoves, outward_taken, says_taken, inward_sent, FarHeads, FarMoves, reports_taken, orders_sent, says_sent, OperatorHeads, OperatorMoves}
+use Rattle.graft_laws.specs.Moves.{mesh_taken, inward_taken, orders_taken, mesh_sent, outward_sent, reports_sent, RouterHeads, RouterMoves, outward_taken, says_taken, inward_sent, FarHeads, FarMoves, orders_sent, says_sent, OperatorMoves}
 
 -- ---- one channel, of any kind of item
 

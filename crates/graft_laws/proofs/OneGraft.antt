@@ -1,22 +1,21 @@
 -- Each issued graft without an outcome is under way in one phase, and a report at the head of a channel is of such a one.
-use Rattle.std.proofs.Common.{◌≡◌, ◌==◌, cond, ℕ, ◌<◌, ◌≤◌, ◌+◌, Bool, true, false, List, [], ◌∷◌, ◌++◌, Option, Some, None, refl, sym, ap, ◌∙◌, subst, arith, inl, inr}
+use Rattle.std.proofs.Common.{◌≡◌, ◌==◌, cond, ℕ, ◌<◌, ◌≤◌, Bool, true, false, List, [], ◌∷◌, ◌++◌, Option, Some, None, refl, sym, ap, ◌∙◌, subst, arith, inl, inr}
 use Rattle.std.proofs.lemmas.Bool.Decides.{nat_tests}
-use Rattle.std.specs.Prelude.{◌≢◌, ◌⊎◌, slice_get, is_some, IsSome, length, take}
+use Rattle.std.specs.Prelude.{◌≢◌, ◌⊎◌, slice_get, is_some, IsSome}
 use Rattle.std.specs.List.{AllByRecursion, find}
-use Rattle.graft_steps.specs.declared.refusal.Refusal.{Refusal}
 use Rattle.graft_steps.specs.declared.refusal.Outcome.{Outcome}
 use Rattle.graft_steps.specs.declared.refusal.Outcome.TheVariants.{Accepted, Refused}
 use Rattle.session_value.specs.Sessions.{SessionValue}
-use Rattle.graft_model.specs.Setups.{Setup, IsSetup, ScriptGraft, MoveStep, peerings_in, grafts_in, grafts_after, graft_number}
-use Rattle.graft_model.specs.Parts.{Order, Place, Vacant, Live, Frozen, Shadow, OperatorPart, Told, Moved, Back, Done, Report, World}
+use Rattle.graft_model.specs.Setups.{Setup, IsSetup, ScriptGraft, MoveStep, peerings_in, grafts_in, graft_number}
+use Rattle.graft_model.specs.Parts.{Place, Vacant, Live, Frozen, Shadow, OperatorPart, Told, Moved, Back, Done, Report, World}
 use Rattle.graft_model.specs.RouterRows.{RouterTaken, OrderIn, SegmentIn, MeshIn}
 use Rattle.graft_model.specs.Taking.{RouterMayTake, OperatorMayTake}
 use Rattle.graft_model.specs.OperatorRows.{OperatorTaken, ReportIn, placement}
 use Rattle.graft_model.specs.Laws.{HasGraft, HasOnce}
 use Rattle.graft_model.specs.Steps.{Heads}
 use Rattle.graft_laws.specs.Phases.{Stage, Ordered, Stored, Halted, Moving, Landed, Returning, Declined, Cleared, Phase, Idle, Busy, source_of, under_way, place_by}
-use Rattle.graft_laws.specs.Log.{graft_at, is_peering, is_of, HasEnded, Waits, GoesOnIn, LogSays}
-use Rattle.graft_laws.specs.Owned.{reports_of, Stands, IsHeld, Owned}
+use Rattle.graft_laws.specs.Log.{graft_at, is_peering, is_of, HasEnded, Waits, LogSays}
+use Rattle.graft_laws.specs.Owned.{reports_of, Stands, Owned}
 use Rattle.graft_laws.specs.Facts.{IsUnderWay}
 use Rattle.graft_laws.specs.Moves.{RouterHeads, OperatorHeads}
 use Rattle.graft_laws.proofs.Lists.{all_map, all_join}

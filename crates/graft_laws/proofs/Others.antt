@@ -1,19 +1,17 @@
 -- What an event leaves of a peering that isn't its own.
-use Rattle.std.proofs.Common.{◌≡◌, ◌==◌, cond, ℕ, ◌<◌, Bool, true, false, List, [], ◌∷◌, ◌++◌, Option, Some, None, refl, sym, ap, ◌∙◌, subst, arith}
+use Rattle.std.proofs.Common.{◌≡◌, ◌==◌, ℕ, Bool, true, List, [], ◌++◌, Option, Some, refl, sym, ap, ◌∙◌, subst, arith}
 use Rattle.std.proofs.lemmas.Bool.Decides.{nat_tests}
 use Rattle.std.proofs.lemmas.List.Elements.{filter-append}
 use Rattle.std.proofs.lemmas.List.{append-nil}
-use Rattle.std.specs.Prelude.{◌≢◌, filter, slice_get}
+use Rattle.std.specs.Prelude.{filter, slice_get}
 use Rattle.graft_model.specs.Points.{at}
 use Rattle.graft_model.specs.Setups.{Setup, MoveStep}
-use Rattle.graft_model.specs.Parts.{Place, RouterPart, FarPart, OperatorPart, Mesh, GraftOrder, Report, World}
+use Rattle.graft_model.specs.Parts.{RouterPart, FarPart, OperatorPart, Mesh, GraftOrder, Report, World}
 use Rattle.graft_model.specs.RouterRows.{RouterTaken, RouterSent}
 use Rattle.graft_model.specs.FarRows.{FarTaken, FarSent}
 use Rattle.graft_model.specs.OperatorRows.{OperatorTaken, OperatorSent}
-use Rattle.session_value.specs.Sessions.{SessionValue}
-use Rattle.graft_laws.specs.Phases.{Phase}
-use Rattle.graft_laws.specs.Log.{is_of, LogSays}
-use Rattle.graft_laws.specs.Owned.{is_on, mesh_of, orders_of, reports_of, Stands, IsAbsent}
+use Rattle.graft_laws.specs.Log.{is_of}
+use Rattle.graft_laws.specs.Owned.{is_on, mesh_of, orders_of, reports_of, IsAbsent}
 use Rattle.graft_laws.specs.Moves.{mesh_taken, inward_taken, orders_taken, mesh_sent, outward_sent, reports_sent, RouterMoves, FarMoves, OperatorMoves, orders_sent, reports_taken}
 
 -- the log has the same of a peering's grafts

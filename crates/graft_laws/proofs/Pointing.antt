@@ -1,5 +1,5 @@
 -- The link follows the landings, through every change.
-use Rattle.std.proofs.Common.{◌≡◌, ◌==◌, cond, ℕ, ◌<◌, ◌≤◌, ◌+◌, Bool, true, false, List, [], ◌∷◌, ◌++◌, Option, Some, None, refl, sym, ap, ◌∙◌, subst, arith, inl, inr, leb, ltb, max}
+use Rattle.std.proofs.Common.{◌≡◌, ◌==◌, cond, ℕ, ◌<◌, ◌≤◌, Bool, true, false, List, [], ◌∷◌, ◌++◌, Option, Some, None, refl, sym, ap, ◌∙◌, subst, arith, inl, inr, ltb, max}
 use Rattle.std.proofs.lemmas.Bool.Decides.{nat_tests}
 use Rattle.std.proofs.lemmas.List.{append-nil}
 use Rattle.std.specs.Prelude.{◌≢◌, ◌⊎◌, filter, slice_get, option_map, unwrap_or}
@@ -8,12 +8,11 @@ use Rattle.std.proofs.lemmas.List.Elements.{filter-append}
 use Rattle.tcp_seq.specs.Endpoint.{PlacedSegment}
 use Rattle.session_value.specs.Sessions.{SessionValue, begun}
 use Rattle.session_value.specs.declared.config.SessionConfig.{SessionConfig}
-use Rattle.graft_model.specs.Points.{at}
 use Rattle.graft_model.specs.Setups.{Setup, PeeringSetup, IsSetup, peerings_in, config_of, start_of}
 use Rattle.graft_model.specs.Parts.{FarPart, Outward, Seg, PointAt, World}
 use Rattle.graft_model.specs.FarRows.{FarTaken, OutwardIn, SayIn, FarSent, Way, Homeward, Remoteward, link, with_link, without}
 use Rattle.graft_model.specs.First.{first_world, first_far}
-use Rattle.graft_model.specs.Steps.{Event, FarEvent, Say, Send, Take, Pass, Reach, Lose, Point, Beat, far_row, Step, Heads}
+use Rattle.graft_model.specs.Steps.{FarEvent, Say, Send, Take, Pass, Reach, Lose, Point, Beat, far_row}
 use Rattle.graft_laws.specs.Phases.{Stage, Ordered, Stored, Halted, Moving, Landed, Returning, Declined, Cleared, Phase, Idle, Busy, only, only2}
 use Rattle.graft_laws.specs.Log.{is_of}
 use Rattle.graft_laws.specs.Owned.{Stands}
@@ -23,7 +22,7 @@ use Rattle.graft_laws.specs.Keeps.{Reached, Has}
 use Rattle.graft_laws.specs.Pointing.{home_of, IsUpTo, IsBelow, is_word_of, IsPast, HasLandedLast, WordOf, Words, Points}
 use Rattle.graft_laws.proofs.Lists.{all_map, all_join, all_back, all_head, filter_none, append_same}
 use Rattle.graft_laws.proofs.Logs.{own_known}
-use Rattle.graft_laws.proofs.Following.{own_head, at_here, at_other, none_only2}
+use Rattle.graft_laws.proofs.Following.{own_head, at_here, none_only2}
 use Rattle.graft_laws.proofs.Deeds.{equal_or_not}
 use Rattle.graft_laws.proofs.Grafts.{equal}
 use Rattle.graft_laws.proofs.Growth.{LogGrows, log_grows, past_below, idle_ended, above_zero}

@@ -1,16 +1,16 @@
 -- In a quiet world no graft is under way, and each session is where it belongs by the log.
-use Rattle.std.proofs.Common.{◌≡◌, ◌==◌, cond, ℕ, ◌<◌, Bool, true, false, List, [], ◌∷◌, Option, Some, None, refl, sym, ap, ◌∙◌, subst, arith}
+use Rattle.std.proofs.Common.{◌≡◌, ◌==◌, cond, ℕ, Bool, false, List, [], ◌∷◌, Some, None, refl, sym, ap, ◌∙◌, subst, arith}
 use Rattle.std.proofs.lemmas.Bool.Decides.{nat_tests}
 use Rattle.std.specs.Prelude.{◌≢◌, filter}
 use Rattle.graft_steps.specs.declared.refusal.Outcome.TheVariants.{Accepted, Refused}
 use Rattle.tcp_seq.specs.Endpoint.{Endpoint}
 use Rattle.session_value.specs.Sessions.{SessionValue}
 use Rattle.graft_model.specs.Setups.{Setup}
-use Rattle.graft_model.specs.Parts.{Place, Vacant, Live, Frozen, Shadow, Order, Moved, Back, Done, GraftOrder, Report, World}
+use Rattle.graft_model.specs.Parts.{Place, Vacant, Live, Frozen, Order, Moved, Back, Done, GraftOrder, Report, World}
 use Rattle.graft_model.specs.OperatorRows.{placement}
 use Rattle.graft_model.specs.Quiet.{HasRead, AllAcked, IsIdle, Quiet}
-use Rattle.graft_laws.specs.Phases.{Stage, Ordered, Stored, Halted, Moving, Landed, Returning, Declined, Cleared, Phase, Idle, Busy, source_of, only, only2, place_by}
-use Rattle.graft_laws.specs.Owned.{is_on, mesh_of, orders_of, reports_of, Stands}
+use Rattle.graft_laws.specs.Phases.{Ordered, Stored, Halted, Moving, Landed, Returning, Declined, Cleared, Phase, Idle, Busy, source_of}
+use Rattle.graft_laws.specs.Owned.{is_on, Stands}
 use Rattle.graft_laws.specs.Log.{is_of}
 use Rattle.graft_laws.proofs.Heads.{only_here, only2_here, placed_here}
 

@@ -1,9 +1,8 @@
 -- A quiet world solves the decision equations.
-use Rattle.std.specs.Prelude.{ℕ, ◌<◌}
 use Rattle.graft_model.specs.Claims.{Solves}
 use Rattle.graft_model.specs.Parts.{World}
 use Rattle.graft_model.specs.Quiet.{Quiet}
-use Rattle.graft_model.specs.Setups.{Setup, IsSetup, peerings_in}
+use Rattle.graft_model.specs.Setups.{Setup, IsSetup}
 use Rattle.graft_laws.specs.Keeps.{Reached}
 use Rattle.graft_laws.specs.Tables.{Entered}
 use Rattle.graft_laws.proofs.Entered.{keeps_entered}

@@ -1,16 +1,14 @@
 -- A peering stands as it stood where an event is another's, and where its session changes by itself.
-use Rattle.std.proofs.Common.{◌≡◌, ◌==◌, cond, ℕ, ◌<◌, Bool, true, false, List, [], ◌∷◌, ◌++◌, Option, Some, None, refl, sym, ap, ◌∙◌, subst, arith}
-use Rattle.std.specs.Prelude.{◌≢◌}
+use Rattle.std.proofs.Common.{◌≡◌, ◌==◌, ℕ, List, Option, sym, ap, ◌∙◌, subst}
 use Rattle.session_value.specs.Sessions.{SessionValue}
-use Rattle.graft_model.specs.Points.{at}
 use Rattle.graft_model.specs.Setups.{Setup}
-use Rattle.graft_model.specs.Parts.{Order, Place, Live, RouterPart, OperatorPart, World}
+use Rattle.graft_model.specs.Parts.{Order, Live, RouterPart, OperatorPart, World}
 use Rattle.graft_model.specs.RouterRows.{RouterTaken, RouterSent}
-use Rattle.graft_laws.specs.Phases.{Phase, place_by, mesh_by}
+use Rattle.graft_laws.specs.Phases.{Phase, place_by}
 use Rattle.graft_laws.specs.Log.{is_of, LogSays}
 use Rattle.graft_laws.specs.Owned.{is_on, Stands}
 use Rattle.graft_laws.specs.Moves.{mesh_taken, orders_taken, mesh_sent, reports_sent, RouterMoves}
-use Rattle.graft_laws.specs.Life.{SameLine, SameEntries, Change, Rests}
+use Rattle.graft_laws.specs.Life.{SameLine, SameEntries, Rests}
 use Rattle.graft_laws.proofs.Phases.{place_for, mesh_for}
 use Rattle.graft_laws.proofs.Others.{Untouched, AreOthers, Apart, untouched_by_router, still_in, still_taken, still_sent}
 use Rattle.graft_laws.proofs.Logs.{log_still}

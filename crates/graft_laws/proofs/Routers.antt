@@ -1,13 +1,13 @@
 -- What each event of a router keeps of its part, every run keeps of all routers.
-use Rattle.std.proofs.Common.{◌≡◌, ◌==◌, ℕ, ◌<◌, Option, refl, sym, ap, ◌∙◌, subst, arith, ◌⊎◌, inl, inr}
+use Rattle.std.proofs.Common.{◌≡◌, ℕ, Option, sym, subst, arith, inl, inr}
 use Rattle.std.specs.Prelude.{◌≢◌, List}
 use Rattle.std.proofs.lemmas.Bool.{cases_eq}
 use Rattle.std.proofs.lemmas.Bool.Decides.{nat_tests}
-use Rattle.graft_model.specs.First.{first_world, first_router}
+use Rattle.graft_model.specs.First.{first_router}
 use Rattle.graft_model.specs.Parts.{RouterPart, World}
 use Rattle.graft_model.specs.Points.{at}
 use Rattle.graft_model.specs.RouterRows.{RouterTaken, RouterSent}
-use Rattle.graft_model.specs.Setups.{Setup, routers_in}
+use Rattle.graft_model.specs.Setups.{Setup}
 use Rattle.graft_model.specs.Steps.{Event, ByRouter, ByFar, ByOperator, RouterEvent, Step, router_row}
 use Rattle.graft_laws.specs.Keeps.{Reached}
 use Rattle.graft_laws.proofs.Moves.{router_moves, far_moves, operator_moves}

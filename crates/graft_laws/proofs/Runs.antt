@@ -1,7 +1,7 @@
 -- What each event keeps, every run keeps.
-use Rattle.std.proofs.Common.{◌≡◌, ◌==◌, cond, ℕ, ◌<◌, ◌≤◌, Bool, true, false, List, [], ◌∷◌, ◌++◌, Option, Some, None, refl, sym, ap, ◌∙◌, subst, arith}
+use Rattle.std.proofs.Common.{◌≡◌, ◌==◌, cond, ℕ, ◌<◌, ◌≤◌, Bool, true, false, List, [], ◌∷◌, ◌++◌, Some, refl, sym, ap, subst, arith}
 use Rattle.std.proofs.lemmas.Bool.Decides.{nat_tests}
-use Rattle.std.specs.Prelude.{IsSome, slice_get, option_map}
+use Rattle.std.specs.Prelude.{IsSome, option_map}
 use Rattle.std.specs.List.{AllByRecursion}
 use Rattle.session_value.specs.Sessions.{SessionValue, begun}
 use Rattle.session_value.specs.declared.config.SessionConfig.{SessionConfig}
@@ -10,10 +10,10 @@ use Rattle.graft_model.specs.Setups.{Setup, PeeringSetup, IsSetup, routers_in, p
 use Rattle.graft_model.specs.Parts.{RouterPart, Report, World}
 use Rattle.graft_model.specs.GraftRows.{taken_in}
 use Rattle.graft_model.specs.First.{first_world}
-use Rattle.graft_model.specs.Steps.{Event, ByRouter, ByFar, ByOperator, RouterStep, FarStep, OperatorStep, Step, Run}
+use Rattle.graft_model.specs.Steps.{Event, ByRouter, ByFar, ByOperator, Step, Run}
 use Rattle.graft_laws.specs.Phases.{Phase, Idle}
 use Rattle.graft_laws.specs.Log.{graft_at}
-use Rattle.graft_laws.specs.Owned.{Stands, IsHeld, IsAbsent, Owned}
+use Rattle.graft_laws.specs.Owned.{Stands, Owned}
 use Rattle.graft_laws.specs.Moves.{reports_sent, RouterMoves, reports_taken, OperatorMoves, FarMoves}
 use Rattle.graft_laws.specs.Life.{Change}
 use Rattle.graft_laws.specs.Keeps.{Reached, Keeps, Has}

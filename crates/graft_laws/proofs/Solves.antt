@@ -1,18 +1,15 @@
 -- A quiet world solves.
-use Rattle.std.proofs.Common.{◌≡◌, ℕ, ◌<◌, Some, refl, sym, ap, ◌∙◌, subst}
-use Rattle.std.specs.Prelude.{◌≢◌, slice_get}
+use Rattle.std.proofs.Common.{ℕ, ◌<◌, subst}
 use Rattle.bgp_types.specs.Prefixes.{PrefixValue}
 use Rattle.session_value.specs.Sessions.{SessionValue}
-use Rattle.graft_edge.specs.declared.ids.PeeringId.{PeeringId}
-use Rattle.graft_model.specs.Setups.{Setup, PeeringSetup, IsSetup, routers_in, peerings_in}
+use Rattle.graft_model.specs.Setups.{Setup, IsSetup, routers_in, peerings_in}
 use Rattle.graft_model.specs.Parts.{World}
 use Rattle.graft_model.specs.OperatorRows.{placement}
 use Rattle.graft_model.specs.Quiet.{Quiet}
 use Rattle.graft_model.specs.Claims.{SolvesOn, Solves}
 use Rattle.graft_laws.specs.Phases.{Phase, Idle}
-use Rattle.graft_laws.specs.Owned.{Stands, IsHeld, Owned}
+use Rattle.graft_laws.specs.Owned.{Stands}
 use Rattle.graft_laws.specs.Keeps.{Reached, Has}
-use Rattle.graft_laws.specs.Configs.{IsOwn}
 use Rattle.graft_laws.specs.Streams.{IsUnbroken}
 use Rattle.graft_laws.specs.Pointing.{Points}
 use Rattle.graft_laws.specs.Tables.{Entered, Decided, Informed, Answered}
@@ -22,7 +19,7 @@ use Rattle.graft_laws.proofs.Runs.{always_owned}
 use Rattle.graft_laws.proofs.StreamLaws.{always_unbroken}
 use Rattle.graft_laws.proofs.Pointing.{always_points}
 use Rattle.graft_laws.proofs.QuietPhases.{quiet_phase}
-use Rattle.graft_laws.proofs.SolvesOn.{solves_on, none_there}
+use Rattle.graft_laws.proofs.SolvesOn.{solves_on}
 use Rattle.graft_laws.proofs.SolvesBest.{GivesSame, own_number, entries_routes, heard_quiet, best_is}
 
 -- what holds of a peering holds of it where it is known to stand

@@ -1,5 +1,5 @@
 -- In a quiet world each best route is the choice between what sessions bring in and what routers tell now.
-use Rattle.std.proofs.Common.{◌≡◌, ◌==◌, cond, ℕ, zero, suc, ◌+◌, ◌<◌, ◌≤◌, Bool, true, false, List, [], ◌∷◌, ◌++◌, length, map, Option, Some, None, refl, sym, ap, ◌∙◌, subst, arith, inl, inr}
+use Rattle.std.proofs.Common.{◌≡◌, ◌==◌, cond, ℕ, zero, suc, ◌+◌, ◌<◌, ◌≤◌, Bool, true, false, List, [], ◌∷◌, ◌++◌, map, Option, Some, None, refl, sym, ap, ◌∙◌, subst, arith, inl, inr}
 use Rattle.std.proofs.lemmas.Bool.Decides.{nat_tests}
 use Rattle.std.proofs.lemmas.List.Elements.{filter_map-append}
 use Rattle.std.specs.Prelude.{◌≢◌, ◌⊎◌, filter, not, slice_get, option_map}
@@ -16,12 +16,11 @@ use Rattle.session_value.specs.Sessions.{SessionValue}
 use Rattle.session_value.specs.declared.config.SessionConfig.{SessionConfig}
 use Rattle.graft_model.specs.Setups.{Setup, PeeringSetup, IsSetup, routers_in, peerings_in, router_numbers, peering_numbers, identifier_of, cost_between, has_network, config_of}
 use Rattle.graft_model.specs.Parts.{Place, Entry, Entries, World}
-use Rattle.graft_model.specs.Decisions.{session_route, entry_of, entry_candidate, telling_candidate, chosen}
+use Rattle.graft_model.specs.Decisions.{session_route, entry_of, entry_candidate, telling_candidate}
 use Rattle.graft_model.specs.Quiet.{Quiet}
 use Rattle.graft_model.specs.Claims.{sessions_at, session_routes, router_routes}
-use Rattle.graft_laws.specs.Phases.{Phase, Idle}
+use Rattle.graft_laws.specs.Phases.{Idle}
 use Rattle.graft_laws.specs.Owned.{Stands}
-use Rattle.graft_laws.specs.Configs.{IsOwn}
 use Rattle.graft_laws.specs.Tables.{Entered, Decided, last_told, Informed}
 use Rattle.graft_laws.proofs.Deeds.{equal_or_not}
 use Rattle.graft_laws.proofs.QuietPhases.{placed_there, vacant_else}

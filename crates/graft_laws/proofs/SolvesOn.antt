@@ -1,30 +1,27 @@
 -- A peering solves in a quiet world.
-use Rattle.std.proofs.Common.{◌≡◌, ◌==◌, cond, ℕ, ◌<◌, ◌≤◌, Bool, true, false, List, [], ◌∷◌, ◌++◌, length, take, Option, Some, None, refl, sym, ap, ◌∙◌, subst, arith}
+use Rattle.std.proofs.Common.{◌≡◌, ◌==◌, ℕ, false, take, None, refl, sym, ap, ◌∙◌, arith}
 use Rattle.std.proofs.lemmas.Bool.Decides.{nat_tests}
 use Rattle.std.proofs.Math.Seq.{take-length}
 use Rattle.std.specs.Prelude.{◌≢◌, is_some}
-use Rattle.std.specs.List.{AllByRecursion}
 use Rattle.std.specs.FinMap as map
 use Rattle.bgp_types.specs.Prefixes.{PrefixValue}
 use Rattle.bgp_types.specs.Tables.{prefix_cmp}
-use Rattle.bgp_types.specs.declared.attrs.Attrs.{Attrs}
 use Rattle.bgp_types.specs.declared.message.SessionState.{SessionState}
 use Rattle.bgp_types.specs.declared.message.SessionState.TheVariants.{OpenSent, OpenConfirm, Established, Closed}
-use Rattle.bgp_story.specs.Readings.{Routes, put_bytes, got_bytes}
-use Rattle.bgp_story.specs.Laws.{IsGotLine}
+use Rattle.bgp_story.specs.Readings.{Routes, put_bytes}
 use Rattle.bgp_story.proofs.Shapes.{got_in_frames_is}
-use Rattle.tcp_seq.specs.Endpoint.{Endpoint, received, received_bytes}
+use Rattle.tcp_seq.specs.Endpoint.{Endpoint, received_bytes}
 use Rattle.tcp_seq.specs.Connection.{Flows}
 use Rattle.session_value.specs.Sessions.{SessionValue, peering_of, state, unread, while_established}
 use Rattle.session_value.specs.Sets.{Prefixes, has}
 use Rattle.session_value.proofs.Ties.{received_is}
-use Rattle.graft_model.specs.Setups.{Setup, routers_in}
-use Rattle.graft_model.specs.Parts.{RouterPart, FarPart, World}
+use Rattle.graft_model.specs.Setups.{Setup}
+use Rattle.graft_model.specs.Parts.{World}
 use Rattle.graft_model.specs.Decisions.{to_tell}
 use Rattle.graft_model.specs.OperatorRows.{placement}
-use Rattle.graft_model.specs.Quiet.{HasRead, AllAcked, Quiet}
+use Rattle.graft_model.specs.Quiet.{AllAcked, Quiet}
 use Rattle.graft_model.specs.Claims.{GotAll, SolvesOn}
-use Rattle.graft_laws.specs.Phases.{Phase, Idle}
+use Rattle.graft_laws.specs.Phases.{Idle}
 use Rattle.graft_laws.specs.Owned.{Stands}
 use Rattle.graft_laws.specs.Streams.{IsUnbroken}
 use Rattle.graft_laws.specs.Pointing.{Points}

@@ -1,11 +1,10 @@
 -- What holds of the tables of every world that a run leads to.
-use Rattle.std.proofs.Common.{◌≡◌, ◌≢◌, ℕ, ◌<◌, ◌≤◌, Option, refl, sym, ap, ◌∙◌, subst, arith, ◌⊎◌, inl, inr}
+use Rattle.std.proofs.Common.{◌≡◌, ℕ, ◌<◌, Option, sym, ◌∙◌, subst}
 use Rattle.session_value.specs.Sessions.{SessionValue}
 use Rattle.session_value.specs.Ties.{IsOfStory}
-use Rattle.graft_model.specs.Parts.{Order, Place, Vacant, Live, World}
+use Rattle.graft_model.specs.Parts.{Order, Live, World}
 use Rattle.graft_model.specs.Setups.{Setup, IsSetup, peerings_in}
 use Rattle.graft_laws.specs.Keeps.{Reached, Keeps, Has}
-use Rattle.graft_laws.specs.Owned.{Owned}
 use Rattle.graft_laws.specs.Streams.{IsUnbroken}
 use Rattle.graft_laws.specs.Tables.{Entered, Decided, Informed, Answered, IsWhole}
 use Rattle.graft_laws.proofs.Answered.{first_answered, answered_row}

@@ -1,5 +1,5 @@
 -- Nothing is told on a session that isn't established.
-use Rattle.std.proofs.Common.{◌≡◌, ℕ, Bool, true, false, cond, List, [], ◌∷◌, ◌++◌, Option, Some, None, Result, Ok, Err, refl, sym, ap, ◌∙◌, subst}
+use Rattle.std.proofs.Common.{◌≡◌, ℕ, Bool, true, false, cond, List, [], ◌∷◌, ◌++◌, Result, Ok, Err, refl, sym, ap, ◌∙◌, subst}
 use Rattle.std.specs.Prelude.{◌≢◌, fold, ◌+◌, ◌==◌, ◌%◌, ◌/◌}
 use Rattle.std.specs.FinMap as map
 use Rattle.std.specs.List.{AllByRecursion}
@@ -12,7 +12,7 @@ use Rattle.bgp_types.specs.declared.message.SessionState.TheVariants.{OpenSent, 
 use Rattle.bgp_types.specs.FirstFault.{is_in_state, message_of}
 use Rattle.bgp_story.specs.declared.line.Line.{Line}
 use Rattle.bgp_story.specs.declared.line.Line.TheVariants.{Put, Got, Tick}
-use Rattle.bgp_story.specs.Legal.{Peering, Allowed, opened, got, updated, passed, expected_next, reply_to, reply_at, hold, silence, hold_expired, IsGot}
+use Rattle.bgp_story.specs.Legal.{Peering, Allowed, opened, got, updated, passed, expected_next, reply_to, hold, silence, hold_expired}
 use Rattle.bgp_story.specs.Readings.{Routes, tell, told, unless_closed}
 use Rattle.bgp_story.specs.States.{state_of}
 use Rattle.bgp_story.proofs.HeaderKinds.{read_of}

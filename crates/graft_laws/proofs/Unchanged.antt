@@ -1,23 +1,23 @@
 -- A frozen session is the same until it lands or comes back.
-use Rattle.std.proofs.Common.{◌≡◌, ◌==◌, cond, ℕ, ◌<◌, ◌≤◌, ◌+◌, Bool, true, false, List, [], ◌∷◌, ◌++◌, Option, Some, None, refl, sym, ap, ◌∙◌, subst, arith, inl, inr, append_assoc}
+use Rattle.std.proofs.Common.{◌≡◌, ℕ, ◌<◌, List, [], ◌∷◌, ◌++◌, Option, Some, None, refl, sym, ap, ◌∙◌, subst, arith, inl, inr}
 use Rattle.std.proofs.lemmas.Bool.Decides.{nat_tests}
 use Rattle.std.proofs.lemmas.List.{append-nil}
 use Rattle.std.specs.Prelude.{◌≢◌, ◌⊎◌}
 use Rattle.std.specs.List.{flat_map}
 use Rattle.graft_steps.specs.declared.refusal.Refusal.{Refusal}
-use Rattle.graft_steps.specs.declared.refusal.Outcome.TheVariants.{Accepted, Refused}
+use Rattle.graft_steps.specs.declared.refusal.Outcome.TheVariants.{Refused}
 use Rattle.session_value.specs.Sessions.{SessionValue}
 use Rattle.graft_model.specs.Points.{at}
 use Rattle.graft_model.specs.Setups.{Setup, IsSetup, peerings_in, router_numbers}
-use Rattle.graft_model.specs.Parts.{Order, Place, Vacant, Live, Frozen, Shadow, RouterPart, Mesh, Moved, Back, World}
+use Rattle.graft_model.specs.Parts.{Order, Place, Live, Frozen, RouterPart, Mesh, Moved, Back, World}
 use Rattle.graft_model.specs.RouterRows.{RouterTaken, MeshIn, RouterSent, ReportOut}
 use Rattle.graft_model.specs.GraftRows.{Refuses, Freezes, Lands, Returns}
 use Rattle.graft_model.specs.Claims.{sessions_at, sessions_on, sessions_of, FrozenBefore, Unchanged}
 use Rattle.graft_model.specs.First.{first_world}
 use Rattle.graft_model.specs.Laws.{HasGraft, HasOnce}
-use Rattle.graft_model.specs.Steps.{RouterEvent, Refuse, Freeze, Land, Return, Event, ByRouter, RouterStep, Step, Run, Heads}
+use Rattle.graft_model.specs.Steps.{RouterEvent, Refuse, Freeze, Land, Return, Event, ByRouter, Step, Heads}
 use Rattle.graft_laws.specs.Phases.{Stage, Ordered, Stored, Halted, Moving, Landed, Returning, Declined, Cleared, Phase, Idle, Busy, place_by}
-use Rattle.graft_laws.specs.Owned.{is_on, mesh_of, Stands, IsHeld, Owned}
+use Rattle.graft_laws.specs.Owned.{is_on, mesh_of, Stands, Owned}
 use Rattle.graft_laws.specs.Moves.{RouterHeads, RouterMoves}
 use Rattle.graft_laws.specs.Life.{Change, Rests, Begins, Admits, Refuses as SourceRefuses, Freezes as SourceFreezes, Leaves, Lands as TargetLands, TurnsBack, Returns as SourceReturns, Clears, NotesRefusal, NotesSuccess, Puts, Emits, Arrives, Gets, Ticks, Strays, IsToSay, FarActs}
 use Rattle.graft_laws.specs.Keeps.{Reached}
@@ -25,7 +25,7 @@ use Rattle.graft_laws.specs.Unchanged.{IsFound, IsAwayIn, IsAway}
 use Rattle.graft_laws.proofs.Phases.{halted_at, moved_in, back_in}
 use Rattle.graft_laws.proofs.Logs.{own_known}
 use Rattle.graft_laws.proofs.Moves.{router_moves}
-use Rattle.graft_laws.proofs.Following.{Followed, at_here, at_other, own_head, moves_as}
+use Rattle.graft_laws.proofs.Following.{at_here, at_other, own_head, moves_as}
 use Rattle.graft_laws.proofs.Deeds.{known_place, equal_or_not}
 use Rattle.graft_laws.proofs.Grafts.{equal}
 use Rattle.graft_laws.proofs.Growth.{LogGrows, log_grows, idle_ended}

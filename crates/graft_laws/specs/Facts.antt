@@ -1,5 +1,5 @@
 -- What follows for the actors: no item comes that one would have to drop, a session is at one place, and a graft in one phase.
-use Rattle.std.specs.Prelude.{ℕ, ◌≡◌, ◌≢◌, ◌<◌, List, [], Some}
+use Rattle.std.specs.Prelude.{ℕ, ◌≡◌, ◌≢◌, ◌<◌, [], Some}
 use Rattle.std.specs.List.{flat_map}
 use Rattle.session_value.specs.Sessions.{SessionValue}
 use Rattle.graft_model.specs.Setups.{Setup, peerings_in}

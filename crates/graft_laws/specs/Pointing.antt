@@ -4,7 +4,7 @@ use Rattle.std.specs.List.{AllByRecursion}
 use Rattle.session_value.specs.Sessions.{SessionValue}
 use Rattle.graft_model.specs.Setups.{Setup}
 use Rattle.graft_model.specs.Parts.{FarPart, Outward, Seg, PointAt, World}
-use Rattle.graft_laws.specs.Phases.{Stage, Landed, Cleared, Phase, Idle, Busy}
+use Rattle.graft_laws.specs.Phases.{Landed, Cleared, Phase, Idle, Busy}
 use Rattle.graft_laws.specs.Log.{is_of}
 
 -- the router at which the session was begun, or landed last
