@@ -1,0 +1,3 @@
+pub mod Strays
+pub mod TextFinds
+pub mod Walks
