@@ -1,18 +1,16 @@
 -- What is said by the beat, and what a far side begins with.
-use Rattle.std.proofs.Common.{◌≡◌, ℕ, ◌+◌, ◌<◌, List, [], ◌∷◌, Option, Some, None, refl, sym, ap, subst, ◌∙◌, arith, inl, inr, false}
+use Rattle.std.proofs.Common.{◌≡◌, ℕ, ◌+◌, List, [], ◌∷◌, refl, sym, ap, inl, inr, false}
 use Rattle.ring_net.specs.declared.post.Post.{Post}
 use Rattle.graft_steps.specs.declared.item.Item.{Item}
 use Rattle.bgp_types.specs.declared.message.Message.TheVariants.{KeepaliveMsg}
 use Rattle.bgp_types.specs.Spelling.{spell}
 use Rattle.session_value.specs.Sessions.{SessionValue}
 use Rattle.session_value.specs.Cases.{sending}
-use Rattle.graft_model.specs.Steps.{FarEvent, Beat}
-use Rattle.graft_actors.specs.Emissions.{Tally}
+use Rattle.graft_model.specs.Steps.{Beat}
 use Rattle.far_side.specs.Remotes.{RemoteValue}
 use Rattle.far_side.specs.Notes.{WroteOne}
 use Rattle.far_side.specs.Parts.{far_part, Keeps, ForEach}
-use Rattle.far_side.specs.Turns.{Did}
-use Rattle.far_side.specs.Passes.{IsDue, Beats, Beaten}
+use Rattle.far_side.specs.Passes.{IsDue, Beaten}
 use Rattle.far_side.specs.declared.fields.Fields.{Fields}
 use Rattle.far_side.proofs.Dids.{did_same, did_one}
 use Rattle.far_side.proofs.Kept.{keeps_remote, keeps_counts}

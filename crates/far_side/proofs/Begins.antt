@@ -1,10 +1,10 @@
 -- What a far side begins with.
-use Rattle.std.proofs.Common.{◌≡◌, ℕ, ◌+◌, ◌<◌, List, [], Option, Some, refl, sym, ap, ◌∙◌}
-use Rattle.std.specs.Prelude.{option_map, slice_get, unwrap_or}
+use Rattle.std.proofs.Common.{◌≡◌, ℕ, [], Option, Some, sym, ap, ◌∙◌}
+use Rattle.std.specs.Prelude.{option_map, unwrap_or}
 use Rattle.std.proofs.lemmas.Option.{slice_get_within}
 use Rattle.tcp_seq.specs.Endpoint.{fresh_endpoint}
 use Rattle.tcp_seq.specs.declared.segment.Way.TheVariants.{Home, Remote}
-use Rattle.graft_model.specs.Setups.{Setup, PeeringSetup, beat_of}
+use Rattle.graft_model.specs.Setups.{PeeringSetup, beat_of}
 use Rattle.graft_actors.specs.Items.{home_first, remote_first}
 use Rattle.graft_actors.specs.declared.known.Known.{Known}
 use Rattle.far_side.specs.Remotes.{RemoteValue}

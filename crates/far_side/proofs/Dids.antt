@@ -1,22 +1,19 @@
 -- Pieces of a turn, one after another.
-use Rattle.std.proofs.Common.{◌≡◌, ◌≢◌, ℕ, List, [], ◌∷◌, ◌++◌, Option, Some, None, refl, sym, ap, subst, ◌∙◌, inl, inr}
+use Rattle.std.proofs.Common.{◌≡◌, ℕ, List, [], ◌∷◌, ◌++◌, None, refl, ap, subst, ◌∙◌, inl}
 use Rattle.ring_net.specs.Deeds.{Deed, Replay, TakesNone}
-use Rattle.ring_net.specs.Posts.{actor_of, Wrote}
+use Rattle.ring_net.specs.Posts.{actor_of}
 use Rattle.ring_net.specs.declared.post.Post.{Post}
 use Rattle.ring_net.proofs.PostLaws.{wrote_none, wrote_then}
 use Rattle.ring_net.proofs.Replays.{all-append, replay-append}
 use Rattle.graft_steps.specs.declared.item.Item.{Item}
-use Rattle.graft_steps.specs.declared.item.Item.TheVariants as items
-use Rattle.tcp_seq.specs.declared.segment.Segment.{Segment}
 use Rattle.session_value.specs.Sessions.{SessionValue}
 use Rattle.graft_model.specs.Setups.{Setup}
 use Rattle.graft_model.specs.Parts.{FarPart}
-use Rattle.graft_model.specs.FarRows.{FarSent}
 use Rattle.graft_model.specs.Codes.{far_code}
 use Rattle.graft_model.specs.Steps.{FarEvent, far_row}
 use Rattle.graft_runs.specs.Actors.{FarSide, FarIs}
 use Rattle.graft_runs.specs.Makes.{HasCode}
-use Rattle.graft_actors.specs.Acts.{OwnPart, acts}
+use Rattle.graft_actors.specs.Acts.{acts}
 use Rattle.graft_actors.specs.Emissions.{Tally}
 use Rattle.far_side.specs.Notes.{deed_of, WroteOne}
 use Rattle.far_side.specs.Parts.{far_part, own_part}

@@ -1,22 +1,20 @@
 -- What the remote sends in a turn.
-use Rattle.std.proofs.Common.{◌≡◌, ◌≢◌, ℕ, zero, suc, ◌+◌, ◌-◌, ◌<◌, ◌≤◌, ◌^◌, List, [], ◌∷◌, ◌++◌, length, take, drop, Option, Some, None, Bool, true, false, refl, sym, ap, subst, ◌∙◌, arith, inl, inr, ◌⊎◌, min, max, append_assoc}
+use Rattle.std.proofs.Common.{◌≡◌, ℕ, zero, suc, ◌+◌, ◌-◌, ◌<◌, ◌≤◌, List, [], ◌∷◌, ◌++◌, length, take, drop, Option, Some, Bool, false, refl, sym, ap, subst, ◌∙◌, arith, inl, inr, ◌⊎◌, append_assoc}
 use Rattle.std.specs.Prelude.{nat_lt, if◌then◌else◌, IsNone, ◌↔◌}
-use Rattle.std.specs.List.{AllByRecursion}
 use Rattle.std.proofs.lemmas.List.{length-take, length-drop, append-nil}
 use Rattle.std.proofs.lemmas.Bool.{cases_lt, lt-ltb, le-ltb}
 use Rattle.ring_net.specs.declared.post.Post.{Post}
 use Rattle.graft_steps.specs.declared.item.Item.{Item}
 use Rattle.link_bag.specs.declared.plan.Fate.{Fate}
-use Rattle.tcp_seq.specs.Endpoint.{Endpoint, PlacedSegment, IsInStreams, EmitsNext, EmitsAgain, EmitsAnswer, EmitsEmpty, EmitsSlice, slice_at, next_length, again_length}
+use Rattle.tcp_seq.specs.Endpoint.{Endpoint, PlacedSegment, IsInStreams, EmitsNext, EmitsAgain, EmitsAnswer, next_length, again_length}
 use Rattle.tcp_seq.specs.Placed.{placed}
 use Rattle.tcp_seq.specs.declared.segment.Segment.{Segment}
 use Rattle.tcp_seq.proofs.Emitting.{next_is_slice, again_is_slice}
 use Rattle.session_value.specs.Sessions.{SessionValue}
 use Rattle.graft_model.specs.Setups.{routers_in}
-use Rattle.graft_model.specs.Parts.{FarPart}
 use Rattle.graft_model.specs.Slices.{EmitsAt}
 use Rattle.graft_model.specs.Steps.{FarEvent, Send}
-use Rattle.graft_actors.specs.Emissions.{reach_of, IsOld, IsNew, IsCareful, Tally, counted}
+use Rattle.graft_actors.specs.Emissions.{reach_of, IsCareful, Tally, counted}
 use Rattle.far_side.specs.Remotes.{RemoteValue, IsFrom, IsSound, EmitsOf}
 use Rattle.far_side.specs.Links.{LinkValue, IsOn, put_now}
 use Rattle.far_side.specs.Notes.{WroteOne}

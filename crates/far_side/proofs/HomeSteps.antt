@@ -1,6 +1,6 @@
 -- One segment of the link to home has its turn, and then all of them.
-use Rattle.std.proofs.Common.{◌≡◌, ℕ, zero, suc, ◌+◌, ◌<◌, ◌≤◌, List, [], ◌∷◌, ◌++◌, length, Option, Some, None, Bool, true, false, refl, sym, ap, subst, ◌∙◌, arith, ◌⊎◌, inl, inr}
-use Rattle.std.specs.Prelude.{slice_get, slice_set, if◌then◌else◌, map}
+use Rattle.std.proofs.Common.{◌≡◌, ℕ, ◌+◌, ◌<◌, ◌≤◌, List, [], ◌∷◌, ◌++◌, length, Some, None, Bool, true, false, refl, sym, ap, subst, ◌∙◌, ◌⊎◌, inl, inr}
+use Rattle.std.specs.Prelude.{slice_get, slice_set, if◌then◌else◌}
 use Rattle.std.specs.List.{AllByRecursion}
 use Rattle.ring_net.specs.declared.post.Post.{Post}
 use Rattle.graft_steps.specs.declared.item.Item.{Item}
@@ -10,22 +10,20 @@ use Rattle.tcp_seq.specs.Endpoint.{PlacedSegment, IsInStreams}
 use Rattle.tcp_seq.specs.Placed.{placed}
 use Rattle.tcp_seq.specs.declared.segment.Segment.{Segment}
 use Rattle.tcp_seq.specs.declared.segment.Way.{Way}
-use Rattle.tcp_seq.specs.declared.segment.Way.TheVariants.{Home, Remote}
+use Rattle.tcp_seq.specs.declared.segment.Way.TheVariants.{Home}
 use Rattle.session_value.specs.Sessions.{SessionValue}
-use Rattle.graft_model.specs.Setups.{Setup, routers_in}
+use Rattle.graft_model.specs.Setups.{routers_in}
 use Rattle.graft_model.specs.Parts.{FarPart}
-use Rattle.graft_model.specs.FarRows.{without, left_by, Homeward, Passes, Loses}
-use Rattle.graft_model.specs.Codes.{flag, far_code}
+use Rattle.graft_model.specs.FarRows.{without, left_by, Homeward, Passes}
+use Rattle.graft_model.specs.Codes.{flag}
 use Rattle.graft_model.specs.Steps.{FarEvent, Pass, Lose}
-use Rattle.graft_runs.specs.Actors.{ActorName, Router, FarSide, FarIs, Thing, SegmentItem, actor_at}
-use Rattle.graft_runs.specs.Makes.{HasCode}
+use Rattle.graft_runs.specs.Actors.{Router, FarSide, Thing, SegmentItem, actor_at}
 use Rattle.graft_runs.proofs.Numbers as numbers
-use Rattle.graft_actors.specs.Items.{home_first, remote_first, segment_of, segment_thing, placed_for, IsSegmentOf}
-use Rattle.graft_actors.specs.Acts.{acts}
+use Rattle.graft_actors.specs.Items.{home_first, remote_first, segment_of, segment_thing, placed_for}
 use Rattle.graft_actors.specs.Emissions.{Tally}
-use Rattle.far_side.specs.Links.{LinkValue, IsOn, act_in, is_gone, older, next_place, home_act, home_event, home_events, pass_events, left_of}
+use Rattle.far_side.specs.Links.{LinkValue, IsOn, act_in, is_gone, older, next_place, home_act, home_event}
 use Rattle.far_side.specs.Notes.{deed_of, WroteOne}
-use Rattle.far_side.specs.Parts.{far_part, own_part, Leads, Keeps, ForEach}
+use Rattle.far_side.specs.Parts.{far_part, own_part, Keeps, ForEach}
 use Rattle.far_side.specs.Turns.{Did}
 use Rattle.far_side.specs.Passes.{SendsHome, SameLink, plans_after, HomeStep, HomePass}
 use Rattle.far_side.specs.declared.fields.Fields.{Fields}

@@ -1,5 +1,5 @@
 -- What stays sound while links and the remote change.
-use Rattle.std.proofs.Common.{◌≡◌, ℕ, zero, suc, ◌+◌, ◌<◌, List, [], ◌∷◌, ◌++◌, length, take, drop, Some, None, Bool, true, false, refl, sym, ap, subst, ◌∙◌, arith, add-one}
+use Rattle.std.proofs.Common.{◌≡◌, ℕ, zero, suc, ◌<◌, List, [], ◌∷◌, ◌++◌, take, drop, Some, Bool, true, false, sym, subst, ◌∙◌}
 use Rattle.std.specs.Prelude.{slice_get, slice_set, if◌then◌else◌}
 use Rattle.std.specs.List.{AllByRecursion}
 use Rattle.tcp_seq.specs.declared.segment.Way.{Way}
@@ -9,7 +9,7 @@ use Rattle.tcp_seq.specs.Endpoint.{IsInStreams}
 use Rattle.tcp_seq.specs.Placed.{placed}
 use Rattle.tcp_seq.specs.declared.segment.Segment.{Segment}
 use Rattle.far_side.specs.Remotes.{RemoteValue, IsFor}
-use Rattle.far_side.specs.Links.{LinkValue, IsOn, act_in, is_gone, older, left_of}
+use Rattle.far_side.specs.Links.{LinkValue, IsOn, act_in, is_gone, older}
 use Rattle.far_side.specs.Parts.{Leads, Keeps}
 use Rattle.far_side.specs.Passes.{SameLink, plans_after}
 use Rattle.far_side.specs.declared.fields.Fields.{Fields}

@@ -1,5 +1,5 @@
 -- One segment of the link to the remote has its turn, and then all of them.
-use Rattle.std.proofs.Common.{◌≡◌, ℕ, zero, suc, ◌+◌, ◌<◌, ◌≤◌, List, [], ◌∷◌, ◌++◌, length, Option, Some, None, Bool, true, false, refl, sym, ap, subst, ◌∙◌, arith, inl, inr, ◌⊎◌, max}
+use Rattle.std.proofs.Common.{◌≡◌, ℕ, ◌+◌, ◌<◌, ◌≤◌, List, [], ◌∷◌, ◌++◌, length, Some, Bool, true, false, refl, sym, ap, subst, ◌∙◌, arith, inl, inr, ◌⊎◌}
 use Rattle.std.specs.Prelude.{slice_get, slice_set, if◌then◌else◌}
 use Rattle.ring_net.specs.declared.post.Post.{Post}
 use Rattle.graft_steps.specs.declared.item.Item.{Item}
@@ -7,12 +7,11 @@ use Rattle.tcp_seq.specs.Endpoint.{Endpoint, PlacedSegment, TakesSegment}
 use Rattle.tcp_seq.specs.Placed.{placed}
 use Rattle.tcp_seq.specs.declared.segment.Segment.{Segment}
 use Rattle.session_value.specs.Sessions.{SessionValue}
-use Rattle.graft_model.specs.Parts.{FarPart}
 use Rattle.graft_model.specs.FarRows.{without, Remoteward}
 use Rattle.graft_model.specs.Steps.{FarEvent, Reach, Lose}
 use Rattle.graft_actors.specs.Emissions.{Tally}
 use Rattle.far_side.specs.Remotes.{RemoteValue}
-use Rattle.far_side.specs.Links.{LinkValue, act_in, is_gone, older, next_place, remote_act, remote_event, remote_events}
+use Rattle.far_side.specs.Links.{LinkValue, act_in, is_gone, older, next_place, remote_act, remote_event}
 use Rattle.far_side.specs.Notes.{WroteOne}
 use Rattle.far_side.specs.Parts.{far_part, Keeps, ForEach}
 use Rattle.far_side.specs.Turns.{Did}

@@ -1,18 +1,13 @@
 -- What calls leave of a remote.
-use Rattle.std.proofs.Common.{◌≡◌, ◌≢◌, ℕ, ◌+◌, ◌-◌, ◌^◌, ◌%◌, ◌<◌, ◌≤◌, List, [], ◌∷◌, ◌++◌, length, take, drop, Option, Some, None, refl, sym, ap, subst, ◌∙◌, arith, inl, inr, ◌⊎◌, min}
-use Rattle.std.specs.Prelude.{nat_lt}
-use Rattle.std.proofs.lemmas.List.{length-take, length-drop}
+use Rattle.std.proofs.Common.{◌≡◌, ℕ, ◌+◌, ◌^◌, ◌<◌, ◌≤◌, List, [], ◌++◌, length, take, drop, Option, Some, None, refl, sym, ap, subst, ◌∙◌, arith, inl, inr}
+use Rattle.std.proofs.lemmas.List.{length-take}
 use Rattle.graft_edge.specs.declared.ids.PeeringId.{PeeringId}
 use Rattle.tcp_seq.specs.Numbers.{number, offset_from}
-use Rattle.tcp_seq.specs.Rules.{IsInStream}
-use Rattle.tcp_seq.specs.Endpoint.{Endpoint, PlacedSegment, SendsBytes, EmitsNext, EmitsAgain, EmitsAnswer, TakesSegment, IsInStreams, received, received_bytes, slice_at, next_length, again_length}
+use Rattle.tcp_seq.specs.Endpoint.{Endpoint, PlacedSegment, SendsBytes, EmitsNext, EmitsAgain, EmitsAnswer, TakesSegment, IsInStreams, received_bytes, slice_at, next_length, again_length}
 use Rattle.tcp_seq.specs.Placed.{placed}
 use Rattle.tcp_seq.specs.declared.seq.Seq.{Seq}
 use Rattle.tcp_seq.specs.declared.segment.Segment.{Segment}
-use Rattle.tcp_seq.specs.declared.segment.Way.{Way}
-use Rattle.tcp_seq.specs.declared.segment.Way.TheVariants.{Home, Remote}
 use Rattle.tcp_seq.specs.declared.state.EndState.{EndState}
-use Rattle.tcp_end.specs.State.{got}
 use Rattle.tcp_end.specs.Arriving.{Leaves}
 use Rattle.tcp_end.specs.Standing.{EndStands, Numbered, Becomes, StepsBy, EmitsBy, TakesBy, BecomesEmitting}
 use Rattle.tcp_end.specs.Whole.{endpoint_of}
@@ -20,8 +15,7 @@ use Rattle.tcp_end.specs.declared.arrival.Arrival.{Arrival}
 use Rattle.tcp_end.specs.declared.arrival.Arrival.TheVariants.{Outside, Ahead, Duplicate, Accepted}
 use Rattle.tcp_end.proofs.Steps.{received_is, stream_is}
 use Rattle.tcp_end.proofs.Wholes.{endpoint_is}
-use Rattle.session_value.specs.Cases.{sending}
-use Rattle.far_side.specs.Remotes.{RemoteValue, IsFrom, EmitsOf}
+use Rattle.far_side.specs.Remotes.{EmitsOf}
 use Rattle.far_side.specs.RemoteInner.{remote_of, Keeps}
 use Rattle.far_side.specs.declared.remote.Remote.TheInside.{Inside}
 

@@ -1,12 +1,10 @@
 -- What a far side takes, and what it drops.
-use Rattle.std.proofs.Common.{◌≡◌, ◌≢◌, ℕ, ◌+◌, ◌<◌, ◌≤◌, ◌^◌, List, [], ◌∷◌, ◌++◌, length, Option, Some, None, Bool, true, false, refl, sym, ap, subst, ◌∙◌, arith, inl, inr, ◌⊎◌}
+use Rattle.std.proofs.Common.{◌≡◌, ◌≢◌, ℕ, ◌+◌, ◌<◌, ◌≤◌, ◌^◌, List, [], ◌∷◌, ◌++◌, length, Option, Some, None, Bool, true, false, refl, sym, ap, subst, ◌∙◌, arith, inl, inr}
 use Rattle.std.specs.Prelude.{slice_get, nat_lt, max, if◌then◌else◌, ◌==◌}
 use Rattle.std.proofs.lemmas.List.{append-nil}
 use Rattle.std.proofs.lemmas.Bool.Decides.{nat_tests}
 use Rattle.std.proofs.lemmas.Bool.{lt-ltb, le-ltb}
-use Rattle.ring_net.specs.declared.entry.JournalEntry.{JournalEntry}
 use Rattle.ring_net.specs.Deeds.{Deed}
-use Rattle.ring_net.specs.Posts.{TookItem}
 use Rattle.ring_net.specs.declared.post.Post.{Post}
 use Rattle.graft_steps.specs.declared.item.Item.{Item}
 use Rattle.graft_steps.specs.declared.item.Item.TheVariants as items
@@ -15,15 +13,15 @@ use Rattle.tcp_seq.specs.Endpoint.{PlacedSegment, IsInStreams}
 use Rattle.tcp_seq.specs.Placed.{placed}
 use Rattle.tcp_seq.specs.declared.segment.Segment.{Segment}
 use Rattle.tcp_seq.specs.declared.segment.Way.{Way}
-use Rattle.tcp_seq.specs.declared.segment.Way.TheVariants.{Home, Remote}
+use Rattle.tcp_seq.specs.declared.segment.Way.TheVariants.{Remote}
 use Rattle.session_value.specs.Sessions.{SessionValue}
 use Rattle.session_value.specs.Cases.{sending}
-use Rattle.graft_model.specs.Setups.{Setup, ScriptStep, SayStep, MoveStep, SettleStep, routers_in, peerings_in}
+use Rattle.graft_model.specs.Setups.{ScriptStep, SayStep, MoveStep, SettleStep, routers_in, peerings_in}
 use Rattle.graft_model.specs.Parts.{FarPart, Seg, PointAt}
 use Rattle.graft_model.specs.FarRows.{FarTaken, OutwardIn, SayIn}
 use Rattle.graft_model.specs.Steps.{FarEvent, Say, Take, Point, far_row}
 use Rattle.graft_model.specs.Codes.{far_code}
-use Rattle.graft_runs.specs.Actors.{ActorName, Router, FarSide, Operator, FarIs, Thing, OutwardItem, StepItem, number_in, IsActor, actor_at}
+use Rattle.graft_runs.specs.Actors.{ActorName, Router, FarSide, Operator, Thing, number_in, actor_at}
 use Rattle.graft_runs.specs.Makes.{HasCode, taken_by_far}
 use Rattle.graft_runs.proofs.Numbers.{there, of_number, at_operator}
 use Rattle.graft_actors.specs.Items.{home_first, remote_first, placed_for, segment_of, segment_thing, IsSegmentOf, thing_of}

@@ -1,5 +1,5 @@
 -- The pieces of a turn, one after another.
-use Rattle.std.proofs.Common.{◌≡◌, ℕ, ◌+◌, ◌≤◌, List, [], ◌∷◌, ◌++◌, length, Bool, true, false, refl, sym, ap, subst, ◌∙◌, arith, inl, inr, append_assoc}
+use Rattle.std.proofs.Common.{◌≡◌, ℕ, ◌+◌, List, [], ◌++◌, length, false, refl, sym, ap, subst, ◌∙◌, arith, inl, inr, append_assoc}
 use Rattle.ring_net.specs.declared.post.Post.{Post}
 use Rattle.graft_steps.specs.declared.item.Item.{Item}
 use Rattle.tcp_seq.specs.Endpoint.{Endpoint}
@@ -7,13 +7,13 @@ use Rattle.link_bag.specs.declared.plan.Fate.{Fate}
 use Rattle.link_bag.specs.Planned.{fate_in}
 use Rattle.session_value.specs.Sessions.{SessionValue}
 use Rattle.graft_model.specs.Steps.{FarEvent}
-use Rattle.graft_actors.specs.Emissions.{nothing, Tally, reach_of, IsRested}
+use Rattle.graft_actors.specs.Emissions.{nothing, Tally, reach_of}
 use Rattle.far_side.specs.Remotes.{RemoteValue}
 use Rattle.far_side.specs.Links.{LinkValue, home_events, remote_events, left_of}
-use Rattle.far_side.specs.Parts.{far_part, own_part, Keeps}
+use Rattle.far_side.specs.Parts.{far_part}
 use Rattle.far_side.specs.Turns.{Did}
 use Rattle.far_side.specs.Passes.{fates_in, plans_put, SameRemote, HomePass, RemotePass, Sent, SentAgain, SentFresh, SentAnswer, Beats, Beaten, again_events, answer_events}
-use Rattle.far_side.specs.Turned.{Turned, TurnsOnce}
+use Rattle.far_side.specs.Turned.{TurnsOnce}
 use Rattle.far_side.specs.declared.fields.Fields.{Fields}
 use Rattle.far_side.specs.declared.link.InLink.{InLink}
 use Rattle.far_side.proofs.Dids.{did_same, did_then}

@@ -1,5 +1,5 @@
 -- A far side: which configuration is whose, how it begins, and what is said of its calls.
-use Rattle.std.specs.Prelude.{ℕ, ◌≡◌, ◌<◌, ◌≤◌, List, [], length, Option, Some, option_map, slice_get}
+use Rattle.std.specs.Prelude.{ℕ, ◌≡◌, ◌<◌, ◌≤◌, List, [], length, Some, slice_get}
 use Rattle.ring_net.specs.Deeds.{Deed}
 use Rattle.graft_steps.specs.declared.item.Item.{Item}
 use Rattle.graft_model.specs.Setups.{Setup, PeeringSetup, beat_of, routers_in, peerings_in}

@@ -1,5 +1,5 @@
 -- That a far side is sound has one proof at most.
-use Rattle.std.specs.Prelude.{ℕ, ◌≡◌, false, Bool}
+use Rattle.std.specs.Prelude.{◌≡◌, false, Bool}
 use Rattle.std.specs.List.{AllByRecursion-prop}
 use Rattle.std.proofs.Props.{props}
 use Rattle.far_side.specs.Parts.{Keeps}

@@ -4,9 +4,9 @@ use Rattle.std.specs.List.{AllByRecursion}
 use Rattle.tcp_seq.specs.declared.segment.Way.{Way}
 use Rattle.tcp_seq.specs.declared.segment.Way.TheVariants.{Home, Remote}
 use Rattle.session_value.specs.Sessions.{SessionValue}
-use Rattle.graft_model.specs.Setups.{Setup, ScriptStep, SayStep, MoveStep, SettleStep, beat_of, routers_in, peerings_in}
+use Rattle.graft_model.specs.Setups.{ScriptStep, SayStep, MoveStep, SettleStep, beat_of, routers_in, peerings_in}
 use Rattle.graft_model.specs.Parts.{FarPart}
-use Rattle.graft_runs.specs.Actors.{ActorName, FarSide, FarIs}
+use Rattle.graft_runs.specs.Actors.{FarSide, FarIs}
 use Rattle.graft_actors.specs.Items.{home_first, remote_first}
 use Rattle.graft_actors.specs.Acts.{OwnPart}
 use Rattle.far_side.specs.Links.{LinkValue}

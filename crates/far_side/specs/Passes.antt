@@ -1,5 +1,5 @@
 -- The pieces of a far side's turn.
-use Rattle.std.specs.Prelude.{ℕ, zero, suc, ◌≡◌, ◌⊎◌, ◌<◌, ◌≤◌, ◌+◌, ◌%◌, ◌^◌, ◌==◌, nat_lt, if◌then◌else◌, Bool, true, false, List, [], ◌∷◌, ◌++◌, length, Option, Some, None, slice_get, slice_set}
+use Rattle.std.specs.Prelude.{ℕ, zero, suc, ◌≡◌, ◌⊎◌, ◌<◌, ◌≤◌, ◌+◌, ◌%◌, ◌^◌, nat_lt, if◌then◌else◌, false, List, [], ◌∷◌, ◌++◌, length, Some, slice_get, slice_set}
 use Rattle.ring_net.specs.declared.post.Post.{Post}
 use Rattle.graft_steps.specs.declared.item.Item.{Item}
 use Rattle.graft_steps.specs.declared.item.Item.TheVariants as items
@@ -9,7 +9,6 @@ use Rattle.link_bag.specs.Planned.{fate_in}
 use Rattle.tcp_seq.specs.Placed.{placed}
 use Rattle.tcp_seq.specs.Endpoint.{Endpoint, PlacedSegment, TakesSegment, next_length, again_length}
 use Rattle.tcp_seq.specs.declared.segment.Segment.{Segment}
-use Rattle.tcp_seq.specs.declared.segment.Way.TheVariants.{Home}
 use Rattle.session_value.specs.Sessions.{SessionValue}
 use Rattle.graft_model.specs.FarRows.{without}
 use Rattle.graft_model.specs.Steps.{FarEvent, Send, Beat}

@@ -1,11 +1,9 @@
 -- The remote of a far side: its endpoint over whole numbers, and the segments that it emits.
-use Rattle.std.specs.Prelude.{ℕ, ◌≡◌, ◌<◌, ◌≤◌, ◌+◌, ◌^◌, List, [], length, Option, Some, None, Bool, refl}
+use Rattle.std.specs.Prelude.{ℕ, ◌≡◌, ◌<◌, ◌≤◌, ◌+◌, ◌^◌, List, length, Option, Some, None, Bool, refl}
 use Rattle.std.specs.Coded.{Coded, code_by, coded×, coded_ℕ, coded_bool, coded_list}
 use Rattle.std.specs.FinMap as map
-use Rattle.graft_edge.specs.declared.ids.PeeringId.{PeeringId}
 use Rattle.tcp_seq.specs.Endpoint.{Bytes, Endpoint, PlacedSegment, IsInStreams}
 use Rattle.tcp_seq.specs.Placed.{placed}
-use Rattle.tcp_seq.specs.declared.seq.Seq.{Seq}
 use Rattle.tcp_seq.specs.declared.segment.Way.TheVariants.{Home, Remote}
 use Rattle.tcp_seq.specs.declared.segment.Segment.{Segment}
 

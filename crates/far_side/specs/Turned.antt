@@ -1,12 +1,11 @@
 -- What a far side says of one turn.
-use Rattle.std.specs.Prelude.{ℕ, ◌≡◌, ◌≤◌, ◌+◌, List, [], ◌∷◌, ◌++◌, length, false}
+use Rattle.std.specs.Prelude.{◌≡◌, ◌+◌, List, ◌++◌, length, false}
 use Rattle.ring_net.specs.Deeds.{Deed}
 use Rattle.ring_net.specs.Posts.{Moved}
 use Rattle.ring_net.specs.declared.post.Post.{Post}
 use Rattle.graft_steps.specs.declared.item.Item.{Item}
 use Rattle.tcp_seq.specs.Endpoint.{Endpoint}
 use Rattle.session_value.specs.Sessions.{SessionValue}
-use Rattle.session_value.specs.Cases.{sending}
 use Rattle.graft_model.specs.Steps.{FarEvent}
 use Rattle.graft_actors.specs.Acts.{acts}
 use Rattle.graft_actors.specs.Emissions.{nothing, IsRested}

@@ -1,23 +1,20 @@
 -- What a far side does in one call: the events that it makes of its part, and what becomes of what it keeps beside it.
-use Rattle.std.specs.Prelude.{ℕ, zero, suc, ◌≡◌, ◌⊎◌, ◌<◌, ◌≤◌, ◌+◌, ◌%◌, ◌==◌, ◌&&◌, nat_lt, if◌then◌else◌, Bool, true, false, List, [], ◌∷◌, ◌++◌, length, Option, Some, None}
+use Rattle.std.specs.Prelude.{ℕ, ◌≡◌, List, [], ◌∷◌, Option}
 use Rattle.std.specs.List.{AllByRecursion}
 use Rattle.ring_net.specs.Deeds.{Deed, Replay, TakesNone}
 use Rattle.ring_net.specs.Posts.{actor_of, Wrote}
 use Rattle.ring_net.specs.declared.post.Post.{Post}
 use Rattle.graft_steps.specs.declared.item.Item.{Item}
-use Rattle.link_bag.specs.declared.plan.Fate.{Fate}
-use Rattle.tcp_seq.specs.Endpoint.{Endpoint, next_length, again_length}
 use Rattle.session_value.specs.Sessions.{SessionValue}
 use Rattle.graft_model.specs.Setups.{Setup}
 use Rattle.graft_model.specs.Parts.{FarPart}
 use Rattle.graft_model.specs.FarRows.{FarTaken, FarSent}
 use Rattle.graft_model.specs.Codes.{far_code}
-use Rattle.graft_model.specs.Steps.{FarEvent, Say, Send, Take, Pass, Reach, Lose, Point, Beat, far_row}
+use Rattle.graft_model.specs.Steps.{FarEvent, Send, far_row}
 use Rattle.graft_runs.specs.Makes.{HasCode}
 use Rattle.graft_actors.specs.Acts.{acts}
-use Rattle.graft_actors.specs.Emissions.{IsCareful, Tally, nothing, counted, IsRested}
-use Rattle.far_side.specs.Links.{LinkValue, home_events, remote_events, left_of, put_now}
-use Rattle.far_side.specs.Parts.{far_part, own_part, Keeps}
+use Rattle.graft_actors.specs.Emissions.{IsCareful, Tally, counted}
+use Rattle.far_side.specs.Parts.{far_part, own_part}
 use Rattle.far_side.specs.declared.fields.Fields.{Fields}
 
 -- ---- events of a part, one after another

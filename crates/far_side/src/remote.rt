@@ -119,12 +119,7 @@ impl Remote {
     }
 
     /// A segment of these numbers arrives, which are of 32 bits.
-    fn arrive_numbered(
-        &mut self,
-        segment: &Segment,
-        seq: u32,
-        ack: u32,
-    ) -> Result<(), NoMemory>
+    fn arrive_numbered(&mut self, segment: &Segment, seq: u32, ack: u32) -> Result<(), NoMemory>
         requires own { IsFor self.old segment.now }
         requires seq { seq ≡ segment.now.seq.0 }
         requires ack { ack ≡ segment.now.ack.0 }

@@ -15,9 +15,9 @@ loop-segment-init g c = (freshly_first c.args.far.now c.args.post.now c.requires
 pub loop-segment-preserved : goal.loop-segment-preserved
 loop-segment-preserved g c = (
   freshly_next c.args.far.now c.loop-segment.far c.send.new.far c.args.post.now c.loop-segment.post c.send.new.post c.next.new.self c.in-Some.segment c.loop-segment.invariant.0 c.next.ensures.sound
-  (subst (λ (o : Option Segment). EmitsOf EmitsNext c.loop-segment.far.remote o c.next.new.self.end) c.in-Some.is c.in_ok-segment.ensures.emits)
-  c.in_ok-segment.ensures.same c.in_ok-send.ensures.sent.1
-  (subst (λ (n : ℕ). WroteOne c.loop-segment.post 18 n (length c.in-Some.segment.bytes) 0 [] c.send.new.post) c.emitted-from.ensures c.in_ok-send.ensures.sent.0),
+      (subst (λ (o : Option Segment). EmitsOf EmitsNext c.loop-segment.far.remote o c.next.new.self.end) c.in-Some.is c.in_ok-segment.ensures.emits)
+      c.in_ok-segment.ensures.same c.in_ok-send.ensures.sent.1
+      (subst (λ (n : ℕ). WroteOne c.loop-segment.post 18 n (length c.in-Some.segment.bytes) 0 [] c.send.new.post) c.emitted-from.ensures c.in_ok-send.ensures.sent.0),
   same_edges_then _ _ _ c.loop-segment.invariant.1 c.send.ensures.edges,
 )
 

@@ -1,4 +1,4 @@
-use Rattle.std.proofs.Common.{rules, ℕ, refl, ap, ◌∙◌, arith, ◌≡◌, ◌+◌}
+use Rattle.std.proofs.Common.{rules, ℕ, ap, ◌∙◌, ◌≡◌, ◌+◌}
 use Rattle.link_bag.specs.Planned.{fate_in}
 use Rattle.far_side.specs.Links.{put_now, LinkValue}
 use Rattle.far_side.specs.declared.link.InLink.{InLink}

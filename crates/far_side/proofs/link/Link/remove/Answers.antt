@@ -1,5 +1,4 @@
-use Rattle.std.proofs.Common.{refl, ap, subst, arith, ◌<◌, length}
-use Rattle.tcp_seq.specs.Placed.{placed}
+use Rattle.std.proofs.Common.{refl, ap, arith, ◌<◌, length}
 use Rattle.far_side.proofs.LinkSteps.{on_at, seen_at, removed_then, keeps_removed}
 use Rattle.far_side.proofs.link.Link.remove.Goals as goal
 
