@@ -1,5 +1,6 @@
 pub mod RemoteSteps
 pub mod LinkSteps
+pub mod Leaving
 pub mod PassLists
 pub mod Kept
 pub mod Sessions

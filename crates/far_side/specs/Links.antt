@@ -33,6 +33,14 @@ is_gone (Delivered keep) = not keep
 is_gone Copied = true
 is_gone Lost = true
 
+-- how many turns after its first delivery a segment of this fate leaves the link
+abbrev pub last_turn : Fate → ℕ
+last_turn Pass = 0
+last_turn Lose = 0
+last_turn (Repeat after) = after
+last_turn (Hold after) = after
+last_turn (Stray after) = after
+
 -- the same segment, one turn later
 abbrev pub older : InLink → InLink
 older x = record x { turns = x.turns + 1 }

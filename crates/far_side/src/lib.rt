@@ -6,6 +6,7 @@ mod emit;
 mod far;
 mod fields;
 mod home;
+mod laws;
 mod link;
 mod note;
 mod reach;
@@ -16,4 +17,5 @@ mod turn;
 
 pub use config::FarConfig;
 pub use far::Far;
+pub use laws::segments_leave_by_their_fates;
 pub use says::{Say, Says};
