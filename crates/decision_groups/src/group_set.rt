@@ -97,6 +97,7 @@ impl GroupSet {
         ensures removed { IsTrue result ↔ IsSome (rank_at self.old from) }
         ensures left { self.new ≡ without self.old from }
         ensures in_order { IsInOrder self.new }
+        ensures was_in_order { IsInOrder self.old }
     {
         match self.ranks.remove(from) {
             Some(held) => {

@@ -4,11 +4,12 @@ use Rattle.std.specs.FinMap as map
 use Rattle.std.specs.List.{filter_map}
 use Rattle.bgp_types.specs.declared.attrs.Attrs.{Attrs}
 use Rattle.bgp_types.specs.declared.attrs.Route.{Route}
-use Rattle.bgp_types.specs.declared.rank.From.TheVariants.{Peering, Router}
+use Rattle.bgp_types.specs.declared.rank.From.TheVariants.{Router}
 use Rattle.bgp_types.specs.Prefixes.{PrefixValue}
 use Rattle.bgp_story.specs.Legal.{got_open}
 use Rattle.decision_core.specs.Choice.{choice}
 use Rattle.route_policy.specs.Candidates.{SessionRoute, Candidate, imported, own_candidates, rank_of}
+pub use Rattle.route_policy.specs.Candidates.{entry_candidate}
 use Rattle.route_policy.specs.Telling.{OutSide, tell_out}
 use Rattle.route_policy.specs.declared.best.Best.{Best}
 use Rattle.session_value.specs.declared.config.SessionConfig.{SessionConfig}
@@ -40,9 +41,6 @@ entry_of setup r session prefix = option_map
     (imported setup.home_as prefix (session_route setup r session prefix) (map.get session.heard prefix))
 
 -- ---- deciding
-
-abbrev pub entry_candidate : ℕ → ℕ → Option Entry → Option Candidate
-entry_candidate home_as p entry = option_map (λ e. (record { from = Peering (record { 0 = p }); route = e.route }, rank_of home_as true 0 e.identifier e.address e.route)) entry
 
 -- a told route has the telling router's identifier for its identifier and its address
 abbrev pub telling_candidate : Setup → ℕ → ℕ → Option Route → Option Candidate

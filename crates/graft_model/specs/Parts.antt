@@ -1,14 +1,14 @@
 -- The actors' parts of the world, and the items that go between them.
 use Rattle.std.specs.Prelude.{ℕ, Bool, List, Option}
-use Rattle.std.specs.FinMap as map
 use Rattle.bgp_types.specs.declared.attrs.Route.{Route}
 use Rattle.bgp_types.specs.Prefixes.{PrefixValue}
-use Rattle.bgp_types.specs.Tables.{prefix_cmp}
 use Rattle.tcp_seq.specs.Endpoint.{Endpoint, PlacedSegment}
 use Rattle.graft_steps.specs.declared.refusal.Refusal.{Refusal}
 use Rattle.graft_steps.specs.declared.refusal.Outcome.{Outcome}
 use Rattle.session_value.specs.Sessions.{SessionValue}
 use Rattle.session_value.specs.Sets.{BestRoutes, Prefixes}
+pub use Rattle.session_value.specs.Sets.{Entries, Tellings}
+pub use Rattle.route_policy.specs.declared.entry.Entry.{Entry}
 
 -- ---- a router
 
@@ -25,19 +25,6 @@ pub data Place : Type 0 where
   Live : SessionValue → Option Order → Place
   Frozen : SessionValue → Order → Place
   Shadow : (graft : ℕ) → Place
-
--- what a peering brought in for a prefix: the route as the import policy left it, and the identifier and the address of the remote
-pub record Entry : Type 0 where
-  pub route : Route
-  pub identifier : ℕ
-  pub address : ℕ
-
-abbrev pub Entries : Type 0
-Entries = map.FinMap prefix_cmp Entry
-
--- the routes that another router told
-abbrev pub Tellings : Type 0
-Tellings = map.FinMap prefix_cmp Route
 
 -- A home router: its places by peering; the entries by peering and by router; the best route to each prefix; the prefixes that are
 -- to be decided again; and those that are due to be told to each router and on each peering.

@@ -1,8 +1,6 @@
 -- Functions of numbers that have another value at one place.
-use Rattle.std.specs.Prelude.{ℕ, ◌==◌, if◌then◌else◌}
-
-abbrev pub at : {A : Type 0} → (ℕ → A) → ℕ → A → ℕ → A
-at f place value n = if n == place then value else f n
+use Rattle.std.specs.Prelude.{ℕ}
+pub use Rattle.session_value.specs.Points.{at}
 
 abbrev pub at2 : {A : Type 0} → (ℕ → ℕ → A) → ℕ → ℕ → A → ℕ → ℕ → A
 at2 f from to value = at f from (at (f from) to value)

@@ -6,7 +6,7 @@ use Rattle.bgp_types.specs.declared.message.SessionState.{SessionState}
 use Rattle.bgp_types.specs.declared.message.SessionState.TheVariants.{OpenSent, OpenConfirm, Established, Closed}
 use Rattle.bgp_types.specs.Prefixes.{PrefixValue, same_prefix}
 use Rattle.route_policy.specs.Telling.{tell_in}
-use Rattle.loc_rib.specs.Values.{with_best}
+use Rattle.loc_rib.specs.Values.{with_best, with_value}
 use Rattle.session_value.specs.Sessions.{state}
 use Rattle.session_value.specs.Sets.{has}
 use Rattle.graft_model.specs.Points.{at}
@@ -60,8 +60,7 @@ pub record Tells (q : ℕ) (prefix : PrefixValue) (before : RouterPart) (taken :
   pub effect : after ≡ record before { due_in = at before.due_in q (map.remove (before.due_in q) prefix) }
 
 abbrev pub with_telling : Tellings → PrefixValue → Option Route → Tellings
-with_telling tellings prefix None = map.remove tellings prefix
-with_telling tellings prefix (Some route) = map.insert tellings prefix route
+with_telling = with_value
 
 -- What another router tells is heard. The prefix is dirty where that is another route than before.
 pub record Hears (q : ℕ) (before : RouterPart) (taken : Option RouterTaken) (sent : List RouterSent) (after : RouterPart) : Type 0 where

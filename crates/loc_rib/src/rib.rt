@@ -1,11 +1,11 @@
 //! Best routes and dirty prefixes.
 
-ghost use Rattle.std.specs.Prelude.{◌≡◌, None, option_copied, IsOk, IsSome, IfOk, OnOk, OnErr};
+ghost use Rattle.std.specs.Prelude.{◌≡◌, ◌≢◌, Some, None, option_copied, is_some, IsOk, IsSome, IfOk, OnOk, OnErr, MatchBool};
 ghost use Rattle.std.specs.FinMap as map;
 ghost use Rattle.bgp_types.specs.Tables.{first_above};
 ghost use Rattle.loc_rib.specs.Values.{with_best, AreApart};
 
-use bgp_types::{NoMemory, Prefix, Table};
+use bgp_types::{From, NoMemory, Prefix, Route, Table, TryCopy};
 use prefix_trie::TrieTable;
 use route_policy::Best;
 use std::alloc::Global;
@@ -38,6 +38,17 @@ fn are_apart(a: Option<&Best>, b: Option<&Best>) -> bool
         (None, None) => false,
         (Some(a), Some(b)) => a.from != b.from || a.route != b.route,
         _ => true,
+    }
+}
+
+/// Whether a best route is this one.
+#[tactic(auto, using(bgp_types::proofs::Equality::route_equal))]
+fn is_this(best: Option<&Best>, from: From, route: &Route) -> bool
+    ensures { MatchBool result (option_copied best.entry ≡ Some (record { from = from; route = route.now })) (option_copied best.entry ≢ Some (record { from = from; route = route.now })) }
+{
+    match best {
+        Some(best) => best.from == from && best.route == *route,
+        None => false,
     }
 }
 
@@ -82,6 +93,27 @@ impl LocRib {
         }
     }
 
+    /// Gives a prefix a copy of this route for its best, unless it has it already, and answers whether that is
+    /// another than it had. If memory runs out, nothing changes.
+    #[tactic(auto, using(crate::proofs::Tables::inserted_again))]
+    pub fn set_copy(&mut self, prefix: Prefix, from: From, route: &Route) -> Result<bool, NoMemory>
+        ensures changed { IfOk result (λ changed. AreApart (Some (record { from = from; route = route.now })) (map.get self.old.best prefix) changed) }
+        ensures ok { OnOk result (self.new ≡ record self.old { best = with_best self.old.best prefix (Some (record { from = from; route = route.now })) }) }
+        ensures err { OnErr result (self.new ≡ self.old) }
+    {
+        if is_this(self.best.get(prefix), from, route) {
+            return Ok(false);
+        }
+        let best = Best {
+            from,
+            route: route.copy()?,
+        };
+        match self.best.set(prefix, best) {
+            Ok(_) => Ok(true),
+            Err(_) => Err(NoMemory),
+        }
+    }
+
     /// Makes a prefix dirty. For want of memory nothing has changed.
     pub fn mark(&mut self, prefix: Prefix) -> Result<(), NoMemory>
         ensures ok { OnOk result (self.new ≡ record self.old { dirty = map.insert self.old.dirty prefix tt }) }
@@ -92,6 +124,13 @@ impl LocRib {
             Ok(_) => Ok(()),
             Err(_) => Err(NoMemory),
         }
+    }
+
+    /// Whether a prefix is dirty.
+    pub fn is_dirty(&self, prefix: Prefix) -> bool
+        ensures { result ≡ is_some (map.get self.now.dirty prefix) }
+    {
+        self.dirty.get(prefix).is_some()
     }
 
     /// The least dirty prefix.

@@ -1,3 +1,4 @@
+pub mod Points
 pub mod Sets
 pub mod Fronts
 pub mod Sessions
