@@ -8,3 +8,4 @@ mod Same
 mod Needs
 mod OneOutcome
 mod FarOutcome
+pub mod Takes

@@ -16,3 +16,4 @@ pub mod Claims
 pub mod Codes
 pub mod Laws
 pub mod Conditions
+pub mod Taking

@@ -14,7 +14,8 @@ ghost use Rattle.graft_model.specs.Parts.{RouterPart, FarPart, OperatorPart, Wor
 ghost use Rattle.graft_model.specs.RouterRows.{RouterTaken, OrderIn, MeshIn, RouterSent, MeshTo, ReportOut};
 ghost use Rattle.graft_model.specs.FarRows.{FarTaken, OutwardIn, FarSent};
 ghost use Rattle.graft_model.specs.OperatorRows.{OperatorTaken, OperatorSent, OrderTo, SayTo, placement};
-ghost use Rattle.graft_model.specs.Steps.{Step, ByOperator, Go, Put, Emit, Arrive, Stray, Got, Tell, Admit, Refuse, Freeze, Leave, Land, TurnBack, Return, Clear, Tick, Point, Beat, router_row, far_row, operator_row};
+ghost use Rattle.graft_model.specs.Taking.{RouterMayTake, FarMayTake, OperatorMayTake};
+ghost use Rattle.graft_model.specs.Steps.{Step, RouterEvent, FarEvent, OperatorEvent, ByOperator, Go, Put, Emit, Arrive, Stray, Got, Tell, Admit, Refuse, Freeze, Leave, Land, TurnBack, Return, Clear, Tick, Point, Beat, router_row, far_row, operator_row};
 ghost use Rattle.graft_model.specs.Steps.{Order as OrderOf};
 ghost use Rattle.graft_model.specs.Quiet.{Quiet};
 ghost use Rattle.graft_model.specs.Claims.{sessions_at};
@@ -147,4 +148,14 @@ pub fn missing_policies_are_named()
     ensures export { (setup : Setup) (r : ℕ) (config : SessionConfig) (name other : List ℕ) → config.import ≡ Some other → rules_named setup r other ≢ None
         → config.export ≡ Some name → rules_named setup r name ≡ None → missing_policy setup r config ≡ Some name }
     ensures neither { (setup : Setup) (r : ℕ) (config : SessionConfig) → config.import ≡ None → config.export ≡ None → missing_policy setup r config ≡ None }
+{}
+
+/// What an actor's event takes it may take. So it can take nothing else, whatever the event.
+pub fn items_are_taken_where_they_may_be()
+    ensures router { (setup : Setup) (r : ℕ) (event : RouterEvent) (before after : RouterPart) (item : RouterTaken) (sent : List RouterSent)
+        → router_row setup r event before (Some item) sent after → RouterMayTake setup before item }
+    ensures far { (setup : Setup) (p : ℕ) (event : FarEvent) (before after : FarPart) (item : FarTaken) (sent : List FarSent)
+        → far_row setup p event before (Some item) sent after → FarMayTake setup p before item }
+    ensures operator { (setup : Setup) (event : OperatorEvent) (before after : OperatorPart) (item : OperatorTaken) (sent : List OperatorSent)
+        → operator_row setup event before (Some item) sent after → OperatorMayTake before item }
 {}

@@ -9,9 +9,9 @@ mod laws;
 
 pub use conditions::{
     beats_are_few_and_later, dirty_prefixes_wait, grafts_go_on_where_they_stand,
-    groups_begin_in_quiet_worlds, landings_have_room, later_grafts_alone_turn_links,
-    live_sessions_alone_act, missing_policies_are_named, quiet_sessions_are_settled,
-    sessions_act_in_their_states, steps_wait_for_earlier_ones,
+    groups_begin_in_quiet_worlds, items_are_taken_where_they_may_be, landings_have_room,
+    later_grafts_alone_turn_links, live_sessions_alone_act, missing_policies_are_named,
+    quiet_sessions_are_settled, sessions_act_in_their_states, steps_wait_for_earlier_ones,
 };
 pub use effects::{
     another_best_route_is_due, leaving_keeps_the_entries, moved_sessions_are_told_again,

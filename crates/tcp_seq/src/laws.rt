@@ -6,7 +6,9 @@ ghost use Rattle.std.specs.FinMap as map;
 ghost use Rattle.tcp_seq.specs.declared.rules.AckKind.{AckKind};
 ghost use Rattle.tcp_seq.specs.Numbers.{number, plus, offset_from};
 ghost use Rattle.tcp_seq.specs.Rules.{Acceptable, IsAck, AcceptablePlace, IsPlaceAck, IsInStream};
-ghost use Rattle.tcp_seq.specs.Endpoint.{Endpoint, PlacedSegment, Bytes, bytes_in_order, IsReceived, received, received_bytes, TakesSegment, IsTaken, EmitsNext, EmitsAgain, EmitsSlice};
+ghost use Rattle.tcp_seq.specs.Endpoint.{Endpoint, PlacedSegment, Bytes, bytes_in_order, IsReceived, received, received_bytes, IsInStreams, TakesSegment, IsTaken, EmitsNext, EmitsAgain, EmitsSlice};
+ghost use Rattle.tcp_seq.specs.Placed.{placed};
+ghost use Rattle.tcp_seq.specs.declared.segment.Segment.{Segment};
 ghost use Rattle.tcp_seq.specs.Connection.{Connection, fresh_connection, ConnectionStep, ConnectionRun, IsConnection};
 
 /// Going on from a place's number is going on from the place, and the offset of a later place's number
@@ -14,6 +16,15 @@ ghost use Rattle.tcp_seq.specs.Connection.{Connection, fresh_connection, Connect
 pub fn numbers_by_places()
     ensures on { (first place n : ℕ) → plus (number first place) n ≡ number first (place + n) }
     ensures apart { (first place n : ℕ) → n < 2 ^ 32 → offset_from (number first (place + n)) (number first place) ≡ n }
+{}
+
+/// A segment has the numbers of the places that it is placed at, and of no others in streams of at most 1 MiB or a window at their
+/// end.
+pub fn a_segment_has_its_places()
+    ensures numbers { (seq_first ack_first : ℕ) (g : Segment) → seq_first < 2 ^ 32 → ack_first < 2 ^ 32 → g.seq.0 < 2 ^ 32 → g.ack.0 < 2 ^ 32
+        → (g.seq.0 ≡ number seq_first (placed seq_first ack_first g).place) × (g.ack.0 ≡ number ack_first (placed seq_first ack_first g).ack) }
+    ensures one { (seq_first ack_first : ℕ) (g : Segment) (p : PlacedSegment) → seq_first < 2 ^ 32 → ack_first < 2 ^ 32 → g.seq.0 < 2 ^ 32 → g.ack.0 < 2 ^ 32 → IsInStreams p
+        → g.seq.0 ≡ number seq_first p.place → g.ack.0 ≡ number ack_first p.ack → g.bytes ≡ p.bytes → p ≡ placed seq_first ack_first g }
 {}
 
 /// For streams of at most 1 MiB the test of numbers is the test of places, however old the segment is.

@@ -1,5 +1,9 @@
 //! Segments.
 
+ghost use Rattle.std.specs.Prelude.{MatchBool};
+ghost use Rattle.tcp_seq.specs.Endpoint.{IsInStreams};
+ghost use Rattle.tcp_seq.specs.Placed.{placed};
+
 use crate::seq::Seq;
 use graft_edge::{NoMemory, Octets, PeeringId, TryCopy};
 
@@ -20,6 +24,25 @@ pub struct Segment {
     pub ack: Seq,
     pub window: u16,
     pub bytes: Octets,
+}
+
+/// The last place that a byte can have, or be acknowledged up to, in a stream of at most 1 MiB or in a window of
+/// at most 65,536 at its end.
+const LAST_PLACE: u32 = 1_114_112;
+
+impl Segment {
+    /// Whether its numbers are those of places of streams of at most 1 MiB, or of a window at their end, where
+    /// `seq_first` is the number of the first byte of the stream that its bytes are of, and `ack_first` that of the
+    /// one that it acknowledges.
+    pub fn is_in_streams(&self, seq_first: Seq, ack_first: Seq) -> bool
+        ensures { MatchBool result (IsInStreams (placed seq_first.0 ack_first.0 self.now)) (¬ IsInStreams (placed seq_first.0 ack_first.0 self.now)) }
+    {
+        let place = self.seq.offset_from(seq_first);
+        let acknowledged = self.ack.offset_from(ack_first);
+        let most = LAST_PLACE as usize;
+        let len = self.bytes.as_slice().len();
+        acknowledged <= LAST_PLACE && len <= most && place as usize <= most - len
+    }
 }
 
 impl TryCopy for Segment {
