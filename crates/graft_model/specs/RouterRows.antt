@@ -7,12 +7,12 @@ use Rattle.std.specs.Ordering.{is_lt}
 use Rattle.bgp_types.specs.declared.attrs.Attrs.{Attrs}
 use Rattle.bgp_types.specs.declared.message.SessionState.{SessionState}
 use Rattle.bgp_types.specs.declared.message.SessionState.TheVariants.{OpenConfirm, Established, Closed}
-use Rattle.bgp_types.specs.declared.message.Update.{Update}
 use Rattle.bgp_types.specs.Prefixes.{PrefixValue, same_prefix}
 use Rattle.bgp_types.specs.Tables.{prefix_cmp}
 use Rattle.tcp_seq.specs.Endpoint.{Endpoint, PlacedSegment, TakesSegment}
 use Rattle.session_value.specs.Sessions.{SessionValue, state}
 use Rattle.session_value.specs.Cases.{GetsFrame, PutsUpdate, PassesRound}
+pub use Rattle.session_value.specs.Cases.{update_for}
 use Rattle.session_value.specs.Sets.{BestRoutes, Prefixes, has, Marks}
 use Rattle.graft_model.specs.Points.{at}
 use Rattle.graft_model.specs.Slices.{EmitsAt}
@@ -63,11 +63,6 @@ pub record PutsNothing (setup : Setup) (r p : ℕ) (before : RouterPart) (taken 
   pub nothing : (x : PrefixValue) → IsToTell setup r before p session x → ⊥
   pub due : Drops (before.due_out p) (λ x. not (has before.dirty x)) (after.due_out p)
   pub effect : after ≡ record before { due_out = at before.due_out p (after.due_out p) }
-
--- the UPDATE that tells this of prefixes: that they have these attributes, or none
-abbrev pub update_for : Option Attrs → List PrefixValue → Update
-update_for None prefixes = record { withdrawn = prefixes; attrs = None; nlri = [] }
-update_for (Some attrs) prefixes = record { withdrawn = []; attrs = Some attrs; nlri = prefixes }
 
 -- The first n of the prefixes that are to be told the same as the first one of all are put in one UPDATE, and are due no more.
 pub record PutsSome (setup : Setup) (r p n : ℕ) (before : RouterPart) (taken : Option RouterTaken) (sent : List RouterSent) (after : RouterPart) : Type 0 where

@@ -175,7 +175,7 @@ module _ (rib : RibValue) (prefix : PrefixValue) where
 
   here_or_none : (b : Bool) (p : ℕ) (g : ℕ → Option Candidate) → (p < 256 → b ≡ true) → (256 ≤ p → g p ≡ None) → cond b (g p) None ≡ g p
   here_or_none true p g there none = refl
-  here_or_none false p g there none = elim (cases_lt p 256) [ | inl lt ↦ absurd (let e : ◌≡◌ {A = Bool} false true = there lt in cc) | inr le ↦ sym (none le) ]
+  here_or_none false p g there none = elim (cases_lt p 256) [ inl lt ↦ absurd (let e : ◌≡◌ {A = Bool} false true = there lt in cc) | inr le ↦ sym (none le) ]
 
   no_entry : IsShort rib → (p : ℕ) → 256 ≤ p → entry_at p ≡ None
   no_entry short p le = ap (entry_candidate rib.config.home_as p) (ap (λ (t : Rattle.session_value.specs.Sets.Entries). table.get t prefix) (short.entries p le) ∙ table.get-empty prefix_cmp prefix)

@@ -243,7 +243,7 @@ module _ (config : RibConfig) (sets : RankSets) (networks : Prefixes) (own : Rou
   abbrev fresh : RibValue
   fresh = record { config = config; entries = λ p. map.empty; tellings = λ q. map.empty; best = map.empty; dirty = set_of config.networks }
 
-  fresh_ranks : HasOwnRanks config.home_as config.networks sets → (q : PrefixValue) (from : From) → rank_at (ranks_at sets q) from ≡ rank_in fresh q from
+  fresh_ranks : HasOwnRanks (own_rank config.home_as) config.networks sets → (q : PrefixValue) (from : From) → rank_at (ranks_at sets q) from ≡ rank_in fresh q from
   fresh_ranks has_own q Own = has_own.own q
   fresh_ranks has_own q (Peering p) = has_own.others q (Peering p) (λ e. absurd (not_own e)) ∙ sym (ap (option_map (entry_rank config.home_as)) (map.get-empty prefix_cmp q)) where
     not_own : Peering p ≡ Own → ⊥
@@ -252,7 +252,7 @@ module _ (config : RibConfig) (sets : RankSets) (networks : Prefixes) (own : Rou
     not_own : Router r ≡ Own → ⊥
     not_own e = cc
 
-  pub kept_fresh : HasOwnRanks config.home_as config.networks sets → networks ≡ set_of config.networks → own ≡ own_route → IsRib fresh sets networks own
+  pub kept_fresh : HasOwnRanks (own_rank config.home_as) config.networks sets → networks ≡ set_of config.networks → own ≡ own_route → IsRib fresh sets networks own
   kept_fresh has_own set route = record {
     ranks = fresh_ranks has_own;
     entries = λ p le. refl;

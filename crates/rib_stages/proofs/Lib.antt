@@ -5,3 +5,7 @@ pub mod Numbered
 pub mod Candidates
 pub mod Marks
 pub mod Kept
+pub mod RankSets
+pub mod OwnRanks
+pub mod Drops
+pub mod Whole

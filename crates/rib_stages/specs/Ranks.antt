@@ -58,7 +58,7 @@ pub record IsRib (rib : RibValue) (sets : RankSets) (networks : Prefixes) (own :
   pub own : own ≡ own_route
   pub decided : IsDecided rib
 
--- Each of these networks has the own rank, and nothing else has a rank.
-pub record HasOwnRanks (home_as : ℕ) (networks : List PrefixValue) (sets : RankSets) : Type 0 where
-  pub own : (prefix : PrefixValue) → rank_at (ranks_at sets prefix) Own ≡ (if list_any (same_prefix prefix) networks then Some (own_rank home_as) else None)
+-- Each of these networks has this rank from the router itself, and nothing else has a rank.
+pub record HasOwnRanks (rank : Rank) (networks : List PrefixValue) (sets : RankSets) : Type 0 where
+  pub own : (prefix : PrefixValue) → rank_at (ranks_at sets prefix) Own ≡ (if list_any (same_prefix prefix) networks then Some rank else None)
   pub others : (prefix : PrefixValue) (from : From) → from ≢ Own → rank_at (ranks_at sets prefix) from ≡ None

@@ -16,7 +16,7 @@ use crate::config::{InEntry, RibConfig};
 use crate::ranks::{Groups, best_from, drop_rank, set_rank};
 use crate::sources::Sources;
 use bgp_types::{
-    Attrs, From, Items, NoMemory, Origin, PeeringId, Prefix, Route, RouterId, Table,
+    Attrs, From, Items, NoMemory, Origin, PeeringId, Prefix, Rank, Route, RouterId, Table,
 };
 use loc_rib::LocRib;
 use prefix_trie::TrieTable;
@@ -152,7 +152,8 @@ fn identifier_of(config: &RibConfig, q: usize) -> u32
 /// Makes the own networks dirty, and gives each its rank.
 fn add_networks(
     alloc: Global,
-    config: &RibConfig,
+    rank: Rank,
+    list: &[Prefix],
     networks: &mut TrieTable<()>,
     groups: &mut Groups,
     loc: &mut LocRib,
@@ -160,12 +161,11 @@ fn add_networks(
     requires networks { networks.old.contents ≡ map.empty }
     requires groups { groups.old.contents ≡ map.empty }
     requires loc { loc.old ≡ record { best = map.empty; dirty = map.empty } }
-    ensures networks { OnOk result (networks.new.contents ≡ set_of config.now.networks) }
-    ensures ranks { OnOk result (HasOwnRanks config.now.home_as config.now.networks groups.new.contents) }
-    ensures loc { OnOk result (loc.new ≡ record { best = map.empty; dirty = set_of config.now.networks }) }
+    ensures networks { OnOk result (networks.new.contents ≡ set_of list.now) }
+    ensures ranks { OnOk result (HasOwnRanks rank list.now groups.new.contents) }
+    ensures loc { OnOk result (loc.new ≡ record { best = map.empty; dirty = set_of list.now }) }
 {
-    let rank = own_rank(config.home_as);
-    for network in &config.networks {
+    for network in list {
         if networks.set(*network, ()).is_err() {
             return Err(NoMemory);
         }
@@ -183,7 +183,14 @@ impl Rib {
         let mut networks = TrieTable::new(alloc);
         let mut groups = TrieTable::new(alloc);
         let mut loc = LocRib::new(alloc);
-        add_networks(alloc, &config, &mut networks, &mut groups, &mut loc)?;
+        add_networks(
+            alloc,
+            own_rank(config.home_as),
+            config.networks.as_slice(),
+            &mut networks,
+            &mut groups,
+            &mut loc,
+        )?;
         Ok(Rib {
             alloc,
             own_route: own_route(alloc),
@@ -247,13 +254,7 @@ impl Rib {
         );
         self.peerings.reserve(p.0)?;
         self.loc.mark(prefix)?;
-        set_rank(
-            &mut self.groups,
-            self.alloc,
-            prefix,
-            From::Peering(p),
-            rank,
-        )?;
+        set_rank(&mut self.groups, self.alloc, prefix, From::Peering(p), rank)?;
         self.peerings.set_reserved(p.0, prefix, entry);
         Ok(())
     }
@@ -299,13 +300,7 @@ impl Rib {
         let rank = router_rank(self.config.home_as, cost, identifier, &route);
         self.routers.reserve(q.0)?;
         self.loc.mark(prefix)?;
-        set_rank(
-            &mut self.groups,
-            self.alloc,
-            prefix,
-            From::Router(q),
-            rank,
-        )?;
+        set_rank(&mut self.groups, self.alloc, prefix, From::Router(q), rank)?;
         self.routers.set_reserved(q.0, prefix, route);
         Ok(())
     }
@@ -375,13 +370,8 @@ impl Rib {
             self.loc.settle(prefix);
             return Ok(changed);
         };
-        let Some(route) = route_of(
-            &self.own_route,
-            &self.peerings,
-            &self.routers,
-            from,
-            prefix,
-        ) else {
+        let Some(route) = route_of(&self.own_route, &self.peerings, &self.routers, from, prefix)
+        else {
             unreachable!()
         };
         let changed = self.loc.set_copy(prefix, from, route)?;
@@ -419,13 +409,7 @@ impl Rib {
         if from == From::Own && self.networks.get(prefix).is_none() {
             return None;
         }
-        route_of(
-            &self.own_route,
-            &self.peerings,
-            &self.routers,
-            from,
-            prefix,
-        )
+        route_of(&self.own_route, &self.peerings, &self.routers, from, prefix)
     }
 
     /// The least prefix with a best route that is above another, or the least of all.

@@ -1,5 +1,5 @@
 -- How long the UPDATE is that tells one prefix.
-use Rattle.std.proofs.Common.{length-drop, ◌≡◌, ℕ, Bool, true, false, [], ◌∷◌, Some, ◌+◌, ◌-◌, ◌^◌, ◌<◌, ◌≤◌, min, max, length, arith, List, map, take, drop, ◌++◌, get_or, set, refl, ap, ◌∙◌}
+use Rattle.std.proofs.Common.{length-drop, ◌≡◌, ℕ, Bool, true, false, [], ◌∷◌, ◌+◌, ◌-◌, ◌^◌, ◌<◌, ◌≤◌, min, max, length, arith, List, map, take, drop, ◌++◌, get_or, set, refl, ap, ◌∙◌}
 use Rattle.std.specs.Prelude.{nat_lt, ◌||◌}
 use Rattle.std.proofs.lemmas.Bool.Decides.{nat_tests}
 use Rattle.std.proofs.lemmas.List.Edits.{map_over_more}
@@ -7,7 +7,7 @@ use Rattle.std.proofs.lemmas.List.{length-take, length-append, length-map}
 use Rattle.std.specs.Int.{w32, to_be_bytes}
 use Rattle.bgp_types.specs.Lengths.{prefix_size}
 use Rattle.bgp_types.specs.Prefixes.{PrefixValue, octets_for}
-use Rattle.bgp_types.specs.Spelling.{spell, spell_update, spell_some_attrs}
+use Rattle.bgp_types.specs.Spelling.{spell, spell_update}
 use Rattle.bgp_types.specs.declared.attrs.Attrs.{Attrs}
 use Rattle.bgp_types.specs.declared.attrs.RawAttr.{RawAttr}
 use Rattle.bgp_types.specs.declared.message.Message.{Message}

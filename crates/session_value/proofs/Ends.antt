@@ -1,5 +1,5 @@
 -- What a session has read of what its endpoint received.
-use Rattle.std.proofs.Common.{◌≡◌, ℕ, ◌+◌, ◌-◌, ◌≤◌, List, ◌++◌, length, take, drop, refl, sym, ap, ◌∙◌, arith, length-append}
+use Rattle.std.proofs.Common.{◌≡◌, ℕ, ◌+◌, ◌-◌, ◌≤◌, List, ◌++◌, length, take, drop, sym, ap, ◌∙◌, arith, length-append}
 use Rattle.std.proofs.lemmas.List.{length-drop, length-take, take-append-drop, take-take}
 use Rattle.std.proofs.Math.Seq.{take-add, take-append_seam}
 use Rattle.tcp_seq.specs.Endpoint.{Endpoint, PlacedSegment, received, received_bytes, TakesSegment}

@@ -13,10 +13,9 @@ use Rattle.bgp_types.specs.FirstFault.{message_of}
 use Rattle.bgp_story.specs.declared.line.Line.{Line}
 use Rattle.bgp_story.specs.declared.line.Line.TheVariants.{Got}
 use Rattle.bgp_story.specs.Legal.{Legal, Peering, Allowed, IsGot, expected_next, is_wide, reply_to}
-use Rattle.bgp_story.specs.Readings.{Routes, put_in, put_bytes, got_bytes, heard, told, hear, tell, apply_if, update_in, unless_closed}
+use Rattle.bgp_story.specs.Readings.{put_in, put_bytes, got_bytes, heard, told, hear, tell, apply_if, update_in, unless_closed}
 use Rattle.bgp_story.specs.States.{state_of}
 use Rattle.bgp_story.proofs.Grows.{put_grows, got_grows, told_grows, heard_grows, none_told, none_heard}
-use Rattle.bgp_story.proofs.Shapes.{allowed_of}
 use Rattle.bgp_story.proofs.StoryLaws.{state_is}
 use Rattle.session_value.proofs.Replies.{answer_gets, answer_tells, answer_hears, while_unclosed, same_update}
 

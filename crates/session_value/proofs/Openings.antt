@@ -1,5 +1,5 @@
 -- A session in OpenSent has put its OPEN, and nothing else stands in its story.
-use Rattle.std.proofs.Common.{◌≡◌, ℕ, ◌+◌, ◌/◌, ◌%◌, List, [], ◌∷◌, Bool, true, false, cond, eqb, Result, Ok, Err, sym, ap, ◌∙◌}
+use Rattle.std.proofs.Common.{◌≡◌, ◌+◌, ◌/◌, ◌%◌, List, [], ◌∷◌, Bool, true, false, cond, eqb, Result, Ok, Err, sym, ap, ◌∙◌}
 use Rattle.bgp_types.specs.declared.message.Message.{Message}
 use Rattle.bgp_types.specs.declared.message.Message.TheVariants.{OpenMsg, UpdateMsg, NoticeMsg, KeepaliveMsg}
 use Rattle.bgp_types.specs.declared.message.Notice.{Notice}
@@ -8,7 +8,7 @@ use Rattle.bgp_types.specs.declared.message.SessionState.TheVariants.{OpenSent, 
 use Rattle.bgp_types.specs.FirstFault.{message_of}
 use Rattle.bgp_story.specs.declared.line.Line.{Line}
 use Rattle.bgp_story.specs.declared.line.Line.TheVariants.{Put}
-use Rattle.bgp_story.specs.Legal.{Peering, Allowed, opened, got, updated, passed, reply_to, reply_at, hold_expired, is_up, expected_next, hold, silence}
+use Rattle.bgp_story.specs.Legal.{Peering, Allowed, opened, got, updated, passed, reply_to, hold_expired, is_up, expected_next, hold, silence}
 
 -- no answer leads to OpenSent
 reply_leads : (r : Result Message Notice) (answer : List Line) (next : SessionState) → reply_to r ≡ (answer, next) → next ≡ OpenSent → ⊥

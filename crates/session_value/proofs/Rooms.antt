@@ -1,5 +1,5 @@
 -- How long the messages are that a session puts of itself, and that they have room.
-use Rattle.std.proofs.Common.{◌≡◌, ℕ, ◌+◌, ◌≤◌, List, [], ◌∷◌, ◌++◌, length, Bool, true, false, cond, Some, Result, Ok, Err, refl, sym, ap, ◌∙◌, subst, arith}
+use Rattle.std.proofs.Common.{◌≡◌, ℕ, ◌+◌, ◌≤◌, List, [], ◌∷◌, ◌++◌, length, Bool, true, false, Some, Result, Ok, Err, refl, sym, ap, ◌∙◌, subst, arith}
 use Rattle.std.specs.Prelude.{◌≢◌}
 use Rattle.std.specs.List.{flat_map}
 use Rattle.std.proofs.lemmas.List.{append-nil}
@@ -17,8 +17,8 @@ use Rattle.bgp_types.proofs.Lengths.{framed_size}
 use Rattle.bgp_types.proofs.NoticeLaws.{fault_writable}
 use Rattle.bgp_story.specs.declared.line.Line.{Line}
 use Rattle.bgp_story.specs.declared.line.Line.TheVariants.{Put, Got, Tick}
-use Rattle.bgp_story.specs.Legal.{Peering, Allowed, expected_next, hold_expired, is_up, is_wide, reply_to, reply_at, silence}
-use Rattle.bgp_story.specs.Opens.{IsHomeOpen, home_open, as_cap}
+use Rattle.bgp_story.specs.Legal.{expected_next, hold_expired, is_up, is_wide, reply_to, reply_at, silence}
+use Rattle.bgp_story.specs.Opens.{IsHomeOpen, home_open}
 use Rattle.bgp_story.specs.Readings.{put_bytes, put_in}
 use Rattle.bgp_story.proofs.HeaderKinds.{read_of}
 use Rattle.bgp_story.proofs.Ranges.{peering_of as its_peering}

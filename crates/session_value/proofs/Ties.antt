@@ -1,32 +1,21 @@
 -- A session that begins, emits or takes a segment is tied to its story.
-use Rattle.std.proofs.Common.{◌≡◌, ℕ, ◌+◌, ◌≤◌, List, [], ◌∷◌, ◌++◌, length, take, false, refl, sym, ap, ◌∙◌, subst, arith, ◌⊎◌, inl, inr, length-append}
-use Rattle.std.specs.Prelude.{◌≢◌, All}
-use Rattle.std.specs.FinMap as map
+use Rattle.std.proofs.Common.{◌≡◌, ℕ, ◌≤◌, List, [], ◌∷◌, ◌++◌, length, take, false, refl, sym, ap, ◌∙◌, arith, ◌⊎◌, inl, inr}
 use Rattle.std.proofs.lemmas.List.{append-nil, length-take}
 use Rattle.std.proofs.Math.Seq.{take-length}
-use Rattle.bgp_types.specs.declared.message.Message.TheVariants.{OpenMsg, UpdateMsg}
-use Rattle.bgp_types.specs.declared.message.SessionState.{SessionState}
-use Rattle.bgp_types.specs.declared.message.SessionState.TheVariants.{OpenSent, OpenConfirm, Established, Closed}
-use Rattle.bgp_types.specs.declared.message.Update.{Update}
-use Rattle.bgp_types.specs.FirstFault.{message_of}
+use Rattle.bgp_types.specs.declared.message.Message.TheVariants.{OpenMsg}
 use Rattle.bgp_types.specs.Spelling.{spell}
 use Rattle.bgp_story.specs.declared.line.Line.{Line}
-use Rattle.bgp_story.specs.declared.line.Line.TheVariants.{Put, Got, Tick}
-use Rattle.bgp_story.specs.Legal.{Legal, Peering, IsPeering, Allowed, expected_next, is_wide}
-use Rattle.bgp_story.specs.Readings.{Routes, ChangesTold, IsLegal, put_bytes, got_bytes, heard, told, apply, apply_if, update_in, unless_closed}
-use Rattle.bgp_story.specs.States.{state_of}
-use Rattle.tcp_seq.specs.Endpoint.{Bytes, Endpoint, PlacedSegment, bytes_in_order, received, received_bytes, EmitsSlice, EmitsEmpty, TakesSegment}
+use Rattle.bgp_story.specs.declared.line.Line.TheVariants.{Put}
+use Rattle.bgp_story.specs.Legal.{Legal, IsPeering}
+use Rattle.bgp_story.specs.Readings.{put_bytes, got_bytes}
+use Rattle.tcp_seq.specs.Endpoint.{Endpoint, PlacedSegment, received, received_bytes, EmitsSlice, EmitsEmpty, TakesSegment}
 use Rattle.tcp_seq.proofs.Arriving.{received_stays}
 use Rattle.session_value.specs.declared.config.SessionConfig.{SessionConfig}
-use Rattle.session_value.specs.Cases.{GetsFrame, PutsUpdate, PassesRound, Changes, put_by, sending, reading}
 use Rattle.session_value.specs.Fronts.{AreFirst}
 use Rattle.session_value.specs.Sessions.{SessionValue, peering_of, state, unread, begun}
-use Rattle.session_value.specs.Ties.{IsTied, IsOfStory, most_put}
-use Rattle.session_value.proofs.Ends.{read_more, read_within, first_stay, received_grows, front_length, front_rest}
-use Rattle.session_value.proofs.Gets as gets
-use Rattle.session_value.proofs.Rooms.{open_size, got_has_room, passed_has_room, most_any}
-use Rattle.session_value.proofs.Rounds as rounds
-use Rattle.session_value.proofs.Updates as updates
+use Rattle.session_value.specs.Ties.{IsTied, IsOfStory}
+use Rattle.session_value.proofs.Ends.{first_stay, front_length, front_rest}
+use Rattle.session_value.proofs.Rooms.{open_size, most_any}
 
 -- ---- the beginning
 

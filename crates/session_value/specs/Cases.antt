@@ -1,8 +1,10 @@
 -- The cases in which a session changes. In each what isn't named stays.
-use Rattle.std.specs.Prelude.{◌≡◌, ◌≢◌, ℕ, ◌+◌, ◌≤◌, ◌<◌, List, [], ◌∷◌, ◌++◌, length, All, true}
+use Rattle.std.specs.Prelude.{◌≡◌, ◌≢◌, ℕ, ◌+◌, ◌≤◌, ◌<◌, List, [], ◌∷◌, ◌++◌, length, All, Option, Some, None, true}
 use Rattle.std.specs.List.{flat_map}
 use Rattle.std.specs.FinMap as map
+use Rattle.bgp_types.specs.declared.attrs.Attrs.{Attrs}
 use Rattle.bgp_types.specs.declared.message.Message.TheVariants.{UpdateMsg}
+use Rattle.bgp_types.specs.Prefixes.{PrefixValue}
 use Rattle.bgp_types.specs.declared.message.SessionState.{SessionState}
 use Rattle.bgp_types.specs.declared.message.SessionState.TheVariants.{Established, Closed}
 use Rattle.bgp_types.specs.declared.message.Update.{Update}
@@ -42,6 +44,11 @@ pub record GetsFrame (before : SessionValue) (bytes : List ℕ) (after : Session
     told = unless_closed next before.told;
     end = sending (put_by before (before.story ++ Got bytes ∷ answer) answer) (reading (length bytes) before.end);
   }
+
+-- the UPDATE that tells this of prefixes: that they have these attributes, or none
+abbrev pub update_for : Option Attrs → List PrefixValue → Update
+update_for None prefixes = record { withdrawn = prefixes; attrs = None; nlri = [] }
+update_for (Some attrs) prefixes = record { withdrawn = []; attrs = Some attrs; nlri = prefixes }
 
 -- each prefix of the UPDATE has another value in the table after it
 abbrev pub Changes : Routes → Update → Type 0

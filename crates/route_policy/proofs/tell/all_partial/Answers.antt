@@ -1,4 +1,4 @@
-use Rattle.std.proofs.Common.{◌<◌, length, map, take, drop, ◌++◌, arith}
+use Rattle.std.proofs.Common.{◌<◌, length, arith}
 use Rattle.route_policy.proofs.Tells.{partial_more, partial_length}
 use Rattle.route_policy.proofs.tell.all_partial.Goals as goal
 

@@ -1,4 +1,3 @@
-use Rattle.std.proofs.Common.{rules}
 use Rattle.route_policy.proofs.Tells.{too_long_is}
 use Rattle.route_policy.proofs.tell.is_too_long.Goals as goal
 

@@ -1,0 +1,2 @@
+mod beside_a_list;
+mod worked;
