@@ -1,7 +1,8 @@
 -- The messages of a stream are those of the joined bytes, however they came.
 use Rattle.std.proofs.Common.{◌≡◌, ℕ, List, [], ◌∷◌, ◌++◌, length-append, Option, Some, None, refl, sym, ap, ◌∙◌, arith, append_assoc}
-use Rattle.std.specs.List.{flat_map, AllByRecursion}
+use Rattle.std.specs.List.{flat_map, All}
 use Rattle.std.proofs.lemmas.List.{append-nil}
+use Rattle.std.proofs.lemmas.List.Elements.{All-from_recursion, All-push, recursion_from_All}
 use Rattle.bgp_types.specs.declared.fault.HeaderFault.{HeaderFault}
 use Rattle.bgp_types.specs.Header.{frame_at}
 use Rattle.bgp_types.specs.Many.{many}
@@ -15,11 +16,7 @@ front_is_whole bytes frame rest e = ap frame_at (sym (append-nil frame)) ∙ (fr
 
 record Kept (s : Stream) : Type 0 where
   joined : flat_map (λ (frame : List ℕ). frame) s.given ++ s.held ≡ s.fed
-  each : AllByRecursion IsFrame s.given
-
-all_push : (xs : List (List ℕ)) (x : List ℕ) → AllByRecursion IsFrame xs → IsFrame x → AllByRecursion IsFrame (xs ++ x ∷ [])
-all_push [] x all f = (f, tt)
-all_push (y ∷ ys) x all f = (all.0, all_push ys x all.1 f)
+  each : All IsFrame s.given
 
 asked_keeps : (s : Stream) (o : Option (List ℕ × List ℕ)) → frame_at s.held ≡ o → Kept s → Kept (asked s o)
 asked_keeps s None e k = k
@@ -28,7 +25,7 @@ asked_keeps s (Some x) e k =
     let id : List ℕ → List ℕ = λ frame. frame in
     record {
       joined = append_assoc-flat s.given x.0 x.1 ∙ (ap (λ (y : List ℕ). flat_map id s.given ++ y) (sym f.0) ∙ k.joined);
-      each = all_push s.given x.0 k.each f.1;
+      each = All-push IsFrame s.given x.0 k.each f.1;
     }
   where
     append_assoc-flat : (given : List (List ℕ)) (frame rest : List ℕ) → flat_map (λ (f : List ℕ). f) (given ++ frame ∷ []) ++ rest ≡ flat_map (λ (f : List ℕ). f) given ++ (frame ++ rest)
@@ -48,10 +45,10 @@ all_keep s (c ∷ calls) k = all_keep (called s c) calls (called_keeps s c k)
 pub stream_law : (calls : List Call) → IsStream (all_called begun calls)
 stream_law calls =
     let s : Stream = all_called begun calls in
-    let k = all_keep begun calls (record { joined = refl; each = tt }) in
+    let k = all_keep begun calls (record { joined = refl; each = All-from_recursion IsFrame [] tt }) in
     record {
       joined = k.joined;
-      frames = sym (many_front frame_at (λ frame. frame) IsFrame frame_reads s.given s.held k.each) ∙ ap (many frame_at) k.joined;
+      frames = sym (many_front frame_at (λ frame. frame) IsFrame frame_reads s.given s.held (recursion_from_All IsFrame s.given k.each)) ∙ ap (many frame_at) k.joined;
     }
 
 -- ---- a faulty header stays

@@ -96,11 +96,15 @@ up_joined p lines state (joined o f) up more = got_open-append p lines more o f 
 up_joined p lines state (alone f g) up more = let u = ap is_up (sym g) ∙ up in absurd cc
 up_joined p lines state (failed f g) up more = let u = ap is_up (sym g) ∙ up in absurd cc
 
+-- the OPEN that was got stays
+pub open_stays : (p : Peering) (lines more : List Line) (state : SessionState) → Allowed p lines state → is_up state ≡ true → got_open p (lines ++ more) ≡ got_open p lines
+open_stays p lines more state l up = up_joined p lines state (stage p lines state l) up more
+
 pub width_stays : (p : Peering) (lines more : List Line) (state : SessionState) → Allowed p lines state → is_up state ≡ true → is_wide p (lines ++ more) ≡ is_wide p lines
-width_stays p lines more state l up = ap (both_offer p.first) (up_joined p lines state (stage p lines state l) up more)
+width_stays p lines more state l up = ap (both_offer p.first) (open_stays p lines more state l up)
 
 pub hold_stays : (p : Peering) (lines more : List Line) (state : SessionState) → Allowed p lines state → is_up state ≡ true → hold p (lines ++ more) ≡ hold p lines
-hold_stays p lines more state l up = ap (smaller_hold p.first) (up_joined p lines state (stage p lines state l) up more)
+hold_stays p lines more state l up = ap (smaller_hold p.first) (open_stays p lines more state l up)
 
 -- ---- octets
 

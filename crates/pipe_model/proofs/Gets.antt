@@ -1,25 +1,18 @@
 -- A message that is got keeps what is kept.
-use Rattle.std.proofs.Common.{◌≡◌, ℕ, Bool, true, false, List, ◌∷◌, ◌++◌, Option, None, Result, refl, sym, ap, ◌∙◌, subst, append_assoc, inl, inr}
-use Rattle.std.specs.Prelude.{◌⊎◌, ◌≢◌, fold}
+use Rattle.std.proofs.Common.{◌≡◌, ℕ, Bool, true, false, List, ◌∷◌, ◌++◌, Option, None, refl, sym, ap, ◌∙◌, subst, append_assoc, inl, inr}
+use Rattle.std.specs.Prelude.{◌⊎◌, ◌≢◌}
 use Rattle.std.specs.FinMap as map
-use Rattle.std.proofs.lemmas.List.{append-nil}
-use Rattle.bgp_types.specs.declared.fault.Expected.{Expected}
-use Rattle.bgp_types.specs.declared.message.Message.{Message}
-use Rattle.bgp_types.specs.declared.message.Notice.{Notice}
 use Rattle.bgp_types.specs.declared.message.SessionState.{SessionState}
 use Rattle.bgp_types.specs.declared.message.SessionState.TheVariants.{OpenSent, OpenConfirm, Established, Closed}
 use Rattle.bgp_types.specs.declared.message.Update.{Update}
 use Rattle.bgp_types.specs.FirstFault.{message_of}
 use Rattle.bgp_types.specs.Prefixes.{PrefixValue}
 use Rattle.bgp_types.specs.Tables.{prefix_cmp}
-use Rattle.bgp_story.specs.declared.line.Line.{Line}
 use Rattle.bgp_story.specs.declared.line.Line.TheVariants.{Got}
-use Rattle.bgp_story.specs.Legal.{Legal, Peering, Allowed, expected_next, reply_to}
-use Rattle.bgp_story.specs.Readings.{Routes, ChangesTold, IsLegal, put_bytes, got_bytes, heard, told, hear, tell, apply_if, update_in, unless_closed}
+use Rattle.bgp_story.specs.Legal.{Allowed, expected_next}
+use Rattle.bgp_story.specs.Readings.{Routes, ChangesTold, got_bytes, heard, told, apply_if, update_in, unless_closed}
 use Rattle.bgp_story.specs.States.{state_of}
-use Rattle.bgp_story.proofs.Grows.{put_grows, got_grows, told_grows, heard_grows, none_told, none_heard}
 use Rattle.bgp_story.proofs.Shapes.{allowed_of}
-use Rattle.bgp_story.proofs.StoryLaws.{state_is}
 use Rattle.session_value.specs.Sets.{has}
 use Rattle.session_value.specs.Fronts.{AreFirst}
 use Rattle.pipe_model.specs.declared.pipe.Pipe.{Pipe}
@@ -30,7 +23,7 @@ use Rattle.pipe_model.specs.Rows.{GetsRow, due_then}
 use Rattle.pipe_model.proofs.Tables.{has_none, no_best}
 use Rattle.session_value.proofs.Gets.{state_next, legal_then, got_then, put_then, heard_then, told_then}
 use Rattle.session_value.proofs.Replies.{no_update, while_unclosed, established_from, confirmed_from}
-use Rattle.pipe_model.proofs.Keeping.{Early, Keeps, same_session, unread_is, front_trans, front_longer}
+use Rattle.pipe_model.proofs.Keeping.{Early, Keeps, unread_is, front_trans}
 
 -- ---- the event
 

@@ -2,15 +2,15 @@
 //! branches: those whose next bit is 0, and those whose next bit is 1. A node without a value is there
 //! for its two branches alone.
 
-ghost use Rattle.std.specs.Prelude.{◌+◌, ◌-◌, ◌<◌, ◌≤◌, ◌≡◌, ℕ, nat_lt, option_copied, map, length, ◌++◌, if◌then◌else◌, IsOk, IsSome, IfSome, IfNone, IsTrue, OnSome, OnOk, OnErr, ◌/◌, ◌^◌, ◌↔◌};
+ghost use Rattle.std.specs.Prelude.{◌+◌, ◌-◌, ◌<◌, ◌≤◌, ◌≡◌, ℕ, not, nat_lt, option_copied, map, length, ◌++◌, if◌then◌else◌, IsOk, IsSome, IfSome, IfNone, IsTrue, OnSome, OnOk, OnErr, ◌/◌, ◌^◌, ◌↔◌};
 ghost use Rattle.std.specs.FinMap as table;
+ghost use Rattle.std.specs.FinMap.Entries.{where_key};
+ghost use Rattle.std.specs.Ordering.{eq_by_cmp};
 ghost use Rattle.bgp_types.specs.Tables.{prefix_cmp, first_above};
-ghost use Rattle.std.specs.List.{AllByRecursion};
 ghost use Rattle.bgp_types.specs.Prefixes.{IsPrefix, Covers};
-ghost use Rattle.bgp_types.proofs.TableLaws.{without};
-ghost use Rattle.prefix_trie.specs.Halves.{middle, past, Under, IsFork};
+ghost use Rattle.prefix_trie.specs.Halves.{middle, past, IsFork};
 ghost use Rattle.prefix_trie.specs.Longest.{LongestOf};
-ghost use Rattle.prefix_trie.specs.Nodes.{entries, IsNode, IsTrie, PutResult};
+ghost use Rattle.prefix_trie.specs.Nodes.{entries, own, IsApart, IsNode, IsTrie, PutResult};
 
 use bgp_types::{NoMemory, Prefix};
 use std::alloc::Global;
@@ -210,34 +210,27 @@ fn fork_of(low: u32, high: u32) -> Prefix
     }
 }
 
-/// Gives a prefix the value that is passed, and passes back the one that it had. False means that
-/// there is no memory, and then nothing has changed.
+/// Gives a prefix a value, and answers the value that it had. If there is no memory, the value is
+/// given back, and nothing has changed.
 pub fn put<V: Drop>(
     alloc: Global,
     tree: &mut Tree<V>,
     spares: &mut Spares<V>,
     prefix: Prefix,
-    value: &mut Option<V>,
-) -> bool
+    value: V,
+) -> Result<Option<V>, V>
     requires trie { IsTrie tree.old }
     requires sound { IsPrefix prefix }
-    requires given { IsSome value.old }
     ensures trie { IsTrie tree.new }
-    ensures put { PutResult result prefix value.old value.new (entries tree.old) (entries tree.new) (length spares.old.items) (length spares.new.items) }
+    ensures put { PutResult result prefix value (entries tree.old) (entries tree.new) (length spares.old.items) (length spares.new.items) }
 {
     match tree {
         Tree::Leaf => {
             let Some(place) = spare(alloc, spares, prefix) else {
-                return false;
+                return Err(value);
             };
-            let node = Node {
-                prefix,
-                value: value.take(),
-                zero: Tree::Leaf,
-                one: Tree::Leaf,
-            };
-            *tree = Tree::Fork(written(place, node));
-            true
+            *tree = forked(place, prefix, Some(value), Tree::Leaf, Tree::Leaf);
+            Ok(None)
         }
         Tree::Fork(node) => {
             let node: &mut Node<V> = node;
@@ -248,8 +241,7 @@ pub fn put<V: Drop>(
                 return put(alloc, &mut node.one, spares, prefix, value);
             }
             if node.prefix == prefix {
-                mem::swap(&mut node.value, value);
-                return true;
+                return Ok(node.value.replace(value));
             }
             let at = node.prefix;
             put_above(alloc, tree, spares, at, prefix, value)
@@ -264,43 +256,26 @@ fn put_above<V: Drop>(
     spares: &mut Spares<V>,
     at: Prefix,
     prefix: Prefix,
-    value: &mut Option<V>,
-) -> bool
+    value: V,
+) -> Result<Option<V>, V>
     requires trie { IsTrie tree.old }
-    requires under { AllByRecursion (λ e. Under at e.0) (entries tree.old) }
-    requires sound_at { IsPrefix at }
-    requires sound { IsPrefix prefix }
-    requires above { Covers at prefix → ⊥ }
-    requires given { IsSome value.old }
+    requires apart { IsApart at prefix (entries tree.old) }
     ensures trie { IsTrie tree.new }
-    ensures put { PutResult result prefix value.old value.new (entries tree.old) (entries tree.new) (length spares.old.items) (length spares.new.items) }
+    ensures put { PutResult result prefix value (entries tree.old) (entries tree.new) (length spares.old.items) (length spares.new.items) }
 {
     if !prefix.covers(&at) {
         return put_beside(alloc, tree, spares, at, prefix, value);
     }
     let Some(place) = spare(alloc, spares, prefix) else {
-        return false;
+        return Err(value);
     };
     let below = mem::replace(tree, Tree::Leaf);
-    let value = value.take();
     if is_early(at.address(), prefix) {
-        let node = Node {
-            prefix,
-            value,
-            zero: below,
-            one: Tree::Leaf,
-        };
-        *tree = Tree::Fork(written(place, node));
-        return true;
+        *tree = forked(place, prefix, Some(value), below, Tree::Leaf);
+        return Ok(None);
     }
-    let node = Node {
-        prefix,
-        value,
-        zero: Tree::Leaf,
-        one: below,
-    };
-    *tree = Tree::Fork(written(place, node));
-    true
+    *tree = forked(place, prefix, Some(value), Tree::Leaf, below);
+    Ok(None)
 }
 
 /// The same where neither prefix covers the other.
@@ -310,61 +285,49 @@ fn put_beside<V: Drop>(
     spares: &mut Spares<V>,
     at: Prefix,
     prefix: Prefix,
-    value: &mut Option<V>,
-) -> bool
+    value: V,
+) -> Result<Option<V>, V>
     requires trie { IsTrie tree.old }
-    requires under { AllByRecursion (λ e. Under at e.0) (entries tree.old) }
-    requires sound_at { IsPrefix at }
-    requires sound { IsPrefix prefix }
-    requires above { Covers at prefix → ⊥ }
+    requires apart { IsApart at prefix (entries tree.old) }
     requires below { Covers prefix at → ⊥ }
-    requires given { IsSome value.old }
     ensures trie { IsTrie tree.new }
-    ensures put { PutResult result prefix value.old value.new (entries tree.old) (entries tree.new) (length spares.old.items) (length spares.new.items) }
+    ensures put { PutResult result prefix value (entries tree.old) (entries tree.new) (length spares.old.items) (length spares.new.items) }
 {
     let Some(place) = spare(alloc, spares, prefix) else {
-        return false;
+        return Err(value);
     };
     let Some(above) = spare(alloc, spares, prefix) else {
-        return false;
+        return Err(value);
     };
-    let node = Node {
-        prefix,
-        value: value.take(),
-        zero: Tree::Leaf,
-        one: Tree::Leaf,
-    };
-    let beside = Tree::Fork(written(place, node));
+    let beside = forked(place, prefix, Some(value), Tree::Leaf, Tree::Leaf);
     let below = mem::replace(tree, Tree::Leaf);
     if prefix.address() < at.address() {
-        *tree = forked(
-            above,
-            fork_of(prefix.address(), at.address()),
-            beside,
-            below,
-        );
-        return true;
+        let fork = fork_of(prefix.address(), at.address());
+        *tree = forked(above, fork, None, beside, below);
+        return Ok(None);
     }
-    *tree = forked(
-        above,
-        fork_of(at.address(), prefix.address()),
-        below,
-        beside,
-    );
-    true
+    let fork = fork_of(at.address(), prefix.address());
+    *tree = forked(above, fork, None, below, beside);
+    Ok(None)
 }
 
-/// A node without a value over two branches.
-fn forked<V: Drop>(place: Box<Node<V>>, prefix: Prefix, zero: Tree<V>, one: Tree<V>) -> Tree<V>
+/// A node over two branches, in the place of another.
+fn forked<V: Drop>(
+    place: Box<Node<V>>,
+    prefix: Prefix,
+    value: Option<V>,
+    zero: Tree<V>,
+    one: Tree<V>,
+) -> Tree<V>
     requires node { IsNode prefix (entries zero) (entries one) }
     requires zero { IsTrie zero }
     requires one { IsTrie one }
     ensures trie { IsTrie result }
-    ensures entries { entries result ≡ entries zero ++ entries one }
+    ensures entries { entries result ≡ own prefix value ++ (entries zero ++ entries one) }
 {
     let node = Node {
         prefix,
-        value: None,
+        value,
         zero,
         one,
     };
@@ -376,7 +339,7 @@ pub fn take<V: Drop>(tree: &mut Tree<V>, spares: &mut Spares<V>, prefix: Prefix)
     requires { IsTrie tree.old }
     ensures trie { IsTrie tree.new }
     ensures taken { result ≡ table.find prefix_cmp prefix (entries tree.old) }
-    ensures entries { entries tree.new ≡ without prefix_cmp prefix (entries tree.old) }
+    ensures entries { entries tree.new ≡ where_key prefix_cmp (λ other. not (eq_by_cmp prefix_cmp prefix other)) (entries tree.old) }
     ensures kept { length spares.old.items ≤ length spares.new.items }
 {
     let Tree::Fork(node) = tree else {

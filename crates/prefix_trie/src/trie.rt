@@ -83,25 +83,12 @@ impl<V: Drop> Table<V> for TrieTable<V> {
     fn set(&mut self, prefix: Prefix, value: V) -> Result<Option<V>, V> {
         prove!(prefix.len() <= 32);
         let taken_ahead = !self.spares.is_empty();
-        let mut slot = Some(value);
-        if !put(
-            self.alloc,
-            &mut self.root,
-            &mut self.spares,
-            prefix,
-            &mut slot,
-        ) {
-            return match slot {
-                Some(value) => Err(value),
-                None => unreachable!(),
-            };
+        let before = put(self.alloc, &mut self.root, &mut self.spares, prefix, value)?;
+        if before.is_none() {
+            self.len += 1;
+            make_places(&mut self.spares, self.len, taken_ahead);
         }
-        if slot.is_some() {
-            return Ok(slot);
-        }
-        self.len += 1;
-        make_places(&mut self.spares, self.len, taken_ahead);
-        Ok(None)
+        Ok(before)
     }
 
     /// A node that this frees is kept where the list of such nodes has a place, and given back where it has none. It asks for no

@@ -55,46 +55,47 @@ module _ (session : SessionValue) (end : Endpoint)
 all_received : (e : Endpoint) → received_bytes e ≡ take (received e) (received_bytes e)
 all_received e = sym (take-length (received_bytes e))
 
-record Carries (before after : Endpoint) : Type 0 where
-  stream : after.stream ≡ before.stream
-  read : after.read ≡ before.read
-  grows : received_bytes before ≡ take (received before) (received_bytes after)
+-- an endpoint that sends and has read the same as before, and received at least as much
+pub record SendsSame (before after : Endpoint) : Type 0 where
+  pub stream : after.stream ≡ before.stream
+  pub read : after.read ≡ before.read
+  pub grows : received_bytes before ≡ take (received before) (received_bytes after)
 
-emitting : (before : Endpoint) (segment : PlacedSegment) (after : Endpoint) → EmitsSlice before segment after ⊎ EmitsEmpty before segment after → Carries before after
-emitting before segment after (inl slice) = record {
+pub emits_same : (before : Endpoint) (segment : PlacedSegment) (after : Endpoint) → EmitsSlice before segment after ⊎ EmitsEmpty before segment after → SendsSame before after
+emits_same before segment after (inl slice) = record {
   stream = ap (λ (e : Endpoint). e.stream) slice.rises;
   read = ap (λ (e : Endpoint). e.read) slice.rises;
   grows = all_received before ∙ ap (λ (e : Endpoint). take (received before) (received_bytes e)) (sym slice.rises);
 }
-emitting before segment after (inr empty) = record {
+emits_same before segment after (inr empty) = record {
   stream = ap (λ (e : Endpoint). e.stream) empty.given;
   read = ap (λ (e : Endpoint). e.read) empty.given;
   grows = all_received before ∙ ap (λ (e : Endpoint). take (received before) (received_bytes e)) (sym empty.given);
 }
 
-taking : (before : Endpoint) (segment : PlacedSegment) (after : Endpoint) → TakesSegment before segment after → Carries before after
-taking before segment after (inl drops) = record {
+pub takes_same : (before : Endpoint) (segment : PlacedSegment) (after : Endpoint) → TakesSegment before segment after → SendsSame before after
+takes_same before segment after (inl drops) = record {
   stream = ap (λ (e : Endpoint). e.stream) drops.stays;
   read = ap (λ (e : Endpoint). e.read) drops.stays;
   grows = received_stays before after segment (inl drops);
 }
-taking before segment after (inr accepts) = record {
+takes_same before segment after (inr accepts) = record {
   stream = ap (λ (e : Endpoint). e.stream) accepts.changed;
   read = ap (λ (e : Endpoint). e.read) accepts.changed;
   grows = received_stays before after segment (inr accepts);
 }
 
 pub emits_tied : (session : SessionValue) (segment : PlacedSegment) (end : Endpoint) → IsTied session → EmitsSlice session.end segment end ⊎ EmitsEmpty session.end segment end → IsTied (record session { end = end })
-emits_tied session segment end tied emits = let c = emitting session.end segment end emits in tied_with session end c.stream c.read c.grows tied
+emits_tied session segment end tied emits = let c = emits_same session.end segment end emits in tied_with session end c.stream c.read c.grows tied
 
 pub takes_tied : (session : SessionValue) (segment : PlacedSegment) (end : Endpoint) → IsTied session → TakesSegment session.end segment end → IsTied (record session { end = end })
-takes_tied session segment end tied takes = let c = taking session.end segment end takes in tied_with session end c.stream c.read c.grows tied
+takes_tied session segment end tied takes = let c = takes_same session.end segment end takes in tied_with session end c.stream c.read c.grows tied
 
 pub emits_of_story : (session : SessionValue) (segment : PlacedSegment) (end : Endpoint) → IsOfStory session → EmitsSlice session.end segment end ⊎ EmitsEmpty session.end segment end → IsOfStory (record session { end = end })
-emits_of_story session segment end is emits = let c = emitting session.end segment end emits in of_story_with session end c.stream c.read c.grows is
+emits_of_story session segment end is emits = let c = emits_same session.end segment end emits in of_story_with session end c.stream c.read c.grows is
 
 pub takes_of_story : (session : SessionValue) (segment : PlacedSegment) (end : Endpoint) → IsOfStory session → TakesSegment session.end segment end → IsOfStory (record session { end = end })
-takes_of_story session segment end is takes = let c = taking session.end segment end takes in of_story_with session end c.stream c.read c.grows is
+takes_of_story session segment end is takes = let c = takes_same session.end segment end takes in of_story_with session end c.stream c.read c.grows is
 
 -- ---- what follows
 

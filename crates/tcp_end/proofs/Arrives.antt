@@ -30,10 +30,10 @@ use Rattle.tcp_end.proofs.Steps.{owes, stream_is, received_is}
 use Rattle.tcp_end.proofs.Places.{brought_place, held_from, acceptable_place, place_acceptable, beyond_place, place_beyond, newly_place, new_place}
 
 -- the byte that a placed segment brings to a place below the window's end
-abbrev brought_to : EndState → PlacedSegment → ℕ → Option ℕ
+abbrev pub brought_to : EndState → PlacedSegment → ℕ → Option ℕ
 brought_to s p k = if nat_lt k (got s + 16384) then byte_from p.place p.bytes k else None
 
-abbrev with_ : EndState → PlacedSegment → ℕ → Option ℕ
+abbrev pub with_ : EndState → PlacedSegment → ℕ → Option ℕ
 with_ s p k = option_or (held s.ahead k) (brought_to s p k)
 
 -- what is received, by places
@@ -45,7 +45,7 @@ record Hears (s after : EndState) (p : PlacedSegment) (given : List ℕ) : Type 
   ahead : (k : ℕ) → held after.ahead (got after + k) ≡ with_ s p (got s + (length given + k))
 
 -- the byte at a place, from the one that numbers give
-byte_then_is : (s : EndState) (g : Segment) (p : PlacedSegment) (k : ℕ) → IsEndState s → Numbered s.receive_first.0 s.send_first.0 g p → p.place < 2 ^ 30 → length p.bytes < 2 ^ 16
+pub byte_then_is : (s : EndState) (g : Segment) (p : PlacedSegment) (k : ℕ) → IsEndState s → Numbered s.receive_first.0 s.send_first.0 g p → p.place < 2 ^ 30 → length p.bytes < 2 ^ 16
     → byte_then (ahead_of s) g.seq.0 g.bytes k ≡ with_ s p (got s + k)
 byte_then_is s g p k rests numbered fits short =
     let small : got s % 2 ^ 32 ≡ got s = omega (arith, rests.received) in
@@ -78,7 +78,7 @@ hears s after g p rests rests_after numbered fits short same r =
 -- The places that have a byte then
 
 -- the byte that a segment brings, for the endpoint and for the state
-brought_is : (s : EndState) (e : Endpoint) (p : PlacedSegment) (k : ℕ) → received e ≡ got s → got s ≤ k → byte_brought e p k ≡ brought_to s p k
+pub brought_is : (s : EndState) (e : Endpoint) (p : PlacedSegment) (k : ℕ) → received e ≡ got s → got s ≤ k → byte_brought e p k ≡ brought_to s p k
 brought_is s e p k all from =
     ap (λ (b : Bool). if b && nat_lt k (received e + 16384) then byte_from p.place p.bytes k else None) (le-leb (received e) k (omega (arith, all, from)))
     ∙ ap (λ (n : ℕ). if nat_lt k (n + 16384) then byte_from p.place p.bytes k else None) all
@@ -142,7 +142,7 @@ received_then s after e p given stands h =
     (ap (map.get (accepted e p)) n ∙ accepted_from s e p (got s + length given) stands (omega arith) ∙ h.ends)
 
 -- The tests of numbers and of places
-acceptable_to : (s : EndState) (e : Endpoint) (g : Segment) (p : PlacedSegment) → EndStands s e → Numbered s.receive_first.0 s.send_first.0 g p → IsInStreams p → length g.bytes < 2 ^ 16 → IsAcceptable e p → IsAcceptableTo s g
+pub acceptable_to : (s : EndState) (e : Endpoint) (g : Segment) (p : PlacedSegment) → EndStands s e → Numbered s.receive_first.0 s.send_first.0 g p → IsInStreams p → length g.bytes < 2 ^ 16 → IsAcceptable e p → IsAcceptableTo s g
 acceptable_to s e g p stands numbered streams short is =
     let n : length g.bytes ≡ length p.bytes = ap length numbered.bytes in
     let by_number : Acceptable (number s.receive_first.0 (got s)) 16384 (number s.receive_first.0 p.place) (length p.bytes) =
@@ -151,7 +151,7 @@ acceptable_to s e g p stands numbered streams short is =
     subst (λ (m : ℕ). Acceptable (expected s) 16384 m (length g.bytes)) (sym numbered.seq)
     (subst (λ (m : ℕ). Acceptable (expected s) 16384 (number s.receive_first.0 p.place) m) (sym n) by_number)
 
-acceptable_for : (s : EndState) (e : Endpoint) (g : Segment) (p : PlacedSegment) → EndStands s e → Numbered s.receive_first.0 s.send_first.0 g p → IsInStreams p → length g.bytes < 2 ^ 16 → IsAcceptableTo s g → IsAcceptable e p
+pub acceptable_for : (s : EndState) (e : Endpoint) (g : Segment) (p : PlacedSegment) → EndStands s e → Numbered s.receive_first.0 s.send_first.0 g p → IsInStreams p → length g.bytes < 2 ^ 16 → IsAcceptableTo s g → IsAcceptable e p
 acceptable_for s e g p stands numbered streams short is =
     let n : length g.bytes ≡ length p.bytes = ap length numbered.bytes in
     let by_number : Acceptable (number s.receive_first.0 (got s)) 16384 (number s.receive_first.0 p.place) (length p.bytes) =
@@ -165,18 +165,18 @@ emitted_small s sending = omega (arith, sending.emitted, sending.stream)
 ack_small : (p : PlacedSegment) → IsInStreams p → p.ack < 2 ^ 30
 ack_small p streams = omega (arith, streams.ack)
 
-beyond_for : (s : EndState) (e : Endpoint) (g : Segment) (p : PlacedSegment) → EndStands s e → Numbered s.receive_first.0 s.send_first.0 g p → IsInStreams p → Says Beyond s g → IsBeyond e p
+pub beyond_for : (s : EndState) (e : Endpoint) (g : Segment) (p : PlacedSegment) → EndStands s e → Numbered s.receive_first.0 s.send_first.0 g p → IsInStreams p → Says Beyond s g → IsBeyond e p
 beyond_for s e g p stands numbered streams is =
     let past : s.sent < p.ack = beyond_place s.send_first.0 s.acked s.sent p.ack stands.sound.sending.acked (emitted_small s stands.sound.sending) (ack_small p streams)
     (subst (λ (m : ℕ). IsAck Beyond (own_number s s.acked) (own_number s s.sent) m) numbered.ack is) in
     omega (arith, past, stands.emitted)
 
-beyond_to : (s : EndState) (e : Endpoint) (g : Segment) (p : PlacedSegment) → EndStands s e → Numbered s.receive_first.0 s.send_first.0 g p → IsInStreams p → IsBeyond e p → Says Beyond s g
+pub beyond_to : (s : EndState) (e : Endpoint) (g : Segment) (p : PlacedSegment) → EndStands s e → Numbered s.receive_first.0 s.send_first.0 g p → IsInStreams p → IsBeyond e p → Says Beyond s g
 beyond_to s e g p stands numbered streams is =
     subst (λ (m : ℕ). IsAck Beyond (own_number s s.acked) (own_number s s.sent) m) (sym numbered.ack)
     (place_beyond s.send_first.0 s.acked s.sent p.ack stands.sound.sending.acked (emitted_small s stands.sound.sending) (ack_small p streams) (omega (arith, is, stands.emitted)))
 
-within_sent : (s : EndState) (e : Endpoint) (g : Segment) (p : PlacedSegment) → EndStands s e → Numbered s.receive_first.0 s.send_first.0 g p → IsInStreams p → ¬ Says Beyond s g → p.ack ≤ s.sent
+pub within_sent : (s : EndState) (e : Endpoint) (g : Segment) (p : PlacedSegment) → EndStands s e → Numbered s.receive_first.0 s.send_first.0 g p → IsInStreams p → ¬ Says Beyond s g → p.ack ≤ s.sent
 within_sent s e g p stands numbered streams none = elim (cases_lt s.sent p.ack) [
   | inl past ↦ absurd (none (beyond_to s e g p stands numbered streams (omega (arith, past, stands.emitted))))
   | inr within ↦ within
@@ -207,7 +207,7 @@ right_some None b some = some
 right_some (Some x) b some = refl
 
 -- Where nothing new is brought, each place has what it had
-nothing_new : (s : EndState) (e : Endpoint) (g : Segment) (p : PlacedSegment) (k : ℕ) → EndStands s e → Numbered s.receive_first.0 s.send_first.0 g p → IsInStreams p → length g.bytes < 2 ^ 16 → ¬ BringsNewByte s g → map.get e.arrived k ≡ None → byte_brought e p k ≡ None
+pub nothing_new : (s : EndState) (e : Endpoint) (g : Segment) (p : PlacedSegment) (k : ℕ) → EndStands s e → Numbered s.receive_first.0 s.send_first.0 g p → IsInStreams p → length g.bytes < 2 ^ 16 → ¬ BringsNewByte s g → map.get e.arrived k ≡ None → byte_brought e p k ≡ None
 nothing_new s e g p k stands numbered streams short none empty =
     let all : received e ≡ got s = received_is s e stands in
     let from : got s ≤ k = elim (cases_lt k (received e)) [ inl below ↦ absurd (some_none (map.get e.arrived k) (some_in_order e.arrived k below) empty) | inr from ↦ omega (arith, from, all) ] in

@@ -16,6 +16,7 @@ use Rattle.tcp_seq.specs.Connection.{Side, Connection, fresh_connection, SideSte
 use Rattle.tcp_seq.proofs.Received.{bytes_are, some_none}
 use Rattle.tcp_seq.proofs.Emitting.{next_is_slice, again_is_slice}
 use Rattle.tcp_seq.proofs.Carried.{at_fresh, runs}
+use Rattle.tcp_seq.proofs.Flows.{emitted_in_streams}
 use Rattle.tcp_end.specs.State.{fresh, got}
 use Rattle.tcp_end.specs.Standing.{EndStands, Numbered, SameNumbers, Becomes, BecomesBy}
 use Rattle.tcp_end.specs.Ends.{EndSide, EndPair, fresh_pair, CallsSend, CallsEmit, CallsRead, CallsArrive, EndCalls, answered, PairStep, PairRun, IsNumberedAmong, PairStands, PairBecomes, PairFollows}
@@ -122,11 +123,7 @@ side_emits theirs mine before after stands all (answer, inr (inr given), adds) =
 -- what arrives has places of the streams
 in_streams : (mine theirs : Side) (p : PlacedSegment) → IsCarried mine theirs → IsCarried theirs mine → Contains theirs.emitted p → IsInStreams p
 in_streams mine theirs p there back here =
-    let is = back.segments p here in
-    record {
-      end = omega (arith, is.within, back.emitted, back.stream);
-      ack = omega (arith, is.ack, there.within, there.emitted, there.stream);
-    }
+    emitted_in_streams theirs.end mine.end p (record { there = back.flows; back = there.flows }) (back.segments p here)
 
 side_takes : (theirs : Side) (gs : List Segment) (mine : Side) (before after : EndSide) → IsCarried mine theirs → IsCarried theirs mine
     → ((g : Segment) → Contains gs g → IsNumberedAmong before.state.receive_first.0 before.state.send_first.0 g theirs.emitted)
@@ -276,7 +273,7 @@ first_bytes s e stream stands is =
     ap (λ (xs : List ℕ). take s.taken stream ++ xs) rest ∙ sym (take-add s.taken (length s.ready) stream)
 
 pub first_there : (pair : EndPair) (c : Connection) → PairStands pair c → IsConnection c → take pair.far.state.taken c.near.end.stream ++ pair.far.state.ready ≡ take (got pair.far.state) c.near.end.stream
-first_there pair c stands is = first_bytes pair.far.state c.far.end c.near.end.stream stands.far is.there.bytes
+first_there pair c stands is = first_bytes pair.far.state c.far.end c.near.end.stream stands.far is.there.flows.bytes
 
 pub first_back : (pair : EndPair) (c : Connection) → PairStands pair c → IsConnection c → take pair.near.state.taken c.far.end.stream ++ pair.near.state.ready ≡ take (got pair.near.state) c.far.end.stream
-first_back pair c stands is = first_bytes pair.near.state c.near.end c.far.end.stream stands.near is.back.bytes
+first_back pair c stands is = first_bytes pair.near.state c.near.end c.far.end.stream stands.near is.back.flows.bytes

@@ -17,10 +17,10 @@ use Rattle.tcp_end.proofs.Counted.{byte_counted}
 use Rattle.tcp_seq.proofs.ByteFrom.{byte_below, byte_there}
 
 -- the offset of a number from another, by places
-ahead_offset : (f next place : ℕ) → next ≤ place → place < 2 ^ 31 → offset_from (number f place) (number f next) ≡ place - next
+pub ahead_offset : (f next place : ℕ) → next ≤ place → place < 2 ^ 31 → offset_from (number f place) (number f next) ≡ place - next
 ahead_offset f next place le fits = omega (arith, le, fits)
 
-behind_offset : (f next place : ℕ) → place < next → next < 2 ^ 31 → offset_from (number f place) (number f next) ≡ 2 ^ 32 - (next - place)
+pub behind_offset : (f next place : ℕ) → place < next → next < 2 ^ 31 → offset_from (number f place) (number f next) ≡ 2 ^ 32 - (next - place)
 behind_offset f next place below fits = omega (arith, below, fits)
 
 plus_number : (f place n : ℕ) → plus (number f place) n ≡ number f (place + n)

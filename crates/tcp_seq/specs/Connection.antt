@@ -68,19 +68,33 @@ pub record IsAmong (segments : List PlacedSegment) (place : ℕ) : Type 0 where
   pub from : segment.place ≤ place
   pub below : place < segment.place + length segment.bytes
 
--- What one side has of the stream that the other sends.
-pub record IsCarried (from to : Side) : Type 0 where
+-- What one endpoint has of the stream that another sends.
+pub record Flows (from to : Endpoint) : Type 0 where
   -- the acknowledged length is at most the received one, that at most the emitted one, that at most the stream's
-  pub acked : from.end.acked ≤ received to.end
-  pub within : received to.end ≤ from.end.emitted
-  pub emitted : from.end.emitted ≤ length from.end.stream
-  pub stream : length from.end.stream ≤ 2 ^ 20
-  pub flight : from.end.emitted ≤ from.end.acked + 15360
-  pub read : to.end.read ≤ received to.end
+  pub acked : from.acked ≤ received to
+  pub within : received to ≤ from.emitted
+  pub emitted : from.emitted ≤ length from.stream
+  pub stream : length from.stream ≤ 2 ^ 20
+  pub flight : from.emitted ≤ from.acked + 15360
+  pub read : to.read ≤ received to
   -- the received bytes are the first ones of the stream, and each byte that arrived is the one that the stream has at its place
-  pub bytes : received_bytes to.end ≡ take (received to.end) from.end.stream
-  pub arrived : (place byte : ℕ) → map.get to.end.arrived place ≡ Some byte → (place < from.end.emitted) × (slice_get from.end.stream place ≡ Some byte)
-  -- the segments that were emitted, of which one has each place below the emitted length
+  pub bytes : received_bytes to ≡ take (received to) from.stream
+  pub arrived : (place byte : ℕ) → map.get to.arrived place ≡ Some byte → (place < from.emitted) × (slice_get from.stream place ≡ Some byte)
+
+-- Two endpoints that are joined by segments, wherever these are: each has of the other's stream what flows to it.
+pub record AreLinked (x y : Endpoint) : Type 0 where
+  pub there : Flows x y
+  pub back : Flows y x
+
+-- An endpoint that was linked with another has become one that is, and whose segments all earlier ones still are.
+pub record StaysLinked (before after other : Endpoint) : Type 0 where
+  pub linked : AreLinked after other
+  pub still : (segment : PlacedSegment) → IsEmittedBy before segment → IsEmittedBy after segment
+
+-- What one side has of the stream that the other sends, and the segments that the other ever emitted, of which one has each place below the
+-- emitted length.
+pub record IsCarried (from to : Side) : Type 0 where
+  pub flows : Flows from.end to.end
   pub segments : (segment : PlacedSegment) → Contains from.emitted segment → IsEmittedBy from.end segment
   pub all : (place : ℕ) → place < from.end.emitted → IsAmong from.emitted place
 

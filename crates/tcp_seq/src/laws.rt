@@ -1,15 +1,15 @@
 //! What 32-bit numbers say of places in a stream, what an endpoint keeps of what arrives, and what the two
 //! endpoints of a connection receive.
 
-ghost use Rattle.std.specs.Prelude.{ℕ, ◌≡◌, ◌↔◌, ◌≤◌, ◌<◌, ◌+◌, ◌^◌, List, length, take, Some, slice_get};
+ghost use Rattle.std.specs.Prelude.{ℕ, ◌≡◌, ◌↔◌, ◌⊎◌, ◌≤◌, ◌<◌, ◌+◌, ◌^◌, List, length, take, Some, slice_get};
 ghost use Rattle.std.specs.FinMap as map;
 ghost use Rattle.tcp_seq.specs.declared.rules.AckKind.{AckKind};
 ghost use Rattle.tcp_seq.specs.Numbers.{number, plus, offset_from};
 ghost use Rattle.tcp_seq.specs.Rules.{Acceptable, IsAck, AcceptablePlace, IsPlaceAck, IsInStream};
-ghost use Rattle.tcp_seq.specs.Endpoint.{Endpoint, PlacedSegment, Bytes, bytes_in_order, IsReceived, received, received_bytes, IsInStreams, TakesSegment, IsTaken, EmitsNext, EmitsAgain, EmitsSlice};
+ghost use Rattle.tcp_seq.specs.Endpoint.{Endpoint, PlacedSegment, Bytes, bytes_in_order, IsReceived, received, received_bytes, fresh_endpoint, IsInStreams, SendsBytes, ReadsBytes, TakesSegment, IsTaken, EmitsNext, EmitsAgain, EmitsSlice, EmitsEmpty};
 ghost use Rattle.tcp_seq.specs.Placed.{placed};
 ghost use Rattle.tcp_seq.specs.declared.segment.Segment.{Segment};
-ghost use Rattle.tcp_seq.specs.Connection.{Connection, fresh_connection, ConnectionStep, ConnectionRun, IsConnection};
+ghost use Rattle.tcp_seq.specs.Connection.{Connection, fresh_connection, ConnectionStep, ConnectionRun, IsConnection, IsEmittedBy, AreLinked, StaysLinked};
 
 /// Going on from a place's number is going on from the place, and the offset of a later place's number
 /// is the distance of the places.
@@ -67,6 +67,21 @@ pub fn emitted_slices_may_be_emitted()
         → before.acked ≤ before.emitted → EmitsNext before segment after → EmitsSlice before segment after }
     ensures again { (before after : Endpoint) (segment : PlacedSegment) → before.emitted ≤ length before.stream
         → before.emitted ≤ before.acked + 15360 → EmitsAgain before segment after → EmitsSlice before segment after }
+{}
+
+/// Two endpoints stay linked, whatever one of them does: it sends or reads bytes, emits a segment, or takes one that the
+/// other emitted, however old. Segments that lie anywhere, lost, kept or in another order, are still slices of their stream,
+/// and their places are those of streams of at most 1 MiB.
+pub fn ends_stay_linked()
+    ensures fresh { AreLinked fresh_endpoint fresh_endpoint }
+    ensures turned { (x y : Endpoint) → AreLinked x y → AreLinked y x }
+    ensures sends { (x after y : Endpoint) (bytes : List ℕ) → AreLinked x y → SendsBytes x bytes after → StaysLinked x after y }
+    ensures emits { (x after y : Endpoint) (segment : PlacedSegment)
+        → AreLinked x y → EmitsSlice x segment after ⊎ EmitsEmpty x segment after → StaysLinked x after y × IsEmittedBy after segment }
+    ensures reads { (x after y : Endpoint) (n : ℕ) → AreLinked x y → ReadsBytes x n after → StaysLinked x after y }
+    ensures takes { (x after y : Endpoint) (segment : PlacedSegment)
+        → AreLinked x y → IsEmittedBy y segment → TakesSegment x segment after → StaysLinked x after y }
+    ensures in_streams { (x y : Endpoint) (segment : PlacedSegment) → AreLinked x y → IsEmittedBy x segment → IsInStreams segment }
 {}
 
 /// Two endpoints are joined by nothing but the segments that each of them ever emitted, and these arrive

@@ -12,7 +12,7 @@ mod state;
 pub use laws::{
     a_place_keeps_its_byte, a_segment_has_its_places, a_segment_leaves_one_endpoint,
     acceptance_by_places, acknowledgement_by_places, connection_carries_streams,
-    emitted_slices_may_be_emitted, numbers_by_places, received_is_greatest,
+    emitted_slices_may_be_emitted, ends_stay_linked, numbers_by_places, received_is_greatest,
 };
 pub use rules::{AckKind, acceptable, ack_kind};
 pub use segment::{Segment, Way};

@@ -1,11 +1,11 @@
-use Rattle.std.proofs.Common.{List, ◌++◌, Option, length, sym, ap, ◌∙◌, subst, arith}
-use Rattle.std.specs.FinMap.{find}
+use Rattle.std.proofs.Common.{rules, List, ◌++◌, Option, length, sym, ap, ◌∙◌, subst, arith}
+use Rattle.std.specs.FinMap.{find, put}
 use Rattle.bgp_types.specs.Prefixes.{PrefixValue}
 use Rattle.bgp_types.specs.Tables.{prefix_cmp}
 use Rattle.prefix_trie.specs.Halves.{middle, past, Within}
-use Rattle.prefix_trie.specs.Nodes.{own, entries, put_given, PutResult}
-use Rattle.prefix_trie.proofs.Nodes.{at_opened, same_prefix, find_here, is_before, is_past}
-use Rattle.prefix_trie.proofs.Puts.{all_under, put_same, put_keeps, within_zero, within_one, put_zero, put_one}
+use Rattle.prefix_trie.specs.Nodes.{own, entries, PutResult}
+use Rattle.prefix_trie.proofs.Nodes.{at_opened, same_prefix, find_here, put_here, is_before, is_past}
+use Rattle.prefix_trie.proofs.Puts.{all_under, put_keeps, within_zero, within_one, put_zero, put_one}
 use Rattle.prefix_trie.proofs.node.+put.Goals as goal
 
 pub returns-then-eq-clause-put : goal.returns-then-eq-clause-put
@@ -15,11 +15,11 @@ returns-then-eq-clause-put g t c =
     let same = same_prefix n.prefix c.args.prefix (sym c.eq.ensures ∙ c.if-eq.true) in
     let rest = entries n.zero ++ entries n.one in
     record {
-      entries = ap (λ (o : Option g.row.V.Denot). own n.prefix o ++ rest) c.swap.ensures.x_after
-          ∙ (put_same n.prefix n.value (entries n.zero) (entries n.one) f.node c.args.value.now c.requires.given
-          ∙ (ap (λ (q : PrefixValue). put_given q c.args.value.now (own n.prefix n.value ++ rest)) same
-          ∙ ap (put_given c.args.prefix c.args.value.now) (sym f.is)));
-      before = c.swap.ensures.y_after
+      entries = ap (λ (o : Option g.row.V.Denot). own n.prefix o ++ rest) c.replace.ensures.after
+          ∙ (sym (put_here n.prefix n.value (entries n.zero) (entries n.one) f.node c.args.value)
+          ∙ (ap (λ (q : PrefixValue). put prefix_cmp q c.args.value (own n.prefix n.value ++ rest)) same
+          ∙ ap (put prefix_cmp c.args.prefix c.args.value) (sym f.is)));
+      before = c.replace.ensures.value
           ∙ (sym (find_here n.prefix n.value (entries n.zero) (entries n.one) f.node)
           ∙ (ap (λ (q : PrefixValue). find prefix_cmp q (own n.prefix n.value ++ rest)) same
           ∙ ap (find prefix_cmp c.args.prefix) (sym f.is)));
@@ -32,23 +32,22 @@ put_above-requires-clause-trie g t c =
     let f = at_opened c.args.tree.now c.in-Fork.node n c.in-Fork.is c.deref_mut-node.ensures.value c.requires.trie in
     (f.node, f.zero, f.one)
 
-pub put_above-requires-clause-under : goal.put_above-requires-clause-under
-put_above-requires-clause-under g t c =
+pub put_above-requires-clause-apart : goal.put_above-requires-clause-apart
+put_above-requires-clause-apart g t c =
     let n = c.deref_mut-node.result.now in
     let f = at_opened c.args.tree.now c.in-Fork.node n c.in-Fork.is c.deref_mut-node.ensures.value c.requires.trie in
-    all_under n.prefix n.value (entries n.zero) (entries n.one) f.node
-
-pub put_above-requires-clause-sound_at : goal.put_above-requires-clause-sound_at
-put_above-requires-clause-sound_at g t c =
-    let n = c.deref_mut-node.result.now in
-    let f = at_opened c.args.tree.now c.in-Fork.node n c.in-Fork.is c.deref_mut-node.ensures.value c.requires.trie in
-    f.node.is
+    record {
+      under = all_under n.prefix n.value (entries n.zero) (entries n.one) f.node;
+      is_at = f.node.is;
+      is = c.requires.sound;
+      above = search rules;
+    }
 
 pub returns-else-eq-clause-put : goal.returns-else-eq-clause-put
 returns-else-eq-clause-put g t c =
     let n = c.deref_mut-node.result.now in
     let f = at_opened c.args.tree.now c.in-Fork.node n c.in-Fork.is c.deref_mut-node.ensures.value c.requires.trie in
-    subst (λ (es : List (PrefixValue × g.row.V.Denot)). PutResult c.put_above.result c.args.prefix c.args.value.now c.put_above.new.value es (entries c.put_above.new.tree) (length c.args.spares.now.items) (length c.put_above.new.spares.items)) (sym f.is) c.put_above.ensures.put
+    subst (λ (es : List (PrefixValue × g.row.V.Denot)). PutResult c.put_above.result c.args.prefix c.args.value es (entries c.put_above.new.tree) (length c.args.spares.now.items) (length c.put_above.new.spares.items)) (sym f.is) c.put_above.ensures.put
 
 pub returns-then-is_first_half-clause-trie : goal.returns-then-is_first_half-clause-trie
 returns-then-is_first_half-clause-trie g t c =
@@ -57,7 +56,7 @@ returns-then-is_first_half-clause-trie g t c =
     let below = c.is_below.ensures.0 c.if-is_below.true in (
       record {
         is = f.node.is;
-        zeros = put_keeps (Within n.prefix.address (middle n.prefix) n.prefix.len) c.put.result c.args.prefix c.args.value.now c.put.new.value (entries n.zero) (entries c.put.new.tree) _ _ c.put.ensures.put (within_zero n.prefix n.value (entries n.zero) (entries n.one) f.node c.args.prefix c.requires.sound below.0 below.1 (is_before c.is_first_half.result c.address.result c.args.prefix.address (middle n.prefix) c.address.ensures.value c.is_first_half.ensures c.if-is_first_half.true)) f.node.zeros;
+        zeros = put_keeps (Within n.prefix.address (middle n.prefix) n.prefix.len) c.put.result c.args.prefix c.args.value (entries n.zero) (entries c.put.new.tree) _ _ c.put.ensures.put (within_zero n.prefix n.value (entries n.zero) (entries n.one) f.node c.args.prefix c.requires.sound below.0 below.1 (is_before c.is_first_half.result c.address.result c.args.prefix.address (middle n.prefix) c.address.ensures.value c.is_first_half.ensures c.if-is_first_half.true)) f.node.zeros;
         ones = f.node.ones;
       },
       c.put.ensures.trie,
@@ -69,8 +68,8 @@ returns-then-is_first_half-clause-put g t c =
     let n = c.deref_mut-node.result.now in
     let f = at_opened c.args.tree.now c.in-Fork.node n c.in-Fork.is c.deref_mut-node.ensures.value c.requires.trie in
     let below = c.is_below.ensures.0 c.if-is_below.true in
-    subst (λ (es : List (PrefixValue × g.row.V.Denot)). PutResult c.put.result c.args.prefix c.args.value.now c.put.new.value es (own n.prefix n.value ++ (entries c.put.new.tree ++ entries n.one)) (length c.args.spares.now.items) (length c.put.new.spares.items)) (sym f.is)
-    (put_zero n.prefix n.value (entries n.zero) (entries n.one) f.node c.args.prefix c.requires.sound below.0 below.1 c.put.result c.args.value.now c.put.new.value (entries c.put.new.tree) _ _ (is_before c.is_first_half.result c.address.result c.args.prefix.address (middle n.prefix) c.address.ensures.value c.is_first_half.ensures c.if-is_first_half.true) c.put.ensures.put)
+    subst (λ (es : List (PrefixValue × g.row.V.Denot)). PutResult c.put.result c.args.prefix c.args.value es (own n.prefix n.value ++ (entries c.put.new.tree ++ entries n.one)) (length c.args.spares.now.items) (length c.put.new.spares.items)) (sym f.is)
+    (put_zero n.prefix n.value (entries n.zero) (entries n.one) f.node c.args.prefix c.requires.sound below.0 below.1 c.put.result c.args.value (entries c.put.new.tree) _ _ (is_before c.is_first_half.result c.address.result c.args.prefix.address (middle n.prefix) c.address.ensures.value c.is_first_half.ensures c.if-is_first_half.true) c.put.ensures.put)
 
 pub returns-then-is_below-clause-trie : goal.returns-then-is_below-clause-trie
 returns-then-is_below-clause-trie g t c =
@@ -80,7 +79,7 @@ returns-then-is_below-clause-trie g t c =
       record {
         is = f.node.is;
         zeros = f.node.zeros;
-        ones = put_keeps (Within (middle n.prefix) (past n.prefix) n.prefix.len) c.put-then-is_below.result c.args.prefix c.args.value.now c.put-then-is_below.new.value (entries n.one) (entries c.put-then-is_below.new.tree) _ _ c.put-then-is_below.ensures.put (within_one n.prefix n.value (entries n.zero) (entries n.one) f.node c.args.prefix c.requires.sound below.0 below.1 (is_past c.is_first_half.result c.address.result c.args.prefix.address (middle n.prefix) c.address.ensures.value c.is_first_half.ensures c.if-is_first_half.false)) f.node.ones;
+        ones = put_keeps (Within (middle n.prefix) (past n.prefix) n.prefix.len) c.put-then-is_below.result c.args.prefix c.args.value (entries n.one) (entries c.put-then-is_below.new.tree) _ _ c.put-then-is_below.ensures.put (within_one n.prefix n.value (entries n.zero) (entries n.one) f.node c.args.prefix c.requires.sound below.0 below.1 (is_past c.is_first_half.result c.address.result c.args.prefix.address (middle n.prefix) c.address.ensures.value c.is_first_half.ensures c.if-is_first_half.false)) f.node.ones;
       },
       f.zero,
       c.put-then-is_below.ensures.trie,
@@ -91,5 +90,5 @@ returns-then-is_below-clause-put g t c =
     let n = c.deref_mut-node.result.now in
     let f = at_opened c.args.tree.now c.in-Fork.node n c.in-Fork.is c.deref_mut-node.ensures.value c.requires.trie in
     let below = c.is_below.ensures.0 c.if-is_below.true in
-    subst (λ (es : List (PrefixValue × g.row.V.Denot)). PutResult c.put-then-is_below.result c.args.prefix c.args.value.now c.put-then-is_below.new.value es (own n.prefix n.value ++ (entries n.zero ++ entries c.put-then-is_below.new.tree)) (length c.args.spares.now.items) (length c.put-then-is_below.new.spares.items)) (sym f.is)
-    (put_one n.prefix n.value (entries n.zero) (entries n.one) f.node c.args.prefix c.requires.sound below.0 below.1 c.put-then-is_below.result c.args.value.now c.put-then-is_below.new.value (entries c.put-then-is_below.new.tree) _ _ (is_past c.is_first_half.result c.address.result c.args.prefix.address (middle n.prefix) c.address.ensures.value c.is_first_half.ensures c.if-is_first_half.false) c.put-then-is_below.ensures.put)
+    subst (λ (es : List (PrefixValue × g.row.V.Denot)). PutResult c.put-then-is_below.result c.args.prefix c.args.value es (own n.prefix n.value ++ (entries n.zero ++ entries c.put-then-is_below.new.tree)) (length c.args.spares.now.items) (length c.put-then-is_below.new.spares.items)) (sym f.is)
+    (put_one n.prefix n.value (entries n.zero) (entries n.one) f.node c.args.prefix c.requires.sound below.0 below.1 c.put-then-is_below.result c.args.value (entries c.put-then-is_below.new.tree) _ _ (is_past c.is_first_half.result c.address.result c.args.prefix.address (middle n.prefix) c.address.ensures.value c.is_first_half.ensures c.if-is_first_half.false) c.put-then-is_below.ensures.put)

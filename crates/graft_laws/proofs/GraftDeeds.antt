@@ -1,0 +1,303 @@
+-- What the events of a graft at routers do.
+use Rattle.std.proofs.Common.{◌≡◌, ◌==◌, cond, ℕ, ◌<◌, ◌≤◌, ◌+◌, Bool, true, false, List, [], ◌∷◌, ◌++◌, Option, Some, None, refl, sym, ap, ◌∙◌, subst, arith, inl, inr}
+use Rattle.std.proofs.lemmas.Bool.Decides.{nat_tests}
+use Rattle.std.specs.Prelude.{◌≢◌, ◌⊎◌, IsSome}
+use Rattle.std.specs.List.{AllByRecursion}
+use Rattle.std.specs.FinMap as map
+use Rattle.graft_steps.specs.declared.refusal.Refusal.{Refusal}
+use Rattle.graft_steps.specs.declared.refusal.Refusal.TheVariants.{SameRouter}
+use Rattle.graft_steps.specs.declared.refusal.Outcome.TheVariants.{Accepted, Refused}
+use Rattle.graft_steps.specs.Refusals.{freeze_refusal, session_refusal}
+use Rattle.bgp_types.specs.declared.message.SessionState.{SessionState}
+use Rattle.session_value.specs.Sessions.{SessionValue, state, hold_time}
+use Rattle.graft_model.specs.Points.{at}
+use Rattle.graft_model.specs.Setups.{Setup, peerings_in, room_of}
+use Rattle.graft_model.specs.Parts.{Order, Place, Vacant, Live, Frozen, Shadow, RouterPart, Mesh, Moved, Back, Done, Outward, PointAt, GraftOrder, Report, World}
+use Rattle.graft_model.specs.RouterRows.{RouterTaken, OrderIn, SegmentIn, MeshIn, RouterSent, MeshTo, OutwardTo, ReportOut, BringsIn}
+use Rattle.graft_model.specs.GraftRows.{Admits, Refuses, Freezes, Leaves, Lands, TurnsBack, Returns, Clears, is_taken, taken_in, refusal_of}
+use Rattle.graft_model.specs.Steps.{Heads}
+use Rattle.graft_laws.specs.Phases.{Ordered, Stored, Halted, Moving, Landed, Returning, Phase, Busy, only}
+use Rattle.graft_laws.specs.Log.{graft_at, is_of}
+use Rattle.graft_laws.specs.Owned.{is_on, Stands, Owned}
+use Rattle.graft_laws.specs.Moves.{reports_sent, RouterMoves}
+use Rattle.graft_laws.proofs.Phases.{live_session, stored_at, halted_at, moved_in, back_in, done_in, order_in}
+use Rattle.graft_laws.proofs.Others.{AreOthers, Apart}
+use Rattle.graft_laws.proofs.Logs.{own_known}
+use Rattle.graft_laws.proofs.Following.{Followed, at_phase, at_here, at_other, own_head}
+use Rattle.graft_laws.proofs.Grafts.{equal, admit_own, refuse_own, freeze_own, leave_own, land_own, turn_back_own, return_own, clear_own}
+use Rattle.graft_laws.proofs.Room.{no_more_taken, one_more_taken, room_left}
+use Rattle.graft_laws.proofs.Deeds.{differs, of_known, not_of, known_place, known_mesh, known_order, Deed, own_or_apart, no_items, other_order, other_report, other_mesh, other_sent, other_taken, no_outward}
+
+abbrev order_of : ℕ → ℕ → Order
+order_of k t = record { graft = k; target = t }
+
+-- the deed of an event whose items are known
+pub deed_as : (setup : Setup) (w v : World) (r : ℕ) (taken known : Option RouterTaken) (sent items : List RouterSent) (part : RouterPart) → taken ≡ known → sent ≡ items
+    → (RouterMoves r known items part w v → Deed setup w v r known items part) → RouterMoves r taken sent part w v → Deed setup w v r taken sent part
+deed_as setup w v r taken known sent items part e f deed =
+    subst (λ (x : Option RouterTaken). RouterMoves r x sent part w v → Deed setup w v r x sent part) (sym e)
+    (subst (λ (x : List RouterSent). RouterMoves r known x part w v → Deed setup w v r known x part) (sym f) deed)
+
+-- the reports of one event are of a graft that is known
+pub one_report : (setup : Setup) (r a : ℕ) (report : Report) → IsSome (graft_at setup report.graft) → AllByRecursion (λ (o : Report). IsSome (graft_at setup o.graft)) (only r report a ++ [])
+one_report setup r a report known = by_test (a == r) where
+  by_test : (b : Bool) → AllByRecursion (λ (o : Report). IsSome (graft_at setup o.graft)) (cond b (report ∷ []) [] ++ [])
+  by_test true = (known, tt)
+  by_test false = tt
+
+pub le_trans : (a b c : ℕ) → a ≤ b → b ≤ c → a ≤ c
+le_trans a b c l m = omega arith
+
+above : (a b : ℕ) → a < b → a + 1 ≤ b
+above a b l = omega arith
+
+other_landing : (setup : Setup) (p r q n : ℕ) (item : Mesh) (point : Outward) (more : Mesh) → is_on p item ≡ false → is_on p more ≡ false → AreOthers setup p r (Some (MeshIn q item)) (OutwardTo n point ∷ MeshTo q more ∷ [])
+other_landing setup p r q n item point more e f =
+    let others : AreOthers setup p r (Some (MeshIn q item)) (MeshTo q more ∷ []) = other_mesh setup p r q q item more e f in
+    record { mesh_taken = others.mesh_taken; mesh_sent = others.mesh_sent; orders_taken = others.orders_taken; reports_sent = others.reports_sent }
+
+-- a session freezes for another router alone
+freezes_apart : (r t : ℕ) (s : SessionState) (h : ℕ) → freeze_refusal (record { 0 = r }) (record { 0 = t }) s h ≡ None → t ≢ r
+freezes_apart r t s h e is = by_test (t == r) refl e where
+  by_test : (b : Bool) → (t == r) ≡ b → cond b (Some SameRouter) (session_refusal s h) ≡ None → ⊥
+  by_test true f g = cc
+  by_test false f g = let n : (t == r) ≡ true = grind (arith, nat_tests) in cc
+
+-- another place of a router stays
+pub place_stays : (before part : RouterPart) (p q : ℕ) (place : Place) → part.places ≡ at before.places q place → p ≢ q → part.places p ≡ before.places p
+place_stays before part p q place e ne = ap (λ (f : ℕ → Place). f p) e ∙ at_other before.places q p place ne
+
+pub place_here : (before part : RouterPart) (q : ℕ) (place : Place) → part.places ≡ at before.places q place → part.places q ≡ place
+place_here before part q place e = ap (λ (f : ℕ → Place). f q) e ∙ at_here before.places q place
+
+module _ (setup : Setup) (w v : World) (r : ℕ) (owned : Owned setup w) where
+  abbrev before : RouterPart
+  before = w.router r
+
+  -- the graft for which a session is stored, comes back or has landed is its peering's own
+  stored_own : (q k t : ℕ) (s : SessionValue) → before.places q ≡ Live s (Some (order_of k t)) → q < peerings_in setup → is_of setup q k ≡ true
+  stored_own q k t s is known =
+      let h = owned.peerings q known in
+      let e : h.phase ≡ Busy r k t Stored = (stored_at h.phase h.session s r k t (sym is ∙ h.stands.places r)).0 in
+      let b : Stands setup w q (Busy r k t Stored) h.session = subst (λ (x : Phase). Stands setup w q x h.session) e h.stands in
+      own_known setup q k t b.log.goes_on.known
+
+  back_own : (a q k : ℕ) (s : SessionValue) (refusal : Refusal) → Heads (w.mesh a r) (Back k q s refusal) → q < peerings_in setup → is_of setup q k ≡ true
+  back_own a q k s refusal head known =
+      let h = owned.peerings q known in
+      let e : h.phase ≡ Busy r k a (Returning refusal) = (back_in h.phase q h.session s refusal a r k _ (own_head (is_on q) (w.mesh a r) head.rest (Back k q s refusal) head.is (equal q) ∙ h.stands.mesh a r)).0 in
+      let b : Stands setup w q (Busy r k a (Returning refusal)) h.session = subst (λ (x : Phase). Stands setup w q x h.session) e h.stands in
+      own_known setup q k a b.log.goes_on.known
+
+  done_own : (a q k : ℕ) → Heads (w.mesh a r) (Done k q) → q < peerings_in setup → is_of setup q k ≡ true
+  done_own a q k head known =
+      let h = owned.peerings q known in
+      let e : h.phase ≡ Busy r k a Landed = done_in h.phase q h.session a r k _ (own_head (is_on q) (w.mesh a r) head.rest (Done k q) head.is (equal q) ∙ h.stands.mesh a r) in
+      let b : Stands setup w q (Busy r k a Landed) h.session = subst (λ (x : Phase). Stands setup w q x h.session) e h.stands in
+      own_known setup q k a b.log.goes_on.known
+
+  -- ---- at the source
+
+  pub admit_deed : (k : ℕ) (taken : Option RouterTaken) (sent : List RouterSent) (part : RouterPart) → Admits setup k before taken sent part → RouterMoves r taken sent part w v → Deed setup w v r taken sent part
+  admit_deed k taken sent part row = deed_as setup w v r taken (Some (OrderIn (record { graft = k; peering = row.peering; target = row.target }))) sent [] part row.takes row.sends (λ m.
+      let q : ℕ = row.peering in
+      let o : GraftOrder = record { graft = k; peering = q; target = row.target } in
+      let places : part.places ≡ at before.places q (Live row.session (Some (order_of k row.target))) = ap (λ (x : RouterPart). x.places) row.effect in
+      record {
+        each = own_or_apart setup w v r q (Some (OrderIn o)) [] part m (known_order setup w owned r q o m.heads (equal q))
+            (λ p ne. record {
+              places = place_stays before part p q _ places ne;
+              entries = ap (λ (x : RouterPart). x.entries p) row.effect;
+              items = other_order setup p r o (differs p q ne);
+              outward_sent = λ a. refl;
+              inward_taken = λ b. refl;
+            })
+            (λ phase s b.
+              let e = order_in phase q r o _ (own_head (λ (x : GraftOrder). x.peering == q) (w.orders r) m.heads.rest o m.heads.is (equal q) ∙ b.orders r) in
+              let same : row.session ≡ s = live_session phase s row.session None r (sym row.live.is ∙ b.places r) in
+              at_phase setup w v q phase (Busy r k row.target Ordered) s e.0
+                (admit_own setup w v q r k row.target s part m (place_here before part q _ places ∙ ap (λ (x : SessionValue). Live x (Some (order_of k row.target))) same) (ap (λ (x : RouterPart). x.entries q) row.effect)) b);
+        reports = λ a. tt;
+        room = λ l. le_trans _ _ _ (no_more_taken setup before part q _ places (ap is_taken row.live.is)) l;
+      })
+
+  pub refuse_deed : (k : ℕ) (taken : Option RouterTaken) (sent : List RouterSent) (part : RouterPart) → Refuses r k before taken sent part → RouterMoves r taken sent part w v → Deed setup w v r taken sent part
+  refuse_deed k taken sent part row = deed_as setup w v r taken None sent (ReportOut (record { graft = k; outcome = Refused row.refusal }) ∷ []) part row.takes row.sends (λ m.
+      let q : ℕ = row.peering in
+      let places : part.places ≡ at before.places q (Live row.session None) = ap (λ (x : RouterPart). x.places) row.effect in
+      let known : q < peerings_in setup = known_place setup w owned r q _ row.live.is (λ e. absurd cc) in
+      let own : is_of setup q k ≡ true = stored_own q k row.target row.session row.live.is known in
+      record {
+        each = own_or_apart setup w v r q None (ReportOut (record { graft = k; outcome = Refused row.refusal }) ∷ []) part m known
+            (λ p ne. record {
+              places = place_stays before part p q _ places ne;
+              entries = ap (λ (x : RouterPart). x.entries p) row.effect;
+              items = other_report setup p r None (record { graft = k; outcome = Refused row.refusal }) (λ i j. refl) (λ i. refl) (not_of setup p q k ne own);
+              outward_sent = λ a. refl;
+              inward_taken = λ b. refl;
+            })
+            (λ phase s b.
+              let e = stored_at phase s row.session r k row.target (sym row.live.is ∙ b.places r) in
+              at_phase setup w v q phase (Busy r k row.target Stored) s e.0
+                (refuse_own setup w v q r k row.target s part row.refusal m (place_here before part q _ places ∙ ap (λ (x : SessionValue). Live x None) e.1) (ap (λ (x : RouterPart). x.entries q) row.effect)
+                  (subst (λ (x : SessionValue). freeze_refusal (record { 0 = r }) (record { 0 = row.target }) (state x) (hold_time x) ≡ Some row.refusal) e.1 row.cause)) b);
+        reports = λ a. one_report setup r a (record { graft = k; outcome = Refused row.refusal }) (of_known setup q k own);
+        room = λ l. le_trans _ _ _ (no_more_taken setup before part q _ places (ap is_taken row.live.is)) l;
+      })
+
+  pub freeze_deed : (k : ℕ) (taken : Option RouterTaken) (sent : List RouterSent) (part : RouterPart) → Freezes r k before taken sent part → RouterMoves r taken sent part w v → Deed setup w v r taken sent part
+  freeze_deed k taken sent part row = deed_as setup w v r taken None sent [] part row.alone.0 row.alone.1 (λ m.
+      let q : ℕ = row.peering in
+      let places : part.places ≡ at before.places q (Frozen row.session (order_of k row.target)) = ap (λ (x : RouterPart). x.places) row.effect in
+      record {
+        each = own_or_apart setup w v r q None [] part m (known_place setup w owned r q _ row.live.is (λ e. absurd cc))
+            (λ p ne. record {
+              places = place_stays before part p q _ places ne;
+              entries = ap (λ (x : RouterPart). x.entries p) row.effect;
+              items = no_items setup p r;
+              outward_sent = λ a. refl;
+              inward_taken = λ b. refl;
+            })
+            (λ phase s b.
+              let e = stored_at phase s row.session r k row.target (sym row.live.is ∙ b.places r) in
+              at_phase setup w v q phase (Busy r k row.target Stored) s e.0
+                (freeze_own setup w v q r k row.target s part m (place_here before part q _ places ∙ ap (λ (x : SessionValue). Frozen x (order_of k row.target)) e.1) (ap (λ (x : RouterPart). x.entries q) row.effect)
+                  (subst (λ (x : SessionValue). freeze_refusal (record { 0 = r }) (record { 0 = row.target }) (state x) (hold_time x) ≡ None) e.1 row.no_cause)
+                  (freezes_apart r row.target (state row.session) (hold_time row.session) row.no_cause)) b);
+        reports = λ a. tt;
+        room = λ l. le_trans _ _ _ (no_more_taken setup before part q _ places (ap is_taken row.live.is)) l;
+      })
+
+  pub leave_deed : (k : ℕ) (taken : Option RouterTaken) (sent : List RouterSent) (part : RouterPart) → Leaves k before taken sent part → RouterMoves r taken sent part w v → Deed setup w v r taken sent part
+  leave_deed k taken sent part row = deed_as setup w v r taken None sent (MeshTo row.target (Moved k row.peering row.session) ∷ []) part row.takes row.sends (λ m.
+      let q : ℕ = row.peering in
+      let places : part.places ≡ at before.places q (Shadow k) = ap (λ (x : RouterPart). x.places) row.effect in
+      record {
+        each = own_or_apart setup w v r q None (MeshTo row.target (Moved k q row.session) ∷ []) part m (known_place setup w owned r q _ row.frozen (λ e. absurd cc))
+            (λ p ne. record {
+              places = place_stays before part p q _ places ne;
+              entries = ap (λ (x : RouterPart). x.entries p) row.effect;
+              items = other_sent setup p r row.target (Moved k q row.session) (differs p q ne);
+              outward_sent = λ a. refl;
+              inward_taken = λ b. refl;
+            })
+            (λ phase s b.
+              let e = halted_at phase s row.session r k row.target (sym row.frozen ∙ b.places r) in
+              at_phase setup w v q phase (Busy r k row.target Halted) s e.0
+                (leave_own setup w v q r k row.target s part (subst (λ (x : SessionValue). RouterMoves r None (MeshTo row.target (Moved k q x) ∷ []) part w v) e.1 m) (place_here before part q _ places) (ap (λ (x : RouterPart). x.entries q) row.effect)) b);
+        reports = λ a. tt;
+        room = λ l. le_trans _ _ _ (no_more_taken setup before part q _ places (ap is_taken row.frozen)) l;
+      })
+
+  -- ---- at the target
+
+  pub land_deed : (q : ℕ) (taken : Option RouterTaken) (sent : List RouterSent) (part : RouterPart) → Lands setup r q before taken sent part → RouterMoves r taken sent part w v → Deed setup w v r taken sent part
+  land_deed q taken sent part row = deed_as setup w v r taken (Some (MeshIn q (Moved row.comes.graft row.comes.peering row.comes.session))) sent
+    (OutwardTo row.comes.peering (PointAt row.comes.graft) ∷ MeshTo q (Done row.comes.graft row.comes.peering) ∷ []) part row.comes.takes row.sends (λ m.
+      let k : ℕ = row.comes.graft in
+      let n : ℕ = row.comes.peering in
+      let item : Mesh = Moved k n row.comes.session in
+      let places : part.places ≡ at before.places n (Live row.comes.session None) = ap (λ (x : RouterPart). x.places) row.effect in
+      record {
+        each = own_or_apart setup w v r n (Some (MeshIn q item)) (OutwardTo n (PointAt k) ∷ MeshTo q (Done k n) ∷ []) part m row.comes.known
+            (λ p ne. record {
+              places = place_stays before part p n _ places ne;
+              entries = ap (λ (x : RouterPart). x.entries p) row.effect ∙ at_other before.entries n p (part.entries n) ne;
+              items = other_landing setup p r q n item (PointAt k) (Done k n) (differs p n ne) (differs p n ne);
+              outward_sent = λ a. no_outward r n p a (PointAt k) ne;
+              inward_taken = λ b. refl;
+            })
+            (λ phase s b.
+              let e = moved_in phase n s row.comes.session q r k _ (own_head (is_on n) (w.mesh q r) m.heads.rest item m.heads.is (equal n) ∙ b.mesh q r) in
+              at_phase setup w v n phase (Busy q k r Moving) s e.0
+                (land_own setup w v n q k r s part (subst (λ (x : SessionValue). RouterMoves r (Some (MeshIn q (Moved k n x))) (OutwardTo n (PointAt k) ∷ MeshTo q (Done k n) ∷ []) part w v) e.1 m)
+                  (place_here before part n _ places ∙ ap (λ (x : SessionValue). Live x None) e.1)
+                  (subst (λ (x : SessionValue). BringsIn setup r x (part.entries n)) e.1 row.entries)
+                  (subst (λ (x : SessionValue). refusal_of setup r before x ≡ None) e.1 row.admitted)) b);
+        reports = λ a. tt;
+        room = λ l. le_trans _ _ _ (one_more_taken setup before part n _ places) (above _ _ (room_left setup r before row.comes.session row.admitted));
+      })
+
+  pub turn_back_deed : (q : ℕ) (taken : Option RouterTaken) (sent : List RouterSent) (part : RouterPart) → TurnsBack setup r q before taken sent part → RouterMoves r taken sent part w v → Deed setup w v r taken sent part
+  turn_back_deed q taken sent part row = deed_as setup w v r taken (Some (MeshIn q (Moved row.comes.graft row.comes.peering row.comes.session))) sent
+    (MeshTo q (Back row.comes.graft row.comes.peering row.comes.session row.refusal) ∷ []) part row.comes.takes row.sends (λ m.
+      let k : ℕ = row.comes.graft in
+      let n : ℕ = row.comes.peering in
+      let item : Mesh = Moved k n row.comes.session in
+      record {
+        each = own_or_apart setup w v r n (Some (MeshIn q item)) (MeshTo q (Back k n row.comes.session row.refusal) ∷ []) part m row.comes.known
+            (λ p ne. record {
+              places = ap (λ (x : RouterPart). x.places p) row.stays;
+              entries = ap (λ (x : RouterPart). x.entries p) row.stays;
+              items = other_mesh setup p r q q item (Back k n row.comes.session row.refusal) (differs p n ne) (differs p n ne);
+              outward_sent = λ a. refl;
+              inward_taken = λ b. refl;
+            })
+            (λ phase s b.
+              let e = moved_in phase n s row.comes.session q r k _ (own_head (is_on n) (w.mesh q r) m.heads.rest item m.heads.is (equal n) ∙ b.mesh q r) in
+              at_phase setup w v n phase (Busy q k r Moving) s e.0
+                (turn_back_own setup w v n q k r s part row.refusal (subst (λ (x : SessionValue). RouterMoves r (Some (MeshIn q (Moved k n x))) (MeshTo q (Back k n x row.refusal) ∷ []) part w v) e.1 m)
+                  (ap (λ (x : RouterPart). x.places n) row.stays ∙ row.comes.vacant)
+                  (ap (λ (x : RouterPart). x.entries n) row.stays)
+                  (subst (λ (x : SessionValue). refusal_of setup r before x ≡ Some row.refusal) e.1 row.cause)) b);
+        reports = λ a. tt;
+        room = λ l. subst (λ (x : RouterPart). taken_in setup x ≤ room_of setup r) (sym row.stays) l;
+      })
+
+  -- ---- at the source again
+
+  pub return_deed : (q : ℕ) (taken : Option RouterTaken) (sent : List RouterSent) (part : RouterPart) → Returns q before taken sent part → RouterMoves r taken sent part w v → Deed setup w v r taken sent part
+  return_deed q taken sent part row = deed_as setup w v r taken (Some (MeshIn q (Back row.graft row.peering row.session row.refusal))) sent
+    (ReportOut (record { graft = row.graft; outcome = Refused row.refusal }) ∷ []) part row.takes row.sends (λ m.
+      let k : ℕ = row.graft in
+      let n : ℕ = row.peering in
+      let item : Mesh = Back k n row.session row.refusal in
+      let report : Report = record { graft = k; outcome = Refused row.refusal } in
+      let places : part.places ≡ at before.places n (Live row.session None) = ap (λ (x : RouterPart). x.places) row.effect in
+      let known : n < peerings_in setup = known_place setup w owned r n _ row.shadow (λ e. absurd cc) in
+      let own : is_of setup n k ≡ true = back_own q n k row.session row.refusal m.heads known in
+      record {
+        each = own_or_apart setup w v r n (Some (MeshIn q item)) (ReportOut report ∷ []) part m known
+            (λ p ne. record {
+              places = place_stays before part p n _ places ne;
+              entries = ap (λ (x : RouterPart). x.entries p) row.effect;
+              items = other_report setup p r (Some (MeshIn q item)) report (other_taken setup p r q item (differs p n ne)) (λ i. refl) (not_of setup p n k ne own);
+              outward_sent = λ a. refl;
+              inward_taken = λ b. refl;
+            })
+            (λ phase s b.
+              let e = back_in phase n s row.session row.refusal q r k _ (own_head (is_on n) (w.mesh q r) m.heads.rest item m.heads.is (equal n) ∙ b.mesh q r) in
+              at_phase setup w v n phase (Busy r k q (Returning row.refusal)) s e.0
+                (return_own setup w v n r k q s part row.refusal (subst (λ (x : SessionValue). RouterMoves r (Some (MeshIn q (Back k n x row.refusal))) (ReportOut report ∷ []) part w v) e.1 m)
+                  (place_here before part n _ places ∙ ap (λ (x : SessionValue). Live x None) e.1)
+                  (ap (λ (x : RouterPart). x.entries n) row.effect)) b);
+        reports = λ a. one_report setup r a report (of_known setup n k own);
+        room = λ l. le_trans _ _ _ (no_more_taken setup before part n _ places (ap is_taken row.shadow)) l;
+      })
+
+  pub clear_deed : (q : ℕ) (taken : Option RouterTaken) (sent : List RouterSent) (part : RouterPart) → Clears q before taken sent part → RouterMoves r taken sent part w v → Deed setup w v r taken sent part
+  clear_deed q taken sent part row = deed_as setup w v r taken (Some (MeshIn q (Done row.graft row.peering))) sent
+    (ReportOut (record { graft = row.graft; outcome = Accepted }) ∷ []) part row.takes row.sends (λ m.
+      let k : ℕ = row.graft in
+      let n : ℕ = row.peering in
+      let item : Mesh = Done k n in
+      let report : Report = record { graft = k; outcome = Accepted } in
+      let places : part.places ≡ at before.places n Vacant = ap (λ (x : RouterPart). x.places) row.effect in
+      let known : n < peerings_in setup = known_place setup w owned r n _ row.shadow (λ e. absurd cc) in
+      let own : is_of setup n k ≡ true = done_own q n k m.heads known in
+      record {
+        each = own_or_apart setup w v r n (Some (MeshIn q item)) (ReportOut report ∷ []) part m known
+            (λ p ne. record {
+              places = place_stays before part p n _ places ne;
+              entries = ap (λ (x : RouterPart). x.entries p) row.effect ∙ at_other before.entries n p map.empty ne;
+              items = other_report setup p r (Some (MeshIn q item)) report (other_taken setup p r q item (differs p n ne)) (λ i. refl) (not_of setup p n k ne own);
+              outward_sent = λ a. refl;
+              inward_taken = λ b. refl;
+            })
+            (λ phase s b.
+              let e = done_in phase n s q r k _ (own_head (is_on n) (w.mesh q r) m.heads.rest item m.heads.is (equal n) ∙ b.mesh q r) in
+              at_phase setup w v n phase (Busy r k q Landed) s e
+                (clear_own setup w v n r k q s part m (place_here before part n _ places) (ap (λ (x : RouterPart). x.entries n) row.effect ∙ at_here before.entries n map.empty)) b);
+        reports = λ a. one_report setup r a report (of_known setup n k own);
+        room = λ l. le_trans _ _ _ (no_more_taken setup before part n _ places (ap is_taken row.shadow)) l;
+      })

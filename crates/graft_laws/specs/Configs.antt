@@ -1,0 +1,10 @@
+-- The session of a peering is the peering's own.
+use Rattle.std.specs.Prelude.{ℕ, ◌≡◌, Some}
+use Rattle.session_value.specs.Sessions.{SessionValue}
+use Rattle.graft_model.specs.Setups.{Setup, config_of}
+use Rattle.graft_model.specs.Parts.{World}
+use Rattle.graft_laws.specs.Phases.{Phase}
+
+-- it has what the session of its peering begins with
+pub record IsOwn (setup : Setup) (w : World) (p : ℕ) (phase : Phase) (session : SessionValue) : Type 0 where
+  pub config : config_of setup p ≡ Some session.config

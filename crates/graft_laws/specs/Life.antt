@@ -1,0 +1,104 @@
+-- The life of a peering: all that an event of the world can do to it.
+use Rattle.std.specs.Prelude.{ℕ, ◌≡◌, ◌≢◌, List, [], ◌∷◌, ◌++◌, Option, Some, None}
+use Rattle.std.specs.FinMap as map
+use Rattle.tcp_seq.specs.Endpoint.{Endpoint, PlacedSegment, TakesSegment}
+use Rattle.bgp_types.specs.declared.message.Update.{Update}
+use Rattle.graft_steps.specs.declared.refusal.Refusal.{Refusal}
+use Rattle.graft_steps.specs.Refusals.{freeze_refusal}
+use Rattle.session_value.specs.Sessions.{SessionValue, state, hold_time}
+use Rattle.session_value.specs.Cases.{GetsFrame, PutsUpdate, PassesRound}
+use Rattle.graft_model.specs.Slices.{EmitsAt}
+use Rattle.graft_model.specs.Setups.{Setup}
+use Rattle.graft_model.specs.Parts.{Order, Live, FarPart, Outward, Seg, PointAt, World}
+use Rattle.graft_model.specs.RouterRows.{BringsIn}
+use Rattle.graft_model.specs.GraftRows.{refusal_of}
+use Rattle.graft_model.specs.FarRows.{FarTaken, FarSent}
+use Rattle.graft_model.specs.Steps.{FarEvent, far_row}
+use Rattle.graft_laws.specs.Phases.{Stage, Ordered, Stored, Halted, Moving, Landed, Returning, Declined, Cleared, Phase, Idle, Busy, place_by, only}
+use Rattle.graft_laws.specs.Moves.{FarMoves}
+
+-- ---- the far side of a peering, and the channels from and to it
+
+pub record SameLine (p : ℕ) (before after : World) : Type 0 where
+  pub far : after.far p ≡ before.far p
+  pub outward : (r : ℕ) → after.outward r p ≡ before.outward r p
+  pub inward : (r : ℕ) → after.inward p r ≡ before.inward p r
+  pub says : after.says p ≡ before.says p
+
+-- the router r sends the far side an item
+pub record LineGets (p r : ℕ) (item : Outward) (before after : World) : Type 0 where
+  pub far : after.far p ≡ before.far p
+  pub outward : (x : ℕ) → after.outward x p ≡ before.outward x p ++ only r item x
+  pub inward : (x : ℕ) → after.inward p x ≡ before.inward p x
+  pub says : after.says p ≡ before.says p
+
+-- the router r takes a segment from the far side
+pub record LineGives (p r : ℕ) (segment : PlacedSegment) (before after : World) : Type 0 where
+  pub far : after.far p ≡ before.far p
+  pub outward : (x : ℕ) → after.outward x p ≡ before.outward x p
+  pub inward : (x : ℕ) → only r segment x ++ after.inward p x ≡ before.inward p x
+  pub says : after.says p ≡ before.says p
+
+-- the operator tells the far side to say a step
+pub record LineSays (p step : ℕ) (before after : World) : Type 0 where
+  pub far : after.far p ≡ before.far p
+  pub outward : (r : ℕ) → after.outward r p ≡ before.outward r p
+  pub inward : (r : ℕ) → after.inward p r ≡ before.inward p r
+  pub says : after.says p ≡ before.says p ++ step ∷ []
+
+-- ---- the entries that routers have of a peering
+
+pub record SameEntries (p : ℕ) (before after : World) : Type 0 where
+  pub same : (r : ℕ) → (after.router r).entries p ≡ (before.router r).entries p
+
+-- the router r has what this session brings in there, and the others have what they had
+pub record Enters (setup : Setup) (p r : ℕ) (session : SessionValue) (before after : World) : Type 0 where
+  pub here : BringsIn setup r session ((after.router r).entries p)
+  pub others : (x : ℕ) → x ≢ r → (after.router x).entries p ≡ (before.router x).entries p
+
+-- the router r has no entries now, and the others have what they had
+pub record Drops (p r : ℕ) (before after : World) : Type 0 where
+  pub here : (after.router r).entries p ≡ map.empty
+  pub others : (x : ℕ) → x ≢ r → (after.router x).entries p ≡ (before.router x).entries p
+
+-- ---- changes
+
+-- Phase and session before an event, and after it.
+pub data Change (setup : Setup) (before after : World) (p : ℕ) : Phase → SessionValue → Phase → SessionValue → Type 0 where
+  -- an event of another peering, or on tables alone
+  Rests : {phase : Phase} {s : SessionValue} → SameLine p before after → SameEntries p before after → Change setup before after p phase s phase s
+  -- the events of a graft, in their order
+  Begins : {q k t : ℕ} {s : SessionValue} → SameLine p before after → SameEntries p before after → Change setup before after p (Idle q) s (Busy q k t Ordered) s
+  Admits : {q k t : ℕ} {s : SessionValue} → SameLine p before after → SameEntries p before after → Change setup before after p (Busy q k t Ordered) s (Busy q k t Stored) s
+  Refuses : {q k t : ℕ} {s : SessionValue} {refusal : Refusal} → freeze_refusal (record { 0 = q }) (record { 0 = t }) (state s) (hold_time s) ≡ Some refusal
+      → SameLine p before after → SameEntries p before after → Change setup before after p (Busy q k t Stored) s (Busy q k t (Declined refusal)) s
+  Freezes : {q k t : ℕ} {s : SessionValue} → freeze_refusal (record { 0 = q }) (record { 0 = t }) (state s) (hold_time s) ≡ None
+      → SameLine p before after → SameEntries p before after → Change setup before after p (Busy q k t Stored) s (Busy q k t Halted) s
+  Leaves : {q k t : ℕ} {s : SessionValue} → SameLine p before after → SameEntries p before after → Change setup before after p (Busy q k t Halted) s (Busy q k t Moving) s
+  Lands : {q k t : ℕ} {s : SessionValue} → refusal_of setup t (before.router t) s ≡ None
+      → LineGets p t (PointAt k) before after → Enters setup p t s before after → Change setup before after p (Busy q k t Moving) s (Busy q k t Landed) s
+  TurnsBack : {q k t : ℕ} {s : SessionValue} {refusal : Refusal} → refusal_of setup t (before.router t) s ≡ Some refusal
+      → SameLine p before after → SameEntries p before after → Change setup before after p (Busy q k t Moving) s (Busy q k t (Returning refusal)) s
+  Returns : {q k t : ℕ} {s : SessionValue} {refusal : Refusal} → SameLine p before after → SameEntries p before after
+      → Change setup before after p (Busy q k t (Returning refusal)) s (Busy q k t (Declined refusal)) s
+  Clears : {q k t : ℕ} {s : SessionValue} → SameLine p before after → Drops p q before after → Change setup before after p (Busy q k t Landed) s (Busy q k t Cleared) s
+  NotesRefusal : {q k t : ℕ} {s : SessionValue} {refusal : Refusal} → SameLine p before after → SameEntries p before after
+      → Change setup before after p (Busy q k t (Declined refusal)) s (Idle q) s
+  NotesSuccess : {q k t : ℕ} {s : SessionValue} → SameLine p before after → SameEntries p before after → Change setup before after p (Busy q k t Cleared) s (Idle t) s
+  -- the events of the session where it is live
+  Puts : {phase : Phase} {s next : SessionValue} (r : ℕ) (order : Option Order) (update : Update) → place_by phase s r ≡ Live s order → PutsUpdate s update next
+      → SameLine p before after → SameEntries p before after → Change setup before after p phase s phase next
+  Emits : {phase : Phase} {s : SessionValue} (r : ℕ) (order : Option Order) (from len : ℕ) (segment : PlacedSegment) (end : Endpoint) → place_by phase s r ≡ Live s order
+      → EmitsAt from len s.end segment end → LineGets p r (Seg segment) before after → SameEntries p before after → Change setup before after p phase s phase (record s { end = end })
+  Arrives : {phase : Phase} {s : SessionValue} (r : ℕ) (order : Option Order) (segment : PlacedSegment) (end : Endpoint) → place_by phase s r ≡ Live s order
+      → TakesSegment s.end segment end → LineGives p r segment before after → SameEntries p before after → Change setup before after p phase s phase (record s { end = end })
+  Gets : {phase : Phase} {s next : SessionValue} (r : ℕ) (order : Option Order) (bytes : List ℕ) → place_by phase s r ≡ Live s order → GetsFrame s bytes next
+      → SameLine p before after → Enters setup p r next before after → Change setup before after p phase s phase next
+  Ticks : {phase : Phase} {s next : SessionValue} (r : ℕ) (order : Option Order) (round : ℕ) → place_by phase s r ≡ Live s order → PassesRound s round next
+      → SameLine p before after → Enters setup p r next before after → Change setup before after p phase s phase next
+  -- a segment finds no live session
+  Strays : {phase : Phase} {s : SessionValue} (r : ℕ) (segment : PlacedSegment) → LineGives p r segment before after → SameEntries p before after → Change setup before after p phase s phase s
+  -- a step is to be said, and the far side's own events
+  IsToSay : {phase : Phase} {s : SessionValue} (step : ℕ) → LineSays p step before after → SameEntries p before after → Change setup before after p phase s phase s
+  FarActs : {phase : Phase} {s : SessionValue} (event : FarEvent) (taken : Option FarTaken) (sent : List FarSent) (part : FarPart) → far_row setup p event (before.far p) taken sent part
+      → FarMoves p taken sent part before after → SameEntries p before after → Change setup before after p phase s phase s
