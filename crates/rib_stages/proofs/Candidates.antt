@@ -67,19 +67,20 @@ or_none (Some x) = refl
 
 -- ---- ranked candidates
 
-abbrev from_of : Best → From
+abbrev pub from_of : Best → From
 from_of best = best.from
 
 keys_are : (cs : List Candidate) → keys_of (ranked_sources from_of cs) ≡ sources cs
 keys_are [] = refl
 keys_are (c ∷ cs) = ap (λ (xs : List From). c.0.from ∷ xs) (keys_are cs)
 
+rank_step : (c : Candidate) (ranks : List RankedSource) (found : Option Rank) (o : Option Candidate) → found ≡ option_map (λ c. c.1) o → (b : Bool) → cond b (Some c.1) found ≡ option_map (λ c. c.1) (cond b (Some c) o)
+rank_step c ranks found o is true = refl
+rank_step c ranks found o is false = is
+
 rank_found : (test : From → Bool) (cs : List Candidate) → lookup test (ranked_sources from_of cs) ≡ option_map (λ c. c.1) (find (λ c. test c.0.from) cs)
 rank_found test [] = refl
-rank_found test (c ∷ cs) = by_test (test c.0.from) where
-  by_test : (b : Bool) → cond b (Some c.1) (lookup test (ranked_sources from_of cs)) ≡ option_map (λ c. c.1) (cond b (Some c) (find (λ c. test c.0.from) cs))
-  by_test true = refl
-  by_test false = rank_found test cs
+rank_found test (c ∷ cs) = rank_step c (ranked_sources from_of cs) (lookup test (ranked_sources from_of cs)) (find (λ c. test c.0.from) cs) (rank_found test cs) (test c.0.from)
 
 -- nothing stands at a number that no octet has
 pub record IsShort (rib : RibValue) : Type 0 where
@@ -226,7 +227,7 @@ module _ (rib : RibValue) (prefix : PrefixValue) where
   ranked_at (Peering p) = entry_ranked p.0 (table.get (rib.entries p.0) prefix)
   ranked_at (Router q) = telling_ranked q.0 (table.get (rib.tellings q.0) prefix)
 
-  abbrev best_from_there : From → Option Best
+  abbrev pub best_from_there : From → Option Best
   best_from_there from = option_map (λ route. record { from = from; route = route }) (route_from rib from prefix)
 
   entry_best : (p : ℕ) (o : Option Entry) → option_map (λ (c : Candidate). c.0) (entry_candidate rib.config.home_as p o) ≡ option_map (λ (route : Route). record { from = peering_of p; route = route }) (option_map (λ (e : Entry). e.route) o)
@@ -252,13 +253,15 @@ module _ (rib : RibValue) (prefix : PrefixValue) where
   ranks_same short ranks are from =
       are from ∙ sym (rank_found (is_at (from_order from)) (candidates_of rib prefix) ∙ (ap (option_map (λ (c : Candidate). c.1)) (found_is short from) ∙ ranked_at from))
 
+  pub ranks_same_lists : IsShort rib → (ranks : List RankedSource) → IsInOrder ranks → ((from : From) → rank_at ranks from ≡ rank_in rib prefix from) → ranks ≡ ranked_sources from_of (candidates_of rib prefix)
+  ranks_same_lists short ranks ordered are = alike_is_same from_order from_order_total from_order_exact ranks (ranked_sources from_of (candidates_of rib prefix)) ordered in_order (ranks_same short ranks are)
+
   -- the chosen one of ranks that belong to the candidates names the chosen candidate
   pub choice_named : IsShort rib → (ranks : List RankedSource) → IsInOrder ranks → ((from : From) → rank_at ranks from ≡ rank_in rib prefix from) → chosen rib prefix ≡ option_and_then best_from_there (choice ranks)
   unfolding chosen
   choice_named short ranks ordered are =
-      let same : ranks ≡ ranked_sources from_of (candidates_of rib prefix) = alike_is_same from_order from_order_total from_order_exact ranks (ranked_sources from_of (candidates_of rib prefix)) ordered in_order (ranks_same short ranks are) in
       let by_source : candidate_from from_of (candidates_of rib prefix) ≡ best_from_there = λ i from. (ap (option_map (λ (c : Candidate). c.0)) (found_is short from) ∙ best_at from) i in
-      sym (ap (λ (xs : List RankedSource). option_and_then best_from_there (choice xs)) same
+      sym (ap (λ (xs : List RankedSource). option_and_then best_from_there (choice xs)) (ranks_same_lists short ranks ordered are)
       ∙ (ap (λ (f : From → Option Best). option_and_then f (choice (ranked_sources from_of (candidates_of rib prefix)))) (sym by_source)
       ∙ candidate-chosen from_of (candidates_of rib prefix) in_order))
 

@@ -21,20 +21,20 @@ use Rattle.rib_stages.proofs.Tables.{at-itself}
 
 -- ---- one table
 
-module _ {A : Type 0} where
-  -- the least prefix of a table is in it
-  least_of : (ks : List PrefixValue) (p : PrefixValue) → first_above None ks ≡ Some p → list_any (eq_by_cmp prefix_cmp p) ks ≡ true
-  least_of [] p e = absurd cc
-  least_of (k ∷ ks) p e =
-      let same : k ≡ p = ap (λ (o : Option PrefixValue). Rattle.std.specs.Option.unwrap_or o k) e in
-      ap (λ (x : PrefixValue). eq_by_cmp prefix_cmp p x || list_any (eq_by_cmp prefix_cmp p) ks) same ∙ ap (λ (b : Bool). b || list_any (eq_by_cmp prefix_cmp p) ks) (itself p)
+-- the least prefix of a table is in it
+least_of : (ks : List PrefixValue) (p : PrefixValue) → first_above None ks ≡ Some p → list_any (eq_by_cmp prefix_cmp p) ks ≡ true
+least_of [] p e = absurd cc
+least_of (k ∷ ks) p e =
+    let same : k ≡ p = ap (λ (o : Option PrefixValue). Rattle.std.specs.Option.unwrap_or o k) e in
+    ap (λ (x : PrefixValue). eq_by_cmp prefix_cmp p x || list_any (eq_by_cmp prefix_cmp p) ks) same ∙ ap (λ (b : Bool). b || list_any (eq_by_cmp prefix_cmp p) ks) (itself p)
 
+no_least : (ks : List PrefixValue) → first_above None ks ≡ None → (q : PrefixValue) → list_any (eq_by_cmp prefix_cmp q) ks ≡ false
+no_least [] e q = refl
+no_least (k ∷ ks) e q = absurd cc
+
+module _ {A : Type 0} where
   pub least_is : (table : map.FinMap prefix_cmp A) (p : PrefixValue) → first_above None (map.keys table) ≡ Some p → is_some (map.get table p) ≡ true
   least_is table p e = map.contains_key-keys table p ∙ least_of (map.keys table) p e
-
-  no_least : (ks : List PrefixValue) → first_above None ks ≡ None → (q : PrefixValue) → list_any (eq_by_cmp prefix_cmp q) ks ≡ false
-  no_least [] e q = refl
-  no_least (k ∷ ks) e q = absurd cc
 
   none_of : (o : Option A) → is_some o ≡ false → o ≡ None
   none_of None e = refl
@@ -104,7 +104,7 @@ module _ (before now after : RibValue) (p : ℕ) (prefix : PrefixValue) (drops :
   abbrev entries_then : Entries
   entries_then = with_value (now.entries p) prefix None
 
-  entries_are : after.entries p ≡ entries_then
+  pub entries_are : after.entries p ≡ entries_then
   entries_are = ap (λ (r : RibValue). r.entries p) goes.effect ∙ there_at now.entries p entries_then
 
   dirty_are : after.dirty ≡ map.insert now.dirty prefix tt
@@ -134,7 +134,7 @@ module _ (before now after : RibValue) (q : ℕ) (prefix : PrefixValue) (drops :
   abbrev tellings_then : Tellings
   tellings_then = with_value (now.tellings q) prefix None
 
-  tellings_are : after.tellings q ≡ tellings_then
+  pub tellings_are : after.tellings q ≡ tellings_then
   tellings_are = ap (λ (r : RibValue). r.tellings q) goes.effect ∙ there_at now.tellings q tellings_then
 
   marked_are : after.dirty ≡ map.insert now.dirty prefix tt

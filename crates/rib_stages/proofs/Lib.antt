@@ -9,3 +9,4 @@ pub mod RankSets
 pub mod OwnRanks
 pub mod Drops
 pub mod Whole
+pub mod Decided

@@ -1,6 +1,6 @@
 -- What is dirty where one prefix gets another value.
 use Rattle.std.proofs.Common.{◌≡◌, Bool, true, false, cond, Option, Some, None, refl, sym, ap, ◌∙◌, inl, inr}
-use Rattle.std.specs.Prelude.{◌≢◌, ◌⊎◌, is_some}
+use Rattle.std.specs.Prelude.{◌≢◌, ◌⊎◌, is_some, MatchBool}
 use Rattle.std.specs.Cmp.{eq_by_cmp_equiv}
 use Rattle.std.specs.FinMap as map
 use Rattle.std.specs.Ordering.{eq_by_cmp}
@@ -13,10 +13,7 @@ use Rattle.session_value.specs.Sets.{Prefixes, has, Marks, MarksOne}
 -- ---- what a table answers after one change
 
 module _ {A : Type 0} where
-  abbrev Table : Type 0
-  Table = map.FinMap prefix_cmp A
-
-  pub with_gives : (table : Table) (p q : PrefixValue) (value : Option A) → map.get (with_value table p value) q ≡ cond (eq_by_cmp prefix_cmp q p) value (map.get table q)
+  pub with_gives : (table : map.FinMap prefix_cmp A) (p q : PrefixValue) (value : Option A) → map.get (with_value table p value) q ≡ cond (eq_by_cmp prefix_cmp q p) value (map.get table q)
   with_gives table p q None = map.get-remove prefix_total table p q
   with_gives table p q (Some x) = map.get-insert prefix_total table p x q
 
@@ -86,3 +83,12 @@ module _ {A : Type 0} (before marked after : Prefixes) (old now : map.FinMap pre
   pub marks_next : MarksOne marked p (map.get now p) value after → Marks before old next after
   marks_next (inl stays) = unchanged stays.0 stays.1
   marks_next (inr set) = changed set.0 set.1
+
+-- what a test told
+pub when_true : (P Q : Type 0) (b : Bool) → b ≡ true → MatchBool b P Q → P
+when_true P Q true e h = h
+when_true P Q false e h = absurd cc
+
+pub when_false : (P Q : Type 0) (b : Bool) → b ≡ false → MatchBool b P Q → Q
+when_false P Q true e h = absurd cc
+when_false P Q false e h = h

@@ -1,9 +1,10 @@
 -- Candidates of numbered sources: where one is found, and their order.
-use Rattle.std.proofs.Common.{◌≡◌, ℕ, zero, suc, ◌+◌, ◌<◌, ◌≤◌, ◌==◌, Bool, true, false, cond, ◌||◌, List, [], ◌∷◌, ◌++◌, map, Option, Some, None, refl, sym, ap, ◌∙◌, arith}
+use Rattle.std.proofs.Common.{◌≡◌, ℕ, zero, suc, ◌+◌, ◌<◌, ◌≤◌, ◌==◌, Bool, true, false, cond, ◌||◌, List, [], ◌∷◌, ◌++◌, map, Option, Some, None, refl, sym, ap, subst, ◌∙◌, arith}
 use Rattle.std.specs.List.{AllByRecursion, filter_map, cons_option, find, list_any, range_with_len}
 use Rattle.std.specs.List.Sorted.{IsStrictlySortedBy}
 use Rattle.std.specs.Option.{option_map}
 use Rattle.std.proofs.lemmas.Bool.{eqb-true}
+use Rattle.std.proofs.lemmas.Bool.Decides.{nat_tests}
 use Rattle.std.specs.declared.cmp.Ordering.TheVariants.{Less}
 use Rattle.bgp_types.specs.declared.rank.From.{From}
 use Rattle.decision_groups.specs.Order.{from_order}
@@ -31,27 +32,25 @@ sources-append (x ∷ xs) ys = ap (λ (zs : List From). x.0.from ∷ zs) (source
 -- ---- the candidates of numbers
 
 module _ (g : ℕ → Option Candidate) (source : ℕ → From) (named : (k : ℕ) (c : Candidate) → g k ≡ Some c → c.0.from ≡ source k) where
+  all_step : (P : From → Type 0) (a : ℕ) (rest : List Candidate) → P (source a) → AllByRecursion P (sources rest) → (o : Option Candidate) → g a ≡ o → AllByRecursion P (sources (cons_option o rest))
+  all_step P a rest h more None is = more
+  all_step P a rest h more (Some c) is = (subst P (sym (named a c is)) h, more)
+
   -- what holds of the sources of all numbers from one on
   pub all_from : (P : From → Type 0) (n a : ℕ) → ((k : ℕ) → a ≤ k → P (source k)) → AllByRecursion P (sources (filter_map g (range_with_len a n)))
   all_from P zero a h = tt
-  all_from P (suc n) a h = by_case (g a) refl where
-    rest : AllByRecursion P (sources (filter_map g (range_with_len (a + 1) n)))
-    rest = all_from P n (a + 1) (λ k le. h k (omega (arith, le)))
+  all_from P (suc n) a h = all_step P a (filter_map g (range_with_len (a + 1) n)) (h a (omega arith)) (all_from P n (a + 1) (λ k le. h k (omega (arith, le)))) (g a) refl
 
-    by_case : (o : Option Candidate) → g a ≡ o → AllByRecursion P (sources (cons_option o (filter_map g (range_with_len (a + 1) n))))
-    by_case None is = rest
-    by_case (Some c) is = (Rattle.std.proofs.Common.subst P (sym (named a c is)) (h a (omega arith)), rest)
+  sorted_step : (a : ℕ) (rest : List Candidate) → AllByRecursion (λ y. from_order (source a) y ≡ Less) (sources rest) → IsStrictlySortedBy from_order (sources rest) → (o : Option Candidate) → g a ≡ o → IsStrictlySortedBy from_order (sources (cons_option o rest))
+  unfolding IsStrictlySortedBy
+  sorted_step a rest below more None is = more
+  sorted_step a rest below more (Some c) is = (subst (λ (x : From). AllByRecursion (λ y. from_order x y ≡ Less) (sources rest)) (sym (named a c is)) below, more)
 
   pub sorted_numbers : ((j k : ℕ) → j < k → from_order (source j) (source k) ≡ Less) → (n a : ℕ) → IsStrictlySortedBy from_order (sources (filter_map g (range_with_len a n)))
   unfolding IsStrictlySortedBy
   sorted_numbers rises zero a = tt
-  sorted_numbers rises (suc n) a = by_case (g a) refl where
-    rest : IsStrictlySortedBy from_order (sources (filter_map g (range_with_len (a + 1) n)))
-    rest = sorted_numbers rises n (a + 1)
-
-    by_case : (o : Option Candidate) → g a ≡ o → IsStrictlySortedBy from_order (sources (cons_option o (filter_map g (range_with_len (a + 1) n))))
-    by_case None is = rest
-    by_case (Some c) is = (Rattle.std.proofs.Common.subst (λ (x : From). AllByRecursion (λ y. from_order x y ≡ Less) (sources (filter_map g (range_with_len (a + 1) n)))) (sym (named a c is)) (all_from (λ y. from_order (source a) y ≡ Less) n (a + 1) (λ k le. rises a k (omega (arith, le)))), rest)
+  sorted_numbers rises (suc n) a =
+      sorted_step a (filter_map g (range_with_len (a + 1) n)) (all_from (λ y. from_order (source a) y ≡ Less) n (a + 1) (λ k le. rises a k (omega (arith, le)))) (sorted_numbers rises n (a + 1)) (g a) refl
 
   passed_by : (test : From → Bool) (k : ℕ) (rest : List Candidate) → test (source k) ≡ false → (o : Option Candidate) → g k ≡ o → find (λ c. test c.0.from) (cons_option o rest) ≡ find (λ c. test c.0.from) rest
   passed_by test k rest fails None is = refl
@@ -74,23 +73,22 @@ module _ (g : ℕ → Option Candidate) (source : ℕ → From) (named : (k : �
         ap (λ (t : Bool). cond t (Some c) (find (λ d. test d.0.from) rest)) (ap test (named k c is) ∙ (tells k ∙ e))
         ∙ (sym is ∙ ap g (eqb-true k p e))
 
+    found_step : (k : ℕ) (rest : List Candidate) (b : Bool) → find (λ c. test c.0.from) rest ≡ cond b (g p) None → (t : Bool) → (k == p) ≡ t → find (λ c. test c.0.from) (cons_option (g k) rest) ≡ cond (t || b) (g p) None
+    found_step k rest b others true e = here k rest b e others (g k) refl
+    found_step k rest b others false e = passed_by test k rest (tells k ∙ e) (g k) refl ∙ others
+
     pub found_among : (ks : List ℕ) → find (λ c. test c.0.from) (filter_map g ks) ≡ cond (list_any (λ k. k == p) ks) (g p) None
     found_among [] = refl
-    found_among (k ∷ ks) = by_case (k == p) refl where
-      by_case : (b : Bool) → (k == p) ≡ b → find (λ c. test c.0.from) (cons_option (g k) (filter_map g ks)) ≡ cond (b || list_any (λ j. j == p) ks) (g p) None
-      by_case true e = here k (filter_map g ks) (list_any (λ j. j == p) ks) e (found_among ks) (g k) refl
-      by_case false e = passed_by test k (filter_map g ks) (tells k ∙ e) (g k) refl ∙ found_among ks
+    found_among (k ∷ ks) = found_step k (filter_map g ks) (list_any (λ j. j == p) ks) (found_among ks) (k == p) refl
 
 -- the numbers from one on have each of theirs
+among_step : (a p : ℕ) (rest : Bool) → a ≤ p → (a + 1 ≤ p → rest ≡ true) → (t : Bool) → (a == p) ≡ t → (t || rest) ≡ true
+among_step a p rest le more true e = refl
+among_step a p rest le more false e = more (grind (arith, nat_tests))
+
 pub among_range : (n a p : ℕ) → a ≤ p → p < a + n → list_any (λ k. k == p) (range_with_len a n) ≡ true
 among_range zero a p le lt = absurd (omega (arith, le, lt))
-among_range (suc n) a p le lt = by_case (a == p) refl where
-  by_case : (b : Bool) → (a == p) ≡ b → (b || list_any (λ k. k == p) (range_with_len (a + 1) n)) ≡ true
-  by_case true e = refl
-  by_case false e = among_range n (a + 1) p (later (Rattle.std.proofs.lemmas.Bool.cases_lt a p)) (omega (arith, lt)) where
-    later : Rattle.std.specs.Prelude.◌⊎◌ (a < p) (p ≤ a) → a + 1 ≤ p
-    later (Rattle.std.proofs.Common.inl h) = omega (arith, h)
-    later (Rattle.std.proofs.Common.inr h) = absurd (let same : a ≡ p = omega (arith, le, h) in let t : (a == p) ≡ true = grind (arith, Rattle.std.proofs.lemmas.Bool.Decides.nat_tests) in cc)
+among_range (suc n) a p le lt = among_step a p (list_any (λ k. k == p) (range_with_len (a + 1) n)) le (λ further. among_range n (a + 1) p further (omega (arith, lt))) (a == p) refl
 
 -- numbers that have nothing add nothing
 pub none_added : (g : ℕ → Option Candidate) (n a : ℕ) → ((k : ℕ) → a ≤ k → g k ≡ None) → filter_map g (range_with_len a n) ≡ []

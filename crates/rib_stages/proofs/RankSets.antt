@@ -4,6 +4,7 @@ use Rattle.std.specs.Prelude.{◌≢◌, IsSome, Result, Ok, Err, OnOk, OnErr}
 use Rattle.std.specs.BTreeMap.{is_at, insert_entry}
 use Rattle.std.specs.Cmp.{IsTotalOrder, eq_by_cmp_equiv}
 use Rattle.std.specs.FinMap as map
+use Rattle.std.specs.List.Sorted.{IsStrictlySortedBy}
 use Rattle.std.specs.Map.{lookup, remove_entry}
 use Rattle.std.specs.Option.{unwrap_or}
 use Rattle.std.specs.Ordering.{eq_by_cmp, is_eq, match_ordering}
@@ -18,6 +19,7 @@ use Rattle.bgp_types.specs.Tables.{prefix_cmp}
 use Rattle.bgp_types.specs.declared.rank.From.{From}
 use Rattle.bgp_types.specs.declared.rank.Rank.{Rank}
 use Rattle.bgp_types.proofs.TableLaws.{prefix_total}
+use Rattle.decision_core.specs.Choice.{choice, left_of, keep}
 use Rattle.decision_groups.specs.Order.{RankedSource, IsInOrder, from_order, rank_at, with_rank, without}
 use Rattle.decision_groups.proofs.OrderLaws.{from_order_total, from_order_exact}
 use Rattle.rib_stages.specs.Ranks.{RankSets, ranks_at, ranks_with, SetsRank}
@@ -146,7 +148,7 @@ module _ (before left after : RankSets) (p : PrefixValue) (xs : List RankedSourc
 
 -- what was put in is there
 pub is_there : (before left : RankSets) (p : PrefixValue) (xs : List RankedSource) → left ≡ map.insert before p xs → IsSome (map.get left p)
-is_there before left p xs is = subst IsSome (sym (ap (λ (s : RankSets). map.get s p) is ∙ (map.get-insert prefix_total before p xs p ∙ ap (λ (b : Bool). cond b (Some xs) (map.get before p)) (itself p)))) tt
+is_there before left p xs is = subst IsSome (sym (ap (λ (s : RankSets). map.get s p) is ∙ (map.get-insert prefix_total before p xs p ∙ ap (λ (b : Bool). cond b (Some xs) (map.get before p)) (itself p)))) refl
 
 -- a prefix without ranks has none of a source
 pub none_there : (before : RankSets) (p : PrefixValue) (from : From) → map.get before p ≡ None → SetsRank before p from None before
@@ -156,6 +158,36 @@ none_there before p from none = record {
   elsewhere = λ q differs. refl;
 }
 
-pub at_ok : {A E P : Type 0} (r : Result A E) → P → OnOk r P
-at_ok (Ok x) p = p
-at_ok (Err e) p = tt
+-- ---- what a prefix without ranks has
+
+nothing_chosen : choice {K = From} [] ≡ None
+unfolding choice left_of keep
+nothing_chosen = refl
+
+pub none_chosen_there : (sets : RankSets) (p : PrefixValue) → map.get sets p ≡ None → None ≡ choice (ranks_at sets p)
+none_chosen_there sets p none = sym (ap (λ o. choice (unwrap_or o [])) none ∙ nothing_chosen)
+
+nothing_in_order : IsInOrder []
+unfolding IsStrictlySortedBy
+nothing_in_order = tt
+
+pub none_in_order : (sets : RankSets) (p : PrefixValue) → map.get sets p ≡ None → IsInOrder (ranks_at sets p)
+none_in_order sets p none = subst (λ o. IsInOrder (unwrap_or o [])) (sym none) nothing_in_order
+
+-- ---- whole calls
+
+module _ (before left after : RankSets) (p : PrefixValue) (from : From) (ranks xs : List RankedSource) (taken : ranks ≡ ranks_at before p) (empty : left ≡ map.insert before p []) (put : ranks_at after ≡ ranks_with (ranks_at left) p xs) where
+  pub call_sets : {A E : Type 0} (r : Result A E) (rank : Rank) → OnOk r (xs ≡ with_rank ranks from rank) → OnOk r (SetsRank before p from (Some rank) after)
+  call_sets (Ok v) rank is = sets_rank before left after p xs empty put from (Some rank)
+      (ap (λ (ys : List RankedSource). rank_at ys from) is ∙ rank_there ranks from rank)
+      (λ other differs. ap (λ (ys : List RankedSource). rank_at ys other) is ∙ (rank_other ranks from rank other differs ∙ ap (λ (ys : List RankedSource). rank_at ys other) taken))
+  call_sets (Err e) rank is = tt
+
+  pub call_keeps : {A E : Type 0} (r : Result A E) → OnErr r (xs ≡ ranks) → OnErr r (ranks_at after ≡ ranks_at before)
+  call_keeps (Ok v) is = tt
+  call_keeps (Err e) is = ranks_back before left after p xs empty put (is ∙ taken)
+
+  pub call_drops : IsInOrder ranks → xs ≡ without ranks from → SetsRank before p from None after
+  call_drops ordered is = sets_rank before left after p xs empty put from None
+      (ap (λ (ys : List RankedSource). rank_at ys from) is ∙ rank_gone ranks from ordered)
+      (λ other differs. ap (λ (ys : List RankedSource). rank_at ys other) is ∙ (rank_left ranks from ordered other differs ∙ ap (λ (ys : List RankedSource). rank_at ys other) taken))

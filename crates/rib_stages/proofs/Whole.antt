@@ -1,6 +1,6 @@
 -- What is kept after the calls of a whole change.
-use Rattle.std.proofs.Common.{◌≡◌, ℕ, ◌<◌, Option, Some, None, refl, sym, ap, subst, ◌∙◌, inl, inr}
-use Rattle.std.specs.Prelude.{◌⊎◌, ◌≢◌}
+use Rattle.std.proofs.Common.{◌≡◌, ℕ, ◌<◌, false, List, Option, Some, None, refl, sym, ap, subst, ◌∙◌, inl, inr}
+use Rattle.std.specs.Prelude.{◌⊎◌, ◌≢◌, Result, Ok, Err, OnOk, OnErr}
 use Rattle.std.specs.FinMap as map
 use Rattle.std.specs.Option.{option_map}
 use Rattle.bgp_types.specs.Prefixes.{PrefixValue}
@@ -9,18 +9,20 @@ use Rattle.bgp_types.specs.declared.attrs.Route.{Route}
 use Rattle.bgp_types.specs.declared.rank.From.TheVariants.{Peering, Router}
 use Rattle.decision_groups.specs.Order.{RankedSource}
 use Rattle.loc_rib.specs.Values.{LocValue, with_best, with_value}
-use Rattle.route_policy.specs.Candidates.{rank_of}
+use Rattle.route_policy.specs.Candidates.{own_rank, own_route, rank_of}
+use Rattle.route_policy.specs.declared.best.Best.{Best}
 use Rattle.route_policy.specs.declared.entry.Entry.{Entry}
 use Rattle.session_value.specs.Points.{at}
 use Rattle.session_value.specs.Sets.{Entries, Tellings, Prefixes, MarksOne}
 use Rattle.rib_stages.specs.declared.config.RibConfig.{RibConfig}
-use Rattle.rib_stages.specs.Values.{RibValue}
+use Rattle.prefix_trie.specs.Table.{TableValue}
+use Rattle.rib_stages.specs.Values.{RibValue, contents_of, set_of, table_at, tables_of}
 use Rattle.rib_stages.specs.Choosing.{cost_to, identifier_of, chosen}
-use Rattle.rib_stages.specs.Ranks.{RankSets, ranks_at, SetsRank, entry_rank, IsRib}
+use Rattle.rib_stages.specs.Ranks.{RankSets, ranks_at, SetsRank, HasOwnRanks, entry_rank, IsRib}
 use Rattle.rib_stages.specs.Steps.{EntersEntry, EntersTelling, SetsEntry, SetsTelling, MayMark}
-use Rattle.rib_stages.proofs.Kept.{kept_marked, kept_ranks, kept_decided, kept_entry, kept_telling}
+use Rattle.rib_stages.proofs.Kept.{kept_marked, kept_ranks, kept_decided, kept_entry, kept_telling, kept_fresh}
 use Rattle.rib_stages.proofs.Marks.{with_same}
-use Rattle.rib_stages.proofs.Tables.{at-itself}
+use Rattle.rib_stages.proofs.Tables.{at-itself, empties, empty_tables}
 
 -- the routes, of the parts that hold them
 abbrev pub parts : RibConfig → (ℕ → Entries) → (ℕ → Tellings) → LocValue → RibValue
@@ -28,7 +30,7 @@ parts config entries tellings loc = record { config = config; entries = entries;
 
 -- a change of a table that has more memory than before
 pub at_from : {A : Type 0} (f g h : ℕ → map.FinMap prefix_cmp A) (p : ℕ) (prefix : PrefixValue) (x : A) → g ≡ f → h ≡ at g p (map.insert (g p) prefix x) → h ≡ at f p (with_value (f p) prefix (Some x))
-at_from f g h p prefix x same is = is ∙ ap (λ (k : ℕ → map.FinMap prefix_cmp A). at k p (map.insert (k p) prefix x)) same
+at_from {A = A} f g h p prefix x same is = is ∙ ap (λ (k : ℕ → map.FinMap prefix_cmp A). at k p (map.insert (k p) prefix x)) same
 
 module _ (config : RibConfig) (entries : ℕ → Entries) (tellings : ℕ → Tellings) (loc marked : LocValue) (sets after : RankSets) (networks : Prefixes) (own : Route) (prefix : PrefixValue) where
   abbrev rib : RibValue
@@ -83,9 +85,21 @@ module _ (config : RibConfig) (entries : ℕ → Entries) (tellings : ℕ → Te
   pub whole_still : IsRib rib sets networks own → (now : ℕ → Entries) (then : ℕ → Tellings) (still : LocValue) → now ≡ entries → then ≡ tellings → still ≡ loc → IsRib (parts config now then still) sets networks own
   whole_still kept now then still same alike stays = subst (λ (r : RibValue). IsRib r sets networks own) (sym (λ i. parts config (same i) (alike i) (stays i))) kept
 
+  -- a mark was tried
+  pub whole_tried : IsRib rib sets networks own → {A E : Type 0} (r : Result A E) → OnOk r (marked ≡ record loc { dirty = map.insert loc.dirty prefix tt }) → OnErr r (marked ≡ loc) → IsRib (parts config entries tellings marked) sets networks own
+  whole_tried kept (Ok v) is still = subst (λ (l : LocValue). IsRib (parts config entries tellings l) sets networks own) (sym is) (kept_marked rib sets sets networks own kept prefix)
+  whole_tried kept (Err e) is still = subst (λ (l : LocValue). IsRib (parts config entries tellings l) sets networks own) (sym still) kept
+
   -- the prefix was decided
   pub whole_decided : IsRib rib sets networks own → (decided : LocValue) → decided ≡ record { best = with_best loc.best prefix (chosen rib prefix); dirty = map.remove loc.dirty prefix } → IsRib (parts config entries tellings decided) sets networks own
   whole_decided kept decided is = subst (λ (r : RibValue). IsRib r sets networks own) (sym (λ i. parts config entries tellings (is i))) (kept_decided rib sets sets networks own kept prefix)
+
+-- a best route is set, and its prefix is settled
+pub decided_is : (loc set settled : LocValue) (prefix : PrefixValue) (best chose : Option Best) → set ≡ record loc { best = with_best loc.best prefix best } → settled ≡ record set { dirty = map.remove set.dirty prefix } → chose ≡ best → settled ≡ record { best = with_best loc.best prefix chose; dirty = map.remove loc.dirty prefix }
+decided_is loc set settled prefix best chose sets settles is =
+    settles
+    ∙ (ap (λ (l : LocValue). record l { dirty = map.remove l.dirty prefix }) sets
+    ∙ ap (λ (b : Option Best). record { best = with_best loc.best prefix b; dirty = map.remove loc.dirty prefix }) (sym is))
 
 -- ---- what is the same as before
 
@@ -121,3 +135,26 @@ marks_nothing rib after prefix is = record {
   dirty = inl (ap (λ (r : RibValue). r.dirty) is);
   effect = is ∙ ap (λ (d : Prefixes). record rib { dirty = d }) (sym (ap (λ (r : RibValue). r.dirty) is));
 }
+
+-- ---- what was given
+
+pub sets_entry_ok : {A E : Type 0} (r : Result A E) (rib after : RibValue) (p : ℕ) (prefix : PrefixValue) (value is : Option Entry) → OnOk r (EntersEntry rib p prefix value after) → is ≡ value → is ≢ map.get (rib.entries p) prefix → OnOk r (SetsEntry rib p prefix is after)
+sets_entry_ok (Ok v) rib after p prefix value is enters same differs = sets_other_entry rib after p prefix is differs (subst (λ (o : Option Entry). EntersEntry rib p prefix o after) (sym same) enters)
+sets_entry_ok (Err e) rib after p prefix value is enters same differs = tt
+
+pub sets_telling_ok : {A E : Type 0} (r : Result A E) (rib after : RibValue) (q : ℕ) (prefix : PrefixValue) (value is : Option Route) → OnOk r (EntersTelling rib q prefix value after) → is ≡ value → is ≢ map.get (rib.tellings q) prefix → OnOk r (SetsTelling rib q prefix is after)
+sets_telling_ok (Ok v) rib after q prefix value is enters same differs = sets_other_telling rib after q prefix is differs (subst (λ (o : Option Route). EntersTelling rib q prefix o after) (sym same) enters)
+sets_telling_ok (Err e) rib after q prefix value is enters same differs = tt
+
+pub nothing_ok : {A E : Type 0} (r : Result A E) (rib after : RibValue) (prefix : PrefixValue) → OnErr r (after ≡ rib) → OnErr r (MayMark rib prefix after)
+nothing_ok (Ok v) rib after prefix is = tt
+nothing_ok (Err e) rib after prefix is = marks_nothing rib after prefix is
+
+-- ---- at the start
+
+module _ (config : RibConfig) (peerings : List (TableValue Entry)) (routers : List (TableValue Route)) (loc : LocValue) (no_entries : contents_of peerings ≡ empties 256) (no_tellings : contents_of routers ≡ empties 256) (begins : loc ≡ record { best = map.empty; dirty = set_of config.networks }) where
+  pub fresh_is : parts config (tables_of peerings) (tables_of routers) loc ≡ record { config = config; entries = λ p. map.empty; tellings = λ q. map.empty; best = map.empty; dirty = set_of config.networks }
+  fresh_is = λ i. parts config ((ap table_at no_entries ∙ empty_tables 256) i) ((ap table_at no_tellings ∙ empty_tables 256) i) (begins i)
+
+  pub whole_fresh : (sets : RankSets) (networks : Prefixes) (own : Route) → HasOwnRanks (own_rank config.home_as) config.networks sets → networks ≡ set_of config.networks → own ≡ own_route → IsRib (parts config (tables_of peerings) (tables_of routers) loc) sets networks own
+  whole_fresh sets networks own has_own set route = subst (λ (r : RibValue). IsRib r sets networks own) (sym fresh_is) (kept_fresh config sets networks own has_own set route)

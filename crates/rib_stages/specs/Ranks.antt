@@ -1,5 +1,5 @@
 -- The ranks of the routes to each prefix, as a Rib keeps them.
-use Rattle.std.specs.Prelude.{ℕ, ◌≡◌, ◌≢◌, ◌≤◌, List, [], Option, Some, None, option_map, unwrap_or, if◌then◌else◌}
+use Rattle.std.specs.Prelude.{ℕ, ◌≡◌, ◌≢◌, ◌≤◌, true, false, List, [], Option, Some, None, option_map, unwrap_or, if◌then◌else◌}
 use Rattle.std.specs.List.{list_any}
 use Rattle.std.specs.FinMap as map
 use Rattle.bgp_types.specs.Prefixes.{PrefixValue, same_prefix}
@@ -50,12 +50,12 @@ route_at own entries tellings (Router q) prefix = map.get (tellings q.0) prefix
 
 -- What is kept beside the routes belongs to them: the ranks, the set of the own networks and their route. Nothing stands at a number that no
 -- octet has, and a prefix that isn't dirty is decided.
-pub record IsRib (rib : RibValue) (sets : RankSets) (networks : Prefixes) (own : Route) : Type 0 where
+pub record IsRib (rib : RibValue) (sets : RankSets) (own_set : Prefixes) (route : Route) : Type 0 where
   pub ranks : (prefix : PrefixValue) (from : From) → rank_at (ranks_at sets prefix) from ≡ rank_in rib prefix from
   pub entries : (p : ℕ) → 256 ≤ p → rib.entries p ≡ map.empty
   pub tellings : (q : ℕ) → 256 ≤ q → rib.tellings q ≡ map.empty
-  pub networks : networks ≡ set_of rib.config.networks
-  pub own : own ≡ own_route
+  pub networks : own_set ≡ set_of rib.config.networks
+  pub own : route ≡ own_route
   pub decided : IsDecided rib
 
 -- Each of these networks has this rank from the router itself, and nothing else has a rank.

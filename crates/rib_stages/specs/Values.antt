@@ -1,6 +1,6 @@
 -- The routes of a router as its callers see them (RFC 4271, section 3.2).
 use Rattle.std.specs.Prelude.{ℕ, List, Option, option_map, unwrap_or, slice_get, fold, map as list_map, refl}
-use Rattle.std.specs.Coded.{Coded, code_by, coded×, coded_list}
+use Rattle.std.specs.Coded.{Coded, code_by, coded×, coded_list, coded_ℕ}
 use base.Stored.{coded_unit}
 use Rattle.std.specs.FinMap as map
 use Rattle.bgp_types.specs.declared.attrs.Route.{Route}
@@ -53,11 +53,19 @@ rib_of store = record {
   dirty = store.dirty;
 }
 
+abbrev pub coded_config : Coded RibConfig
+coded_config = code_by
+    (ℕ × (ℕ × (List ℕ × (List ℕ × List PrefixValue))))
+    (coded× coded_ℕ (coded× coded_ℕ (coded× (coded_list coded_ℕ) (coded× (coded_list coded_ℕ) (coded_list coded_prefix)))))
+    (λ c. (c.home_as, (c.router.0, (c.identifiers, (c.costs, c.networks)))))
+    (λ p. record { home_as = p.0; router = record { 0 = p.1.0 }; identifiers = p.1.1.0; costs = p.1.1.1.0; networks = p.1.1.1.1 })
+    (λ _. refl)
+
 -- it is stored as the tuple of the five
-abbrev pub coded_rib : Coded RibConfig → Coded Entry → Coded Route → Coded Best → Coded RibStore
-coded_rib config entry route best = code_by
+abbrev pub coded_rib : Coded Entry → Coded Route → Coded Best → Coded RibStore
+coded_rib entry route best = code_by
     (RibConfig × (List Entries × (List Tellings × (BestRoutes × Prefixes))))
-    (coded× config (coded× (coded_list (map.code coded_prefix entry)) (coded× (coded_list (map.code coded_prefix route)) (coded× (map.code coded_prefix best) (map.code coded_prefix coded_unit)))))
+    (coded× coded_config (coded× (coded_list (map.code coded_prefix entry)) (coded× (coded_list (map.code coded_prefix route)) (coded× (map.code coded_prefix best) (map.code coded_prefix coded_unit)))))
     (λ r. (r.config, (r.entries, (r.tellings, (r.best, r.dirty)))))
     (λ p. record { config = p.0; entries = p.1.0; tellings = p.1.1.0; best = p.1.1.1.0; dirty = p.1.1.1.1 })
     (λ _. refl)

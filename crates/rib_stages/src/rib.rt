@@ -3,8 +3,9 @@
 ghost use Rattle.std.specs.Prelude.{◌≡◌, ◌≢◌, false, Some, None, IfOk, OnOk, OnErr, MatchBool, option_copied, option_map};
 ghost use Rattle.std.specs.FinMap as map;
 ghost use Rattle.bgp_types.specs.Tables.{first_above};
+ghost use Rattle.bgp_types.specs.declared.rank.From.TheVariants.{Own, Peering};
 ghost use Rattle.loc_rib.specs.Values.{with_best, AreApart};
-ghost use Rattle.route_policy.specs.Candidates.{own_route as own_route_lem};
+ghost use Rattle.route_policy.specs.Candidates.{own_route as own_route_lem, rank_of};
 ghost use Rattle.route_policy.specs.Telling.{tell_in as tell_in_lem, tell_out as tell_out_lem, out_side};
 ghost use Rattle.session_value.specs.Sets.{has};
 ghost use Rattle.rib_stages.specs.Values.{rib_of, set_of, tables_of};
@@ -45,14 +46,13 @@ pub struct Rib {
 impl Model for Rib {
     ghost use Rattle.rib_stages.specs.Values.{RibStore, coded_rib, contents_of, tables_of};
     ghost use Rattle.rib_stages.specs.Ranks.{IsRib};
-    ghost use Rattle.rib_stages.specs.contracts.config.RibConfig as config;
-    ghost use Rattle.route_policy.specs.contracts.best.Best as best;
-    ghost use Rattle.route_policy.specs.contracts.entry.Entry as entry;
-    ghost use Rattle.bgp_types.specs.contracts.attrs.Route as route;
+    ghost use Rattle.route_policy.specs.contracts.best.Best as best_type;
+    ghost use Rattle.route_policy.specs.contracts.entry.Entry as entry_type;
+    ghost use Rattle.bgp_types.specs.contracts.attrs.Route as route_type;
 
     ghost Value = { RibStore };
 
-    ghost coded = { coded_rib config.the_row.coded entry.the_row.coded route.the_row.coded best.the_row.coded };
+    ghost coded = { coded_rib entry_type.the_row.coded route_type.the_row.coded best_type.the_row.coded };
 
     ghost view = { λ r. record { config = r.config; entries = contents_of r.peerings; tellings = contents_of r.routers; best = r.loc.best; dirty = r.loc.dirty } };
 
@@ -149,6 +149,33 @@ fn identifier_of(config: &RibConfig, q: usize) -> u32
     config.identifiers.get(q).copied().unwrap_or(0)
 }
 
+/// The rank of a route that a router told.
+fn telling_rank(config: &RibConfig, q: u8, route: &Route) -> Rank
+    ensures { result ≡ rank_of config.now.home_as false (cost_to_lem config.now q) (identifier_of_lem config.now q) (identifier_of_lem config.now q) route.now }
+{
+    let number = usize::from(q);
+    let cost = cost_to(config, number);
+    router_rank(config.home_as, cost, identifier_of(config, number), route)
+}
+
+/// Puts a prefix into a set.
+fn insert(set: &mut TrieTable<()>, prefix: Prefix) -> Result<(), NoMemory>
+    ensures { OnOk result (set.new.contents ≡ map.insert set.old.contents prefix tt) }
+{
+    match set.set(prefix, ()) {
+        Ok(_) => Ok(()),
+        Err(_) => Err(NoMemory),
+    }
+}
+
+/// What a router starts with.
+#[derive(Drop)]
+struct Start {
+    networks: TrieTable<()>,
+    groups: Groups,
+    loc: LocRib,
+}
+
 /// Makes the own networks dirty, and gives each its rank.
 fn add_networks(
     alloc: Global,
@@ -166,37 +193,55 @@ fn add_networks(
     ensures loc { OnOk result (loc.new ≡ record { best = map.empty; dirty = set_of list.now }) }
 {
     for network in list {
-        if networks.set(*network, ()).is_err() {
-            return Err(NoMemory);
-        }
+        insert(networks, *network)?;
         set_rank(groups, alloc, *network, From::Own, rank)?;
         loc.mark(*network)?;
     }
     Ok(())
 }
 
+/// The own networks, their ranks, and that each is dirty.
+fn begin(alloc: Global, rank: Rank, list: &[Prefix]) -> Result<Start, NoMemory>
+    ensures networks { IfOk result (λ s. s.networks.contents ≡ set_of list.now) }
+    ensures ranks { IfOk result (λ s. HasOwnRanks rank list.now s.groups.contents) }
+    ensures loc { IfOk result (λ s. s.loc ≡ record { best = map.empty; dirty = set_of list.now }) }
+{
+    let mut start = Start {
+        networks: TrieTable::new(alloc),
+        groups: TrieTable::new(alloc),
+        loc: LocRib::new(alloc),
+    };
+    add_networks(
+        alloc,
+        rank,
+        list,
+        &mut start.networks,
+        &mut start.groups,
+        &mut start.loc,
+    )?;
+    Ok(start)
+}
+
 impl Rib {
     /// The routes of a router at its start: no route but those of its own networks, which are dirty.
+    #[tactic(auto, using(crate::proofs::Whole::whole_fresh, crate::proofs::Whole::fresh_is))]
     pub fn new(alloc: Global, config: RibConfig) -> Result<Rib, NoMemory>
         ensures { IfOk result (λ rib. rib_of rib ≡ record { config = config; entries = λ p. map.empty; tellings = λ q. map.empty; best = map.empty; dirty = set_of config.networks }) }
     {
-        let mut networks = TrieTable::new(alloc);
-        let mut groups = TrieTable::new(alloc);
-        let mut loc = LocRib::new(alloc);
-        add_networks(
-            alloc,
-            own_rank(config.home_as),
-            config.networks.as_slice(),
-            &mut networks,
-            &mut groups,
-            &mut loc,
-        )?;
+        let peerings = Sources::new(alloc)?;
+        let routers = Sources::new(alloc)?;
+        let start = begin(alloc, own_rank(config.home_as), config.networks.as_slice())?;
+        let Start {
+            networks,
+            groups,
+            loc,
+        } = start;
         Ok(Rib {
             alloc,
             own_route: own_route(alloc),
             networks,
-            peerings: Sources::new(alloc)?,
-            routers: Sources::new(alloc)?,
+            peerings,
+            routers,
             groups,
             loc,
             config,
@@ -217,33 +262,29 @@ impl Rib {
         } = entry;
         match from {
             From::Own => Ok(()),
-            From::Peering(p) => self.set_entry(p, prefix, entry_of(route, identifier, address)),
-            From::Router(q) => self.set_telling(q, prefix, route),
+            From::Peering(p) => self.set_entry(p.0, prefix, entry_of(route, identifier, address)),
+            From::Router(q) => self.set_telling(q.0, prefix, route),
         }
     }
 
     /// Gives a prefix an entry of a peering, or none.
-    fn set_entry(
-        &mut self,
-        p: PeeringId,
-        prefix: Prefix,
-        entry: Option<Entry>,
-    ) -> Result<(), NoMemory>
-        ensures ok { OnOk result (SetsEntry (rib_of self.old) p.0 prefix entry (rib_of self.new)) }
+    #[tactic(auto, using(crate::proofs::Whole::sets_entry_ok, crate::proofs::Whole::nothing_ok))]
+    fn set_entry(&mut self, n: u8, prefix: Prefix, entry: Option<Entry>) -> Result<(), NoMemory>
+        ensures ok { OnOk result (SetsEntry (rib_of self.old) n prefix entry (rib_of self.new)) }
         ensures err { OnErr result (MayMark (rib_of self.old) prefix (rib_of self.new)) }
     {
-        if is_same_entry(self.peerings.get(p.0, prefix), &entry) {
+        if is_same_entry(self.peerings.get(n, prefix), &entry) {
             return Ok(());
         }
         match entry {
-            Some(entry) => self.put_entry(p, prefix, entry),
-            None => self.take_entry(p, prefix),
+            Some(entry) => self.put_entry(n, prefix, entry),
+            None => self.take_entry(n, prefix),
         }
     }
 
     /// Gives a prefix an entry of a peering, and makes it dirty.
-    fn put_entry(&mut self, p: PeeringId, prefix: Prefix, entry: Entry) -> Result<(), NoMemory>
-        ensures ok { OnOk result (EntersEntry (rib_of self.old) p.0 prefix (Some entry) (rib_of self.new)) }
+    fn put_entry(&mut self, n: u8, prefix: Prefix, entry: Entry) -> Result<(), NoMemory>
+        ensures ok { OnOk result (EntersEntry (rib_of self.old) n prefix (Some entry) (rib_of self.new)) }
         ensures err { OnErr result (MayMark (rib_of self.old) prefix (rib_of self.new)) }
     {
         let rank = session_rank(
@@ -252,67 +293,82 @@ impl Rib {
             entry.address,
             &entry.route,
         );
-        self.peerings.reserve(p.0)?;
+        self.peerings.reserve(n)?;
         self.loc.mark(prefix)?;
-        set_rank(&mut self.groups, self.alloc, prefix, From::Peering(p), rank)?;
-        self.peerings.set_reserved(p.0, prefix, entry);
+        set_rank(
+            &mut self.groups,
+            self.alloc,
+            prefix,
+            From::Peering(PeeringId(n)),
+            rank,
+        )?;
+        self.peerings.set_reserved(n, prefix, entry);
         Ok(())
     }
 
     /// Takes an entry of a peering out, and makes its prefix dirty. If memory runs out, nothing changes.
-    fn take_entry(&mut self, p: PeeringId, prefix: Prefix) -> Result<(), NoMemory>
-        ensures ok { OnOk result (EntersEntry (rib_of self.old) p.0 prefix None (rib_of self.new)) }
+    fn take_entry(&mut self, n: u8, prefix: Prefix) -> Result<(), NoMemory>
+        ensures ok { OnOk result (EntersEntry (rib_of self.old) n prefix None (rib_of self.new)) }
         ensures err { OnErr result (rib_of self.new ≡ rib_of self.old) }
     {
         self.loc.mark(prefix)?;
-        drop_rank(&mut self.groups, self.alloc, prefix, From::Peering(p));
-        self.peerings.remove(p.0, prefix);
+        drop_rank(
+            &mut self.groups,
+            self.alloc,
+            prefix,
+            From::Peering(PeeringId(n)),
+        );
+        self.peerings.remove(n, prefix);
         Ok(())
     }
 
     /// Gives a prefix a route that a router told, or none.
-    fn set_telling(
-        &mut self,
-        q: RouterId,
-        prefix: Prefix,
-        route: Option<Route>,
-    ) -> Result<(), NoMemory>
-        ensures ok { OnOk result (SetsTelling (rib_of self.old) q.0 prefix route (rib_of self.new)) }
+    #[tactic(auto, using(crate::proofs::Whole::sets_telling_ok, crate::proofs::Whole::nothing_ok))]
+    fn set_telling(&mut self, n: u8, prefix: Prefix, route: Option<Route>) -> Result<(), NoMemory>
+        ensures ok { OnOk result (SetsTelling (rib_of self.old) n prefix route (rib_of self.new)) }
         ensures err { OnErr result (MayMark (rib_of self.old) prefix (rib_of self.new)) }
     {
-        if is_same_route(self.routers.get(q.0, prefix), &route) {
+        if is_same_route(self.routers.get(n, prefix), &route) {
             return Ok(());
         }
         match route {
-            Some(route) => self.put_telling(q, prefix, route),
-            None => self.take_telling(q, prefix),
+            Some(route) => self.put_telling(n, prefix, route),
+            None => self.take_telling(n, prefix),
         }
     }
 
     /// Gives a prefix a route that a router told, and makes it dirty.
-    fn put_telling(&mut self, q: RouterId, prefix: Prefix, route: Route) -> Result<(), NoMemory>
-        ensures ok { OnOk result (EntersTelling (rib_of self.old) q.0 prefix (Some route) (rib_of self.new)) }
+    fn put_telling(&mut self, n: u8, prefix: Prefix, route: Route) -> Result<(), NoMemory>
+        ensures ok { OnOk result (EntersTelling (rib_of self.old) n prefix (Some route) (rib_of self.new)) }
         ensures err { OnErr result (MayMark (rib_of self.old) prefix (rib_of self.new)) }
     {
-        let number = usize::from(q.0);
-        let cost = cost_to(&self.config, number);
-        let identifier = identifier_of(&self.config, number);
-        let rank = router_rank(self.config.home_as, cost, identifier, &route);
-        self.routers.reserve(q.0)?;
+        let rank = telling_rank(&self.config, n, &route);
+        self.routers.reserve(n)?;
         self.loc.mark(prefix)?;
-        set_rank(&mut self.groups, self.alloc, prefix, From::Router(q), rank)?;
-        self.routers.set_reserved(q.0, prefix, route);
+        set_rank(
+            &mut self.groups,
+            self.alloc,
+            prefix,
+            From::Router(RouterId(n)),
+            rank,
+        )?;
+        self.routers.set_reserved(n, prefix, route);
         Ok(())
     }
 
     /// Takes a route that a router told out, and makes its prefix dirty. If memory runs out, nothing changes.
-    fn take_telling(&mut self, q: RouterId, prefix: Prefix) -> Result<(), NoMemory>
-        ensures ok { OnOk result (EntersTelling (rib_of self.old) q.0 prefix None (rib_of self.new)) }
+    fn take_telling(&mut self, n: u8, prefix: Prefix) -> Result<(), NoMemory>
+        ensures ok { OnOk result (EntersTelling (rib_of self.old) n prefix None (rib_of self.new)) }
         ensures err { OnErr result (rib_of self.new ≡ rib_of self.old) }
     {
         self.loc.mark(prefix)?;
-        drop_rank(&mut self.groups, self.alloc, prefix, From::Router(q));
-        self.routers.remove(q.0, prefix);
+        drop_rank(
+            &mut self.groups,
+            self.alloc,
+            prefix,
+            From::Router(RouterId(n)),
+        );
+        self.routers.remove(n, prefix);
         Ok(())
     }
 
@@ -323,29 +379,29 @@ impl Rib {
     {
         match from {
             From::Own => Ok(()),
-            From::Peering(p) => self.drop_entries(p),
-            From::Router(q) => self.drop_tellings(q),
+            From::Peering(p) => self.drop_entries(p.0),
+            From::Router(q) => self.drop_tellings(q.0),
         }
     }
 
     /// Takes all entries of a peering out.
-    fn drop_entries(&mut self, p: PeeringId) -> Result<(), NoMemory>
-        ensures some { DropsEntries (rib_of self.old) p.0 (rib_of self.new) }
-        ensures all { OnOk result ((rib_of self.new).entries p.0 ≡ map.empty) }
+    fn drop_entries(&mut self, n: u8) -> Result<(), NoMemory>
+        ensures some { DropsEntries (rib_of self.old) n (rib_of self.new) }
+        ensures all { OnOk result ((rib_of self.new).entries n ≡ map.empty) }
     {
-        while let Some(prefix) = self.peerings.next_after(p.0, None) {
-            self.take_entry(p, prefix)?;
+        while let Some(prefix) = self.peerings.next_after(n, None) {
+            self.take_entry(n, prefix)?;
         }
         Ok(())
     }
 
     /// Takes all routes that a router told out.
-    fn drop_tellings(&mut self, q: RouterId) -> Result<(), NoMemory>
-        ensures some { DropsTellings (rib_of self.old) q.0 (rib_of self.new) }
-        ensures all { OnOk result ((rib_of self.new).tellings q.0 ≡ map.empty) }
+    fn drop_tellings(&mut self, n: u8) -> Result<(), NoMemory>
+        ensures some { DropsTellings (rib_of self.old) n (rib_of self.new) }
+        ensures all { OnOk result ((rib_of self.new).tellings n ≡ map.empty) }
     {
-        while let Some(prefix) = self.routers.next_after(q.0, None) {
-            self.take_telling(q, prefix)?;
+        while let Some(prefix) = self.routers.next_after(n, None) {
+            self.take_telling(n, prefix)?;
         }
         Ok(())
     }
@@ -406,10 +462,29 @@ impl Rib {
     pub fn entry(&self, from: From, prefix: Prefix) -> Option<&Route>
         ensures { option_copied result ≡ route_from (rib_of self.now) from prefix }
     {
-        if from == From::Own && self.networks.get(prefix).is_none() {
-            return None;
+        match from {
+            From::Own => self.own_network(prefix),
+            From::Peering(p) => self.peering_route(p, prefix),
+            From::Router(q) => self.routers.get(q.0, prefix),
         }
-        route_of(&self.own_route, &self.peerings, &self.routers, from, prefix)
+    }
+
+    /// The route to a network of the router's own.
+    fn own_network(&self, prefix: Prefix) -> Option<&Route>
+        ensures { option_copied result ≡ route_from (rib_of self.now) Own prefix }
+    {
+        match self.networks.get(prefix) {
+            Some(_) => Some(&self.own_route),
+            None => None,
+        }
+    }
+
+    /// The route of a peering's entry.
+    fn peering_route(&self, p: PeeringId, prefix: Prefix) -> Option<&Route>
+        ensures { option_copied result ≡ route_from (rib_of self.now) (Peering p) prefix }
+    {
+        let entry = self.peerings.get(p.0, prefix)?;
+        Some(&entry.route)
     }
 
     /// The least prefix with a best route that is above another, or the least of all.
