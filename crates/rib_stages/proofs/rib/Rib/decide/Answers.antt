@@ -1,16 +1,11 @@
-use Rattle.std.proofs.Common.{◌≡◌, Bool, Option, Some, None, refl, sym, ap, subst, ◌∙◌}
+use Rattle.std.proofs.Common.{◌≡◌, Option, Some, None, sym, ap, subst, ◌∙◌}
 use Rattle.std.specs.Prelude.{option_copied}
 use Rattle.std.specs.FinMap as map
-use Rattle.bgp_types.specs.declared.attrs.Route.{Route}
-use Rattle.bgp_types.specs.declared.rank.From.{From}
-use Rattle.bgp_types.specs.Prefixes.{PrefixValue}
-use Rattle.decision_core.specs.Choice.{choice}
-use Rattle.decision_groups.specs.Order.{IsInOrder}
 use Rattle.loc_rib.specs.Values.{AreApart, LocValue, with_best}
 use Rattle.route_policy.specs.declared.best.Best.{Best}
 use Rattle.rib_stages.specs.Values.{RibStore, rib_of, contents_of, tables_of}
 use Rattle.rib_stages.specs.Choosing.{chosen}
-use Rattle.rib_stages.specs.Ranks.{ranks_at, route_at}
+use Rattle.rib_stages.specs.Ranks.{route_at}
 use Rattle.rib_stages.proofs.Decided.{chosen_none, chosen_some, route_is_there, not_absent}
 use Rattle.rib_stages.proofs.Whole.{parts, whole_decided, decided_is}
 use Rattle.rib_stages.proofs.rib.Rib.decide.Goals as goal

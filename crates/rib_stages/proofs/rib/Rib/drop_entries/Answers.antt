@@ -3,7 +3,7 @@ use Rattle.std.specs.Prelude.{is_some}
 use Rattle.std.specs.FinMap as map
 use Rattle.bgp_types.specs.Tables.{first_above}
 use Rattle.rib_stages.specs.Values.{RibStore, rib_of, table_at}
-use Rattle.rib_stages.proofs.Drops.{drops_entry, drops_no_entry, entries_are, least_is, no_least_is, fewer_left}
+use Rattle.rib_stages.proofs.Drops.{drops_entry, entries_are, least_is, no_least_is, fewer_left}
 use Rattle.session_value.specs.Sets.{Entries}
 use Rattle.rib_stages.proofs.rib.Rib.drop_entries.Goals as goal
 

@@ -1,5 +1,5 @@
-use Rattle.std.proofs.Common.{◌≡◌, subst, ◌∙◌}
-use Rattle.rib_stages.specs.Values.{RibStore, rib_of, contents_of, tables_of}
+use Rattle.std.proofs.Common.{subst, ◌∙◌}
+use Rattle.rib_stages.specs.Values.{RibStore, rib_of, tables_of}
 use Rattle.rib_stages.specs.Steps.{SetsTelling}
 use Rattle.rib_stages.proofs.Marks.{when_true}
 use Rattle.rib_stages.proofs.Whole.{parts, sets_same_telling}

@@ -1,4 +1,4 @@
-use Rattle.std.proofs.Common.{◌≡◌, ◌∙◌, length, arith}
+use Rattle.std.proofs.Common.{◌≡◌, length, arith}
 use Rattle.rib_stages.proofs.Tables.{contents_more, length_is}
 use Rattle.rib_stages.proofs.sources.Sources.new.Goals as goal
 

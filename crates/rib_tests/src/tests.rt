@@ -1,2 +1,0 @@
-mod beside_a_list;
-mod worked;
