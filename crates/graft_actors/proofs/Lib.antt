@@ -1,1 +1,1 @@
-mod Welcome
+pub mod Welcome

@@ -5,7 +5,7 @@ use Rattle.session_value.specs.declared.config.SessionConfig.{SessionConfig}
 use Rattle.graft_model.specs.Setups.{Setup, IsSetup, peerings_in}
 use Rattle.graft_model.specs.Parts.{World}
 use Rattle.graft_laws.specs.Phases.{Phase}
-use Rattle.graft_laws.specs.Life.{Change, Rests, Begins, Admits, Refuses, Freezes, Leaves, Lands, TurnsBack, Returns, Clears, NotesRefusal, NotesSuccess, Puts, Emits, Arrives, Gets, Ticks, Strays, IsToSay, FarActs}
+use Rattle.graft_laws.specs.Life.{Change, Puts, Gets, Ticks}
 use Rattle.graft_laws.specs.Configs.{IsOwn}
 use Rattle.graft_laws.specs.Keeps.{Reached, Keeps, Has}
 use Rattle.graft_laws.proofs.Runs.{always_has}
@@ -19,9 +19,9 @@ same_config _ = refl
 
 keeps_own : (setup : Setup) → Keeps setup (IsOwn setup)
 keeps_own setup = record {
-    first = λ p config is. record { config = is };
-    step = λ before after p phase next s t reached l stands then change own. record { config = own.config ∙ ap (λ (c : SessionConfig). Some c) (sym (same_config change)) };
-  }
+  first = λ p config is. record { config = is };
+  step = λ before after p phase next s t reached l stands then change own. record { config = own.config ∙ ap (λ (c : SessionConfig). Some c) (sym (same_config change)) };
+}
 
 pub always_own : (setup : Setup) → IsSetup setup → (w : World) → Reached setup w → (p : ℕ) → p < peerings_in setup → Has setup (IsOwn setup) w p
 always_own setup ok = always_has setup (IsOwn setup) ok (keeps_own setup)

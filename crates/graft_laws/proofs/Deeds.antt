@@ -1,21 +1,19 @@
 -- What each event of a router does to the peerings: to its own, if it has one, and to the others.
-use Rattle.std.proofs.Common.{◌≡◌, ◌==◌, cond, ℕ, zero, suc, ◌<◌, ◌≤◌, Bool, true, false, List, [], ◌∷◌, ◌++◌, Option, Some, None, refl, sym, ap, ◌∙◌, subst, arith, inl, inr}
+use Rattle.std.proofs.Common.{◌≡◌, ◌==◌, ℕ, ◌<◌, ◌≤◌, Bool, true, false, List, [], ◌∷◌, ◌++◌, Option, Some, None, refl, sym, ap, ◌∙◌, subst, arith, inl, inr}
 use Rattle.std.proofs.lemmas.Bool.Decides.{nat_tests}
 use Rattle.std.proofs.lemmas.List.{append-nil}
 use Rattle.std.specs.Prelude.{◌≢◌, ◌⊎◌, filter, IsSome}
 use Rattle.std.specs.List.{AllByRecursion}
 use Rattle.session_value.specs.Sessions.{SessionValue}
-use Rattle.graft_steps.specs.declared.refusal.Outcome.{Outcome}
-use Rattle.graft_model.specs.Points.{at}
 use Rattle.graft_model.specs.Setups.{Setup, ScriptGraft, peerings_in, room_of}
-use Rattle.graft_model.specs.Parts.{Place, Vacant, Mesh, RouterPart, GraftOrder, Report, Outward, World}
-use Rattle.graft_model.specs.RouterRows.{RouterTaken, OrderIn, SegmentIn, MeshIn, RouterSent, MeshTo, OutwardTo, ReportOut}
+use Rattle.graft_model.specs.Parts.{Place, Vacant, Mesh, RouterPart, GraftOrder, Report, World}
+use Rattle.graft_model.specs.RouterRows.{RouterTaken, OrderIn, MeshIn, RouterSent, MeshTo, ReportOut}
 use Rattle.graft_model.specs.GraftRows.{taken_in}
 use Rattle.graft_model.specs.Steps.{Heads}
 use Rattle.graft_laws.specs.Phases.{Phase, only, only2}
 use Rattle.graft_laws.specs.Log.{graft_at, is_peering, is_of}
-use Rattle.graft_laws.specs.Owned.{is_on, mesh_of, orders_of, reports_of, Stands, IsHeld, IsAbsent, Owned}
-use Rattle.graft_laws.specs.Moves.{mesh_taken, inward_taken, orders_taken, mesh_sent, outward_sent, reports_sent, RouterMoves}
+use Rattle.graft_laws.specs.Owned.{is_on, mesh_of, orders_of, Stands, IsAbsent, Owned}
+use Rattle.graft_laws.specs.Moves.{mesh_taken, orders_taken, reports_sent, RouterMoves}
 use Rattle.graft_laws.proofs.Others.{AreOthers, Apart, absent_still, untouched_by_router}
 use Rattle.graft_laws.proofs.Rests.{rests_by_router}
 use Rattle.graft_laws.proofs.Following.{Followed, none_only, none_only2, own_head}
@@ -37,7 +35,7 @@ not_of setup p q k ne own = by_value (graft_at setup k) own where
   by_value None e = refl
   by_value (Some g) e = grind (arith, nat_tests)
 
-below_or : (p n : ℕ) → (p < n) ⊎ (n ≤ p)
+pub below_or : (p n : ℕ) → (p < n) ⊎ (n ≤ p)
 below_or p n = grind arith
 
 -- a peering of which something is there is one of the setup
@@ -47,15 +45,15 @@ module _ (setup : Setup) (w : World) (owned : Owned setup w) where
 
   pub known_mesh : (a b q : ℕ) (item : Mesh) → Heads (w.mesh a b) item → is_on q item ≡ true → q < peerings_in setup
   known_mesh a b q item h own = elim (below_or q (peerings_in setup)) [
-      inl l ↦ l
+    | inl l ↦ l
     | inr past ↦ (let e : item ∷ mesh_of q h.rest ≡ [] = own_head (is_on q) (w.mesh a b) h.rest item h.is own ∙ (owned.no_others q past).mesh a b in absurd cc)
-    ]
+  ]
 
   pub known_order : (r q : ℕ) (order : GraftOrder) → Heads (w.orders r) order → (order.peering == q) ≡ true → q < peerings_in setup
   known_order r q order h own = elim (below_or q (peerings_in setup)) [
-      inl l ↦ l
+    | inl l ↦ l
     | inr past ↦ (let e : order ∷ orders_of q h.rest ≡ [] = own_head (λ o. o.peering == q) (w.orders r) h.rest order h.is own ∙ (owned.no_others q past).orders r in absurd cc)
-    ]
+  ]
 
 -- ---- what an event does
 
@@ -79,20 +77,20 @@ equal_or_not p q = by_test (p == q) refl where
 pub all_apart : (setup : Setup) (w v : World) (r : ℕ) (taken : Option RouterTaken) (sent : List RouterSent) (part : RouterPart) → RouterMoves r taken sent part w v
     → ((p : ℕ) → Apart setup p r taken sent (w.router r) part) → Each setup w v
 all_apart setup w v r taken sent part m apart = record {
-    absent = λ p past. absent_still setup p w v (untouched_by_router setup p r taken sent part w v m (apart p));
-    known = λ p l phase s b. rests_by_router setup w v p r taken sent part phase s m (apart p) b;
-  }
+  absent = λ p past. absent_still setup p w v (untouched_by_router setup p r taken sent part w v m (apart p));
+  known = λ p l phase s b. rests_by_router setup w v p r taken sent part phase s m (apart p) b;
+}
 
 -- an event of the peering q
 pub own_or_apart : (setup : Setup) (w v : World) (r q : ℕ) (taken : Option RouterTaken) (sent : List RouterSent) (part : RouterPart) → RouterMoves r taken sent part w v → q < peerings_in setup
     → ((p : ℕ) → p ≢ q → Apart setup p r taken sent (w.router r) part) → ((phase : Phase) (s : SessionValue) → Stands setup w q phase s → Followed setup w v q phase s) → Each setup w v
 own_or_apart setup w v r q taken sent part m known apart follow = record {
-    absent = λ p past. absent_still setup p w v (untouched_by_router setup p r taken sent part w v m (apart p (λ is. omega arith)));
-    known = λ p l phase s b. elim (equal_or_not p q) [
-        inl e ↦ subst (λ (x : ℕ). Stands setup w x phase s → Followed setup w v x phase s) (sym e) (follow phase s) b
-      | inr ne ↦ rests_by_router setup w v p r taken sent part phase s m (apart p ne) b
-      ];
-  }
+  absent = λ p past. absent_still setup p w v (untouched_by_router setup p r taken sent part w v m (apart p (λ is. omega arith)));
+  known = λ p l phase s b. elim (equal_or_not p q) [
+    | inl e ↦ subst (λ (x : ℕ). Stands setup w x phase s → Followed setup w v x phase s) (sym e) (follow phase s) b
+    | inr ne ↦ rests_by_router setup w v p r taken sent part phase s m (apart p ne) b
+  ];
+}
 
 -- ---- items of other peerings
 
@@ -109,17 +107,20 @@ only_front test xs e = ap (filter test) (append-nil xs) ∙ e
 pub other_report : (setup : Setup) (p r : ℕ) (taken : Option RouterTaken) (report : Report) → ((i j : ℕ) → mesh_of p (mesh_taken r taken i j) ≡ []) → ((i : ℕ) → orders_of p (orders_taken r taken i) ≡ []) → is_of setup p report.graft ≡ false
     → AreOthers setup p r taken (ReportOut report ∷ [])
 other_report setup p r taken report no_mesh no_order e = record {
-    mesh_taken = no_mesh; mesh_sent = λ i j. refl; orders_taken = no_order;
-    reports_sent = λ i. only_front (λ (o : Report). is_of setup p o.graft) (only r report i) (none_only (λ (o : Report). is_of setup p o.graft) report r i e);
-  }
+  mesh_taken = no_mesh;
+  mesh_sent = λ i j. refl;
+  orders_taken = no_order;
+  reports_sent = λ i. only_front (λ (o : Report). is_of setup p o.graft) (only r report i) (none_only (λ (o : Report). is_of setup p o.graft) report r i e);
+}
 
 -- an item from a router, another to a router, and what goes to far sides
 pub other_mesh : (setup : Setup) (p r q t : ℕ) (item more : Mesh) → is_on p item ≡ false → is_on p more ≡ false → AreOthers setup p r (Some (MeshIn q item)) (MeshTo t more ∷ [])
 other_mesh setup p r q t item more e f = record {
-    mesh_taken = λ i j. none_only2 (is_on p) item q r i j e;
-    mesh_sent = λ i j. only_front (is_on p) (only2 r t more i j) (none_only2 (is_on p) more r t i j f);
-    orders_taken = λ i. refl; reports_sent = λ i. refl;
-  }
+  mesh_taken = λ i j. none_only2 (is_on p) item q r i j e;
+  mesh_sent = λ i j. only_front (is_on p) (only2 r t more i j) (none_only2 (is_on p) more r t i j f);
+  orders_taken = λ i. refl;
+  reports_sent = λ i. refl;
+}
 
 pub other_sent : (setup : Setup) (p r t : ℕ) (more : Mesh) → is_on p more ≡ false → AreOthers setup p r None (MeshTo t more ∷ [])
 other_sent setup p r t more f = record { mesh_taken = λ i j. refl; mesh_sent = λ i j. only_front (is_on p) (only2 r t more i j) (none_only2 (is_on p) more r t i j f); orders_taken = λ i. refl; reports_sent = λ i. refl }

@@ -1,11 +1,9 @@
 -- What the events of far sides and of the operator do.
-use Rattle.std.proofs.Common.{◌≡◌, ◌==◌, cond, ℕ, ◌<◌, ◌≤◌, Bool, true, false, List, [], ◌∷◌, ◌++◌, Option, Some, None, refl, sym, ap, ◌∙◌, subst, arith, inl, inr}
+use Rattle.std.proofs.Common.{◌≡◌, ◌==◌, cond, ℕ, ◌<◌, Bool, true, false, List, [], ◌∷◌, ◌++◌, Option, Some, None, refl, sym, ap, ◌∙◌, subst, arith, inl, inr}
 use Rattle.std.proofs.lemmas.Bool.Decides.{nat_tests}
 use Rattle.std.proofs.lemmas.List.{append-nil}
 use Rattle.std.proofs.lemmas.Option.{slice_get_within, get_or_from_slice_get}
-use Rattle.std.specs.Prelude.{◌≢◌, ◌⊎◌, slice_get, filter, IsSome}
-use Rattle.std.specs.List.{AllByRecursion}
-use Rattle.graft_steps.specs.declared.refusal.Refusal.{Refusal}
+use Rattle.std.specs.Prelude.{◌≢◌, slice_get}
 use Rattle.graft_steps.specs.declared.refusal.Outcome.{Outcome}
 use Rattle.graft_steps.specs.declared.refusal.Outcome.TheVariants.{Accepted, Refused}
 use Rattle.tcp_seq.specs.Endpoint.{PlacedSegment}
@@ -15,14 +13,14 @@ use Rattle.graft_model.specs.Setups.{Setup, SayStep, MoveStep, IsSetup, IsStep, 
 use Rattle.graft_model.specs.Parts.{RouterPart, FarPart, OperatorPart, Mesh, Outward, GraftOrder, Report, World}
 use Rattle.graft_model.specs.FarRows.{FarTaken, OutwardIn, SayIn, FarSent}
 use Rattle.graft_model.specs.OperatorRows.{OperatorTaken, ReportIn, OperatorSent, OrderTo, SayTo, OrdersSay, OrdersGraft, Notes, BeginsGroup, placement}
-use Rattle.graft_model.specs.Steps.{FarEvent, far_row, OperatorEvent, Order, Note, Go, operator_row, Heads}
+use Rattle.graft_model.specs.Steps.{FarEvent, far_row, OperatorEvent, Order, Note, Go, operator_row}
 use Rattle.graft_laws.specs.Phases.{Stage, Ordered, Declined, Cleared, Phase, Idle, Busy, only, only2, place_by, mesh_by, orders_by, reports_by}
 use Rattle.graft_laws.specs.Log.{is_of, LogSays}
 use Rattle.graft_laws.specs.Owned.{mesh_of, orders_of, reports_of, Stands, IsAbsent}
 use Rattle.graft_laws.specs.Moves.{FarMoves, OperatorMoves, outward_taken, inward_sent, says_taken, orders_sent, says_sent, reports_taken}
 use Rattle.graft_laws.specs.Life.{SameLine, LineSays, SameEntries, Change, Rests, FarActs, Begins, NotesRefusal, NotesSuccess, IsToSay}
 use Rattle.graft_laws.proofs.Phases.{refusal_in, success_in}
-use Rattle.graft_laws.proofs.Others.{SameLog, same_log, absent_still, untouched_by_far, untouched_by_operator, still_sent, still_taken}
+use Rattle.graft_laws.proofs.Others.{SameLog, absent_still, untouched_by_far, untouched_by_operator, still_sent, still_taken}
 use Rattle.graft_laws.proofs.LogOrders.{order_others, order_own}
 use Rattle.graft_laws.proofs.LogNotes.{with_outcome, note_others, refused_log, accepted_log}
 use Rattle.graft_laws.proofs.Rests.{stands_still, rests}
@@ -54,56 +52,56 @@ back_none ys zs xs e none = e ∙ (ap (λ (x : List _). zs ++ x) none ∙ append
 
 line_by_far : (p q : ℕ) (taken : Option FarTaken) (sent : List FarSent) (part : FarPart) (w v : World) → p ≢ q → FarMoves q taken sent part w v → SameLine p w v
 line_by_far p q taken sent part w v ne m = record {
-    far = ap (λ (f : ℕ → FarPart). f p) m.far ∙ at_other w.far q p part ne;
-    outward = λ a. front_none (outward_taken q taken a p) (v.outward a p) (w.outward a p) (m.outward a p) (no_outward_taken p q taken a ne);
-    inward = λ b. back_none (v.inward p b) (w.inward p b) (inward_sent q sent p b) (m.inward p b) (no_inward_sent p q sent b ne);
-    says = front_none (says_taken q taken p) (v.says p) (w.says p) (m.says p) (no_says_taken p q taken ne);
-  }
+  far = ap (λ (f : ℕ → FarPart). f p) m.far ∙ at_other w.far q p part ne;
+  outward = λ a. front_none (outward_taken q taken a p) (v.outward a p) (w.outward a p) (m.outward a p) (no_outward_taken p q taken a ne);
+  inward = λ b. back_none (v.inward p b) (w.inward p b) (inward_sent q sent p b) (m.inward p b) (no_inward_sent p q sent b ne);
+  says = front_none (says_taken q taken p) (v.says p) (w.says p) (m.says p) (no_says_taken p q taken ne);
+}
 
 entries_still : (p : ℕ) (w v : World) → v.router ≡ w.router → SameEntries p w v
 entries_still p w v e = record { same = λ r. ap (λ (f : ℕ → RouterPart). (f r).entries p) e }
 
 pub far_each : (setup : Setup) (w v : World) (q : ℕ) (event : FarEvent) (taken : Option FarTaken) (sent : List FarSent) (part : FarPart) → far_row setup q event (w.far q) taken sent part → FarMoves q taken sent part w v → Each setup w v
 far_each setup w v q event taken sent part row m = record {
-    absent = λ p past. absent_still setup p w v (untouched_by_far setup p q taken sent part w v m);
-    known = λ p l phase s b. record {
-      next = phase;
-      session = s;
-      stands = stands_still setup w v p phase s (untouched_by_far setup p q taken sent part w v m) b;
-      change = elim (equal_or_not p q) [
-          inl e ↦ acts p e phase s
-        | inr ne ↦ Rests (line_by_far p q taken sent part w v ne m) (entries_still p w v m.router)
-        ];
-    };
-  } where
-    acts : (p : ℕ) → p ≡ q → (phase : Phase) (s : SessionValue) → Change setup w v p phase s phase s
-    acts p e phase s = subst (λ (x : ℕ). Change setup w v x phase s phase s) (sym e) (FarActs event taken sent part row m (entries_still q w v m.router))
+  absent = λ p past. absent_still setup p w v (untouched_by_far setup p q taken sent part w v m);
+  known = λ p l phase s b. record {
+    next = phase;
+    session = s;
+    stands = stands_still setup w v p phase s (untouched_by_far setup p q taken sent part w v m) b;
+    change = elim (equal_or_not p q) [
+      | inl e ↦ acts p e phase s
+      | inr ne ↦ Rests (line_by_far p q taken sent part w v ne m) (entries_still p w v m.router)
+    ];
+  };
+} where
+  acts : (p : ℕ) → p ≡ q → (phase : Phase) (s : SessionValue) → Change setup w v p phase s phase s
+  acts p e phase s = subst (λ (x : ℕ). Change setup w v x phase s phase s) (sym e) (FarActs event taken sent part row m (entries_still q w v m.router))
 
 -- ---- the operator
 
 operator_line : (p : ℕ) (w v : World) (taken : Option OperatorTaken) (sent : List OperatorSent) (part : OperatorPart) → OperatorMoves taken sent part w v → says_sent sent p ≡ [] → SameLine p w v
 operator_line p w v taken sent part m none = record {
-    far = ap (λ (f : ℕ → FarPart). f p) m.far;
-    outward = λ r. ap (λ (f : ℕ → ℕ → List Outward). f r p) m.outward;
-    inward = λ r. ap (λ (f : ℕ → ℕ → List PlacedSegment). f p r) m.inward;
-    says = back_none (v.says p) (w.says p) (says_sent sent p) (m.says p) none;
-  }
+  far = ap (λ (f : ℕ → FarPart). f p) m.far;
+  outward = λ r. ap (λ (f : ℕ → ℕ → List Outward). f r p) m.outward;
+  inward = λ r. ap (λ (f : ℕ → ℕ → List PlacedSegment). f p r) m.inward;
+  says = back_none (v.says p) (w.says p) (says_sent sent p) (m.says p) none;
+}
 
 operator_says : (p step : ℕ) (w v : World) (taken : Option OperatorTaken) (part : OperatorPart) → OperatorMoves taken (SayTo p step ∷ []) part w v → LineSays p step w v
 operator_says p step w v taken part m = record {
-    far = ap (λ (f : ℕ → FarPart). f p) m.far;
-    outward = λ r. ap (λ (f : ℕ → ℕ → List Outward). f r p) m.outward;
-    inward = λ r. ap (λ (f : ℕ → ℕ → List PlacedSegment). f p r) m.inward;
-    says = m.says p ∙ ap (λ (x : List ℕ). w.says p ++ x) (let e : only p step p ++ [] ≡ step ∷ [] = ap (λ c. cond c (step ∷ []) [] ++ []) (equal p) in e);
-  }
+  far = ap (λ (f : ℕ → FarPart). f p) m.far;
+  outward = λ r. ap (λ (f : ℕ → ℕ → List Outward). f r p) m.outward;
+  inward = λ r. ap (λ (f : ℕ → ℕ → List PlacedSegment). f p r) m.inward;
+  says = m.says p ∙ ap (λ (x : List ℕ). w.says p ++ x) (let e : only p step p ++ [] ≡ step ∷ [] = ap (λ c. cond c (step ∷ []) [] ++ []) (equal p) in e);
+}
 
 -- the routers, and what stands between them, stay
 still_absent : (p : ℕ) (w v : World) (taken : Option OperatorTaken) (sent : List OperatorSent) (part : OperatorPart) → OperatorMoves taken sent part w v → ((b : ℕ) → orders_of p (orders_sent sent b) ≡ []) → IsAbsent w p → IsAbsent v p
 still_absent p w v taken sent part m no_order was = record {
-    places = λ r. ap (λ (f : ℕ → RouterPart). (f r).places p) m.router ∙ was.places r;
-    mesh = λ a b. ap (λ (f : ℕ → ℕ → List Mesh). mesh_of p (f a b)) m.mesh ∙ was.mesh a b;
-    orders = λ r. still_sent (λ o. o.peering == p) (v.orders r) (w.orders r) (orders_sent sent r) (m.orders r) (no_order r) ∙ was.orders r;
-  }
+  places = λ r. ap (λ (f : ℕ → RouterPart). (f r).places p) m.router ∙ was.places r;
+  mesh = λ a b. ap (λ (f : ℕ → ℕ → List Mesh). mesh_of p (f a b)) m.mesh ∙ was.mesh a b;
+  orders = λ r. still_sent (λ o. o.peering == p) (v.orders r) (w.orders r) (orders_sent sent r) (m.orders r) (no_order r) ∙ was.orders r;
+}
 
 -- an event of the operator with which a peering has nothing to do
 operator_rests : (setup : Setup) (w v : World) (p : ℕ) (taken : Option OperatorTaken) (sent : List OperatorSent) (part : OperatorPart) (phase : Phase) (s : SessionValue) → OperatorMoves taken sent part w v
@@ -121,10 +119,10 @@ operator_as setup w v taken known sent items part e f each =
 
 say_issued : (setup : Setup) (p q step : ℕ) (bytes : List ℕ) (before part : OperatorPart) → slice_get setup.steps step ≡ Some (SayStep q bytes) → part ≡ record before { issued = at before.issued step true } → SameLog setup p before part
 say_issued setup p q step bytes before part is effect = record {
-    source = λ k own. ap (λ (x : OperatorPart). x.source k) effect;
-    outcome = λ k own. ap (λ (x : OperatorPart). x.outcome k) effect;
-    issued = λ n t e. ap (λ (x : OperatorPart). x.issued n) effect ∙ at_other before.issued step n true (λ same. (let f : Some (MoveStep p t) ≡ Some (SayStep q bytes) = sym e ∙ (ap (slice_get setup.steps) same ∙ is) in absurd cc));
-  }
+  source = λ k own. ap (λ (x : OperatorPart). x.source k) effect;
+  outcome = λ k own. ap (λ (x : OperatorPart). x.outcome k) effect;
+  issued = λ n t e. ap (λ (x : OperatorPart). x.issued n) effect ∙ at_other before.issued step n true (λ same. (let f : Some (MoveStep p t) ≡ Some (SayStep q bytes) = sym e ∙ (ap (slice_get setup.steps) same ∙ is) in absurd cc));
+}
 
 say_each : (setup : Setup) (w v : World) (step : ℕ) (taken : Option OperatorTaken) (sent : List OperatorSent) (part : OperatorPart) → OrdersSay setup step w.operator taken sent part → OperatorMoves taken sent part w v → Each setup w v
 say_each setup w v step taken sent part row = operator_as setup w v taken None sent (SayTo row.peering step ∷ []) part row.takes row.sends (λ m.
@@ -132,14 +130,14 @@ say_each setup w v step taken sent part row = operator_as setup w v taken None s
     record {
       absent = λ p past. still_absent p w v None (SayTo row.peering step ∷ []) part m (λ b. refl);
       known = λ p l phase s b. elim (equal_or_not p row.peering) [
-          inl e ↦ record {
-            next = phase;
-            session = s;
-            stands = stands_still setup w v p phase s (untouched_by_operator setup p None (SayTo row.peering step ∷ []) part w v m (λ i. refl) (λ i. refl) (same p)) b;
-            change = subst (λ (x : ℕ). Change setup w v x phase s phase s) (sym e) (IsToSay step (operator_says row.peering step w v None part m) (entries_still row.peering w v m.router));
-          }
+        | inl e ↦ record {
+          next = phase;
+          session = s;
+          stands = stands_still setup w v p phase s (untouched_by_operator setup p None (SayTo row.peering step ∷ []) part w v m (λ i. refl) (λ i. refl) (same p)) b;
+          change = subst (λ (x : ℕ). Change setup w v x phase s phase s) (sym e) (IsToSay step (operator_says row.peering step w v None part m) (entries_still row.peering w v m.router));
+        }
         | inr ne ↦ operator_rests setup w v p None (SayTo row.peering step ∷ []) part phase s m (λ i. refl) (λ i. refl) (no_say p row.peering step ne) (same p) b
-        ];
+      ];
     })
   where
     no_say : (p q n : ℕ) → p ≢ q → only q n p ++ [] ≡ []
@@ -147,7 +145,7 @@ say_each setup w v step taken sent part row = operator_as setup w v taken None s
 
 -- ---- a graft is ordered
 
-step_is : (setup : Setup) (n p t : ℕ) → IsSetup setup → slice_get setup.steps n ≡ Some (MoveStep p t) → (p < peerings_in setup) × (t < routers_in setup)
+pub step_is : (setup : Setup) (n p t : ℕ) → IsSetup setup → slice_get setup.steps n ≡ Some (MoveStep p t) → (p < peerings_in setup) × (t < routers_in setup)
 step_is setup n p t ok is =
     subst (IsStep setup) (get_or_from_slice_get setup.steps n (MoveStep p t) (MoveStep p t) is) (ok.steps n (MoveStep p t) (slice_get_within setup.steps n (MoveStep p t) is))
 
@@ -164,19 +162,19 @@ module _ (setup : Setup) (w v : World) (n p t : ℕ) (part : OperatorPart) where
   ordered_stands : (s : SessionValue) → OperatorMoves None (OrderTo source order ∷ []) part w v → LogSays setup part p (Busy source k t Ordered) → t < routers_in setup → Stands setup w p (Idle source) s
       → Followed setup w v p (Idle source) s
   ordered_stands s m log below b = record {
-      next = Busy source k t Ordered;
-      session = s;
-      stands = record {
-        places = λ r. ap (λ (f : ℕ → RouterPart). (f r).places p) m.router ∙ b.places r;
-        mesh = λ i j. ap (λ (f : ℕ → ℕ → List Mesh). mesh_of p (f i j)) m.mesh ∙ b.mesh i j;
-        orders = λ r. own_channel (λ o. o.peering == p) [] (v.orders r) (w.orders r) (only source order r ++ []) [] (only source order r) (m.orders r) refl (b.orders r)
-            (ap (orders_of p) (append-nil (only source order r)) ∙ own_only (λ (o : GraftOrder). o.peering == p) order source r (equal p));
-        reports = λ r. still_taken (λ o. is_of setup p o.graft) [] (v.reports r) (w.reports r) (m.reports r) refl ∙ b.reports r;
-        log = subst (λ (o : OperatorPart). LogSays setup o p (Busy source k t Ordered)) (sym m.operator) log;
-        bounds = (b.bounds, below, tt);
-      };
-      change = Begins (operator_line p w v None (OrderTo source order ∷ []) part m refl) (entries_still p w v m.router);
-    }
+    next = Busy source k t Ordered;
+    session = s;
+    stands = record {
+      places = λ r. ap (λ (f : ℕ → RouterPart). (f r).places p) m.router ∙ b.places r;
+      mesh = λ i j. ap (λ (f : ℕ → ℕ → List Mesh). mesh_of p (f i j)) m.mesh ∙ b.mesh i j;
+      orders = λ r. own_channel (λ o. o.peering == p) [] (v.orders r) (w.orders r) (only source order r ++ []) [] (only source order r) (m.orders r) refl (b.orders r)
+          (ap (orders_of p) (append-nil (only source order r)) ∙ own_only (λ (o : GraftOrder). o.peering == p) order source r (equal p));
+      reports = λ r. still_taken (λ o. is_of setup p o.graft) [] (v.reports r) (w.reports r) (m.reports r) refl ∙ b.reports r;
+      log = subst (λ (o : OperatorPart). LogSays setup o p (Busy source k t Ordered)) (sym m.operator) log;
+      bounds = (b.bounds, below, tt);
+    };
+    change = Begins (operator_line p w v None (OrderTo source order ∷ []) part m refl) (entries_still p w v m.router);
+  }
 
 graft_each : (setup : Setup) (w v : World) (n : ℕ) (taken : Option OperatorTaken) (sent : List OperatorSent) (part : OperatorPart) → IsSetup setup → OrdersGraft setup n w.operator taken sent part → OperatorMoves taken sent part w v
     → Each setup w v
@@ -190,10 +188,10 @@ graft_each setup w v n taken sent part ok row =
     record {
       absent = λ p past. still_absent p w v None (OrderTo source o ∷ []) part m (none p (λ is. omega arith));
       known = λ p l phase s b. elim (equal_or_not p q) [
-          inl e ↦ subst (λ (x : ℕ). Stands setup w x phase s → Followed setup w v x phase s) (sym e) (own phase s bounds.1 m) b
+        | inl e ↦ subst (λ (x : ℕ). Stands setup w x phase s → Followed setup w v x phase s) (sym e) (own phase s bounds.1 m) b
         | inr ne ↦ operator_rests setup w v p None (OrderTo source o ∷ []) part phase s m (none p ne) (λ i. refl) refl
             (subst (λ (x : OperatorPart). SameLog setup p w.operator x) (sym row.effect) (order_others setup w.operator n q row.target source row.is p ne)) b
-        ];
+      ];
     })
   where
     own : (phase : Phase) (s : SessionValue) → row.target < routers_in setup
@@ -202,7 +200,7 @@ graft_each setup w v n taken sent part ok row =
     own phase s below m b =
         let says = order_own setup w.operator n row.peering row.target row.is row.next.unissued row.earlier phase b.log in
         at_phase setup w v row.peering phase (Idle (placement setup w.operator row.peering)) s says.was
-            (ordered_stands setup w v n row.peering row.target part s m (subst (λ (x : OperatorPart). LogSays setup x row.peering (Busy (placement setup w.operator row.peering) (graft_number setup n) row.target Ordered)) (sym row.effect) says.log) below) b
+        (ordered_stands setup w v n row.peering row.target part s m (subst (λ (x : OperatorPart). LogSays setup x row.peering (Busy (placement setup w.operator row.peering) (graft_number setup n) row.target Ordered)) (sym row.effect) says.log) below) b
 
 -- ---- an outcome is noted
 
@@ -212,35 +210,35 @@ module _ (setup : Setup) (w v : World) (p r k : ℕ) (part : OperatorPart) where
       → ((a b : ℕ) → mesh_by (Busy q k t stage) p s a b ≡ []) → ((x : ℕ) → orders_by (Busy q k t stage) p x ≡ [])
       → is_of setup p k ≡ true → LogSays setup part p (Idle final) → final < routers_in setup → Stands setup w p (Busy q k t stage) s → Stands setup v p (Idle final) s
   noted_stands q t stage final outcome s m reported placed no_mesh no_order own log below b = record {
-      places = λ x. ap (λ (f : ℕ → RouterPart). (f x).places p) m.router ∙ (b.places x ∙ placed x);
-      mesh = λ i j. ap (λ (f : ℕ → ℕ → List Mesh). mesh_of p (f i j)) m.mesh ∙ (b.mesh i j ∙ no_mesh i j);
-      orders = λ x. still_sent (λ o. o.peering == p) (v.orders x) (w.orders x) [] (m.orders x) refl ∙ (b.orders x ∙ no_order x);
-      reports = λ x. own_channel (λ o. is_of setup p o.graft) (only r (record { graft = k; outcome = outcome }) x) (v.reports x) (w.reports x) [] (only r (record { graft = k; outcome = outcome }) x) []
-          (m.reports x ∙ sym (append-nil (w.reports x))) (own_only (λ (o : Report). is_of setup p o.graft) (record { graft = k; outcome = outcome }) r x own) (b.reports x ∙ reported x) refl;
-      log = subst (λ (o : OperatorPart). LogSays setup o p (Idle final)) (sym m.operator) log;
-      bounds = below;
-    }
+    places = λ x. ap (λ (f : ℕ → RouterPart). (f x).places p) m.router ∙ (b.places x ∙ placed x);
+    mesh = λ i j. ap (λ (f : ℕ → ℕ → List Mesh). mesh_of p (f i j)) m.mesh ∙ (b.mesh i j ∙ no_mesh i j);
+    orders = λ x. still_sent (λ o. o.peering == p) (v.orders x) (w.orders x) [] (m.orders x) refl ∙ (b.orders x ∙ no_order x);
+    reports = λ x. own_channel (λ o. is_of setup p o.graft) (only r (record { graft = k; outcome = outcome }) x) (v.reports x) (w.reports x) [] (only r (record { graft = k; outcome = outcome }) x) []
+        (m.reports x ∙ sym (append-nil (w.reports x))) (own_only (λ (o : Report). is_of setup p o.graft) (record { graft = k; outcome = outcome }) r x own) (b.reports x ∙ reported x) refl;
+    log = subst (λ (o : OperatorPart). LogSays setup o p (Idle final)) (sym m.operator) log;
+    bounds = below;
+  }
 
   note_own : (outcome : Outcome) (phase : Phase) (s : SessionValue) → part ≡ with_outcome setup w.operator p k outcome → is_of setup p k ≡ true
       → OperatorMoves (Some (ReportIn r (record { graft = k; outcome = outcome }))) [] part w v → Stands setup w p phase s → Followed setup w v p phase s
   note_own (Refused refusal) phase s effect own m b =
       let found = refusal_in phase r k refusal _ (own_head (λ (o : Report). is_of setup p o.graft) (w.reports r) m.heads.rest (record { graft = k; outcome = Refused refusal }) m.heads.is own ∙ b.reports r) in
       at_phase setup w v p phase (Busy r k found.0 (Declined refusal)) s found.1 (λ was. record {
-          next = Idle r;
-          session = s;
-          stands = noted_stands r found.0 (Declined refusal) r (Refused refusal) s m (λ x. refl) (λ x. refl) (λ i j. refl) (λ x. refl) own
-              (subst (λ (o : OperatorPart). LogSays setup o p (Idle r)) (sym effect) (refused_log setup w.operator p r k found.0 (Declined refusal) refusal was.log)) was.bounds.0 was;
-          change = NotesRefusal (operator_line p w v (Some (ReportIn r (record { graft = k; outcome = Refused refusal }))) [] part m refl) (entries_still p w v m.router);
-        }) b
+        next = Idle r;
+        session = s;
+        stands = noted_stands r found.0 (Declined refusal) r (Refused refusal) s m (λ x. refl) (λ x. refl) (λ i j. refl) (λ x. refl) own
+            (subst (λ (o : OperatorPart). LogSays setup o p (Idle r)) (sym effect) (refused_log setup w.operator p r k found.0 (Declined refusal) refusal was.log)) was.bounds.0 was;
+        change = NotesRefusal (operator_line p w v (Some (ReportIn r (record { graft = k; outcome = Refused refusal }))) [] part m refl) (entries_still p w v m.router);
+      }) b
   note_own Accepted phase s effect own m b =
       let found = success_in phase r k _ (own_head (λ (o : Report). is_of setup p o.graft) (w.reports r) m.heads.rest (record { graft = k; outcome = Accepted }) m.heads.is own ∙ b.reports r) in
       at_phase setup w v p phase (Busy r k found.0 Cleared) s found.1 (λ was. record {
-          next = Idle found.0;
-          session = s;
-          stands = noted_stands r found.0 Cleared found.0 Accepted s m (λ x. refl) (λ x. refl) (λ i j. refl) (λ x. refl) own
-              (subst (λ (o : OperatorPart). LogSays setup o p (Idle found.0)) (sym effect) (accepted_log setup w.operator p r k found.0 Cleared was.log)) was.bounds.1 was;
-          change = NotesSuccess (operator_line p w v (Some (ReportIn r (record { graft = k; outcome = Accepted }))) [] part m refl) (entries_still p w v m.router);
-        }) b
+        next = Idle found.0;
+        session = s;
+        stands = noted_stands r found.0 Cleared found.0 Accepted s m (λ x. refl) (λ x. refl) (λ i j. refl) (λ x. refl) own
+            (subst (λ (o : OperatorPart). LogSays setup o p (Idle found.0)) (sym effect) (accepted_log setup w.operator p r k found.0 Cleared was.log)) was.bounds.1 was;
+        change = NotesSuccess (operator_line p w v (Some (ReportIn r (record { graft = k; outcome = Accepted }))) [] part m refl) (entries_still p w v m.router);
+      }) b
 
 note_each : (setup : Setup) (w v : World) (r : ℕ) (taken : Option OperatorTaken) (sent : List OperatorSent) (part : OperatorPart) → Notes r w.operator taken sent part → OperatorMoves taken sent part w v → Each setup w v
 note_each setup w v r taken sent part row = operator_as setup w v taken (Some (ReportIn r row.report)) sent [] part row.takes row.sends (λ m.
@@ -248,10 +246,10 @@ note_each setup w v r taken sent part row = operator_as setup w v taken (Some (R
       absent = λ p past. still_absent p w v (Some (ReportIn r row.report)) [] part m (λ b. refl);
       known = λ p l phase s b. by_test p phase s m b (is_of setup p row.report.graft) refl;
     }) where
-    by_test : (p : ℕ) (phase : Phase) (s : SessionValue) → OperatorMoves (Some (ReportIn r row.report)) [] part w v → Stands setup w p phase s → (own : Bool) → is_of setup p row.report.graft ≡ own → Followed setup w v p phase s
-    by_test p phase s m b true own = note_own setup w v p r row.report.graft part row.report.outcome phase s row.effect own m b
-    by_test p phase s m b false other = operator_rests setup w v p (Some (ReportIn r row.report)) [] part phase s m (λ i. refl) (λ i. none_only (λ (o : Report). is_of setup p o.graft) row.report r i other) refl
-        (subst (λ (x : OperatorPart). SameLog setup p w.operator x) (sym row.effect) (note_others setup w.operator p row.report.graft row.report.outcome other)) b
+      by_test : (p : ℕ) (phase : Phase) (s : SessionValue) → OperatorMoves (Some (ReportIn r row.report)) [] part w v → Stands setup w p phase s → (own : Bool) → is_of setup p row.report.graft ≡ own → Followed setup w v p phase s
+      by_test p phase s m b true own = note_own setup w v p r row.report.graft part row.report.outcome phase s row.effect own m b
+      by_test p phase s m b false other = operator_rests setup w v p (Some (ReportIn r row.report)) [] part phase s m (λ i. refl) (λ i. none_only (λ (o : Report). is_of setup p o.graft) row.report r i other) refl
+          (subst (λ (x : OperatorPart). SameLog setup p w.operator x) (sym row.effect) (note_others setup w.operator p row.report.graft row.report.outcome other)) b
 
 -- ---- the next group
 

@@ -1,19 +1,17 @@
 -- Where everything stands in the first world.
-use Rattle.std.proofs.Common.{◌≡◌, ◌==◌, cond, ℕ, zero, suc, ◌+◌, ◌<◌, ◌≤◌, Bool, true, false, List, [], ◌∷◌, ◌++◌, length, Option, Some, None, refl, sym, ap, ◌∙◌, subst, arith}
+use Rattle.std.proofs.Common.{◌≡◌, ◌==◌, cond, ℕ, zero, suc, ◌+◌, ◌<◌, ◌≤◌, Bool, true, false, List, [], ◌∷◌, length, Option, Some, None, refl, sym, ap, ◌∙◌, subst, arith}
 use Rattle.std.proofs.lemmas.Bool.Decides.{nat_tests}
-use Rattle.std.proofs.lemmas.Option.{slice_get_within, slice_get_past}
-use Rattle.std.specs.Prelude.{◌≢◌, ◌&&◌, filter, map, slice_get, option_map, unwrap_or, is_some}
-use Rattle.std.specs.List.{AllByRecursion, range_with_len, last_or}
-use Rattle.session_value.specs.Sessions.{SessionValue, begun}
-use Rattle.session_value.specs.declared.config.SessionConfig.{SessionConfig}
-use Rattle.graft_model.specs.Setups.{Setup, PeeringSetup, ScriptGraft, IsSetup, routers_in, peerings_in, peering_numbers, room_of, starting_at, start_of, config_of, grafts_in}
-use Rattle.graft_model.specs.Parts.{Place, Vacant, Live, OperatorPart}
+use Rattle.std.proofs.lemmas.Option.{slice_get_past}
+use Rattle.std.specs.Prelude.{◌&&◌, filter, map, slice_get, option_map, unwrap_or}
+use Rattle.std.specs.List.{range_with_len, last_or}
+use Rattle.session_value.specs.Sessions.{begun}
+use Rattle.graft_model.specs.Setups.{Setup, PeeringSetup, ScriptGraft, IsSetup, routers_in, peerings_in, room_of, starting_at, start_of, grafts_in}
+use Rattle.graft_model.specs.Parts.{Vacant, Live, OperatorPart}
 use Rattle.graft_model.specs.First.{place_in, first_router, first_world}
 use Rattle.graft_model.specs.GraftRows.{is_taken, taken_in}
-use Rattle.graft_model.specs.OperatorRows.{placement, is_accepted}
-use Rattle.graft_laws.specs.Phases.{Phase, Idle, place_by}
+use Rattle.graft_laws.specs.Phases.{Idle, place_by}
 use Rattle.graft_laws.specs.Log.{grafts_of, Waits, LogSays}
-use Rattle.graft_laws.specs.Owned.{Stands, IsHeld, IsAbsent, Owned}
+use Rattle.graft_laws.specs.Owned.{Stands, Owned}
 use Rattle.graft_laws.proofs.Lists.{all_of, filter_none}
 
 -- ---- the log
@@ -29,15 +27,15 @@ first_operator setup = (first_world setup).operator
 
 first_log : (setup : Setup) (p : ℕ) → LogSays setup (first_operator setup) p (Idle (start_of setup p))
 first_log setup p = record {
-    past = [];
-    later = grafts_of setup p;
-    grafts = refl;
-    have_ended = tt;
-    goes_on = tt;
-    wait = all_of (Waits (first_operator setup)) (grafts_of setup p) (λ g. record { unordered = refl; unended = refl });
-    placed = ap (λ (gs : List ScriptGraft). unwrap_or (last_or None (map (λ g. g.target) gs)) (start_of setup p)) (none_counts p (grafts_in setup));
-    issued = λ n t e. refl;
-  }
+  past = [];
+  later = grafts_of setup p;
+  grafts = refl;
+  have_ended = tt;
+  goes_on = tt;
+  wait = all_of (Waits (first_operator setup)) (grafts_of setup p) (λ g. record { unordered = refl; unended = refl });
+  placed = ap (λ (gs : List ScriptGraft). unwrap_or (last_or None (map (λ g. g.target) gs)) (start_of setup p)) (none_counts p (grafts_in setup));
+  issued = λ n t e. refl;
+}
 
 -- ---- the places
 
@@ -103,8 +101,8 @@ some_peering setup p l = at (slice_get setup.peerings p) refl where
 
 pub first_owned : (setup : Setup) → IsSetup setup → Owned setup (first_world setup)
 first_owned setup ok = record {
-    peerings = λ p l. (let some = some_peering setup p l in record { phase = Idle (start_of setup p); session = begun some.0.config; stands = first_stands setup p some.0 ok some.1 });
-    no_others = λ p past. record { places = λ r. none_past setup p r past; mesh = λ a b. refl; orders = λ r. refl };
-    room = λ r l. subst (λ (n : ℕ). n ≤ room_of setup r) (sym (first_taken setup r)) (ok.room r l);
-    reports = λ r. tt;
-  }
+  peerings = λ p l. (let some = some_peering setup p l in record { phase = Idle (start_of setup p); session = begun some.0.config; stands = first_stands setup p some.0 ok some.1 });
+  no_others = λ p past. record { places = λ r. none_past setup p r past; mesh = λ a b. refl; orders = λ r. refl };
+  room = λ r l. subst (λ (n : ℕ). n ≤ room_of setup r) (sym (first_taken setup r)) (ok.room r l);
+  reports = λ r. tt;
+}

@@ -1,5 +1,5 @@
 -- How a peering goes on from one phase to the next by an event of its own at a router.
-use Rattle.std.proofs.Common.{◌≡◌, ◌==◌, cond, ℕ, ◌<◌, Bool, true, false, List, [], ◌∷◌, ◌++◌, Option, Some, None, refl, sym, ap, ◌∙◌, subst, arith}
+use Rattle.std.proofs.Common.{◌≡◌, ◌==◌, cond, ℕ, Bool, true, false, List, [], ◌∷◌, ◌++◌, Option, refl, sym, ap, ◌∙◌, subst, arith}
 use Rattle.std.proofs.lemmas.Bool.Decides.{nat_tests}
 use Rattle.std.proofs.lemmas.List.{append-nil}
 use Rattle.std.specs.Prelude.{◌≢◌, filter}
@@ -96,52 +96,54 @@ pub record Shifts (setup : Setup) (p r : ℕ) (s : SessionValue) (taken : Option
 pub shifted : (setup : Setup) (w v : World) (p r : ℕ) (s : SessionValue) (taken : Option RouterTaken) (sent : List RouterSent) (part : RouterPart) (phase next : Phase)
     → RouterMoves r taken sent part w v → Shifts setup p r s taken sent part phase next → Stands setup w p phase s → LogSays setup w.operator p next → InBounds setup next → Stands setup v p next s
 shifted setup w v p r s taken sent part phase next m x b log bounds = record {
-    places = λ y. ap (λ (f : ℕ → RouterPart). (f y).places p) m.router ∙ (places_step (y == r) part (w.router y) p (part.places p) (place_by phase s y) refl (b.places y) ∙ x.places y);
-    mesh = λ i j. own_channel (is_on p) (mesh_taken r taken i j) (v.mesh i j) (w.mesh i j) (mesh_sent r sent i j) (mesh_by phase p s i j) (mesh_by next p s i j) (m.mesh i j) (x.mesh_taken i j) (b.mesh i j) (x.mesh_sent i j);
-    orders = λ y. own_channel (λ o. o.peering == p) (orders_taken r taken y) (v.orders y) (w.orders y) [] (orders_by phase p y) (orders_by next p y)
-        (m.orders y ∙ sym (append-nil (w.orders y))) (x.orders_taken y) (b.orders y) (sym (x.no_order y));
-    reports = λ y. own_channel (λ o. is_of setup p o.graft) [] (v.reports y) (w.reports y) (reports_sent r sent y) [] (reports_by next y)
-        (m.reports y) refl (b.reports y ∙ x.no_report y) (x.reports_sent y);
-    log = subst (λ (o : OperatorPart). LogSays setup o p next) (sym m.operator) log;
-    bounds = bounds;
-  }
+  places = λ y. ap (λ (f : ℕ → RouterPart). (f y).places p) m.router ∙ (places_step (y == r) part (w.router y) p (part.places p) (place_by phase s y) refl (b.places y) ∙ x.places y);
+  mesh = λ i j. own_channel (is_on p) (mesh_taken r taken i j) (v.mesh i j) (w.mesh i j) (mesh_sent r sent i j) (mesh_by phase p s i j) (mesh_by next p s i j) (m.mesh i j) (x.mesh_taken i j) (b.mesh i j) (x.mesh_sent i j);
+  orders = λ y. own_channel (λ o. o.peering == p) (orders_taken r taken y) (v.orders y) (w.orders y) [] (orders_by phase p y) (orders_by next p y)
+      (m.orders y ∙ sym (append-nil (w.orders y))) (x.orders_taken y) (b.orders y) (sym (x.no_order y));
+  reports = λ y. own_channel (λ o. is_of setup p o.graft) [] (v.reports y) (w.reports y) (reports_sent r sent y) [] (reports_by next y)
+      (m.reports y) refl (b.reports y ∙ x.no_report y) (x.reports_sent y);
+  log = subst (λ (o : OperatorPart). LogSays setup o p next) (sym m.operator) log;
+  bounds = bounds;
+}
 
 -- ---- the line and the entries
 
 pub line_by_router : (w v : World) (p r : ℕ) (taken : Option RouterTaken) (sent : List RouterSent) (part : RouterPart) → RouterMoves r taken sent part w v
     → ((a : ℕ) → outward_sent r sent a p ≡ []) → ((b : ℕ) → inward_taken r taken p b ≡ []) → SameLine p w v
 line_by_router w v p r taken sent part m no_sent none_taken = record {
-    far = ap (λ (f : ℕ → _). f p) m.far;
-    outward = λ a. m.outward a p ∙ (ap (λ (x : List Outward). w.outward a p ++ x) (no_sent a) ∙ append-nil (w.outward a p));
-    inward = λ b. ap (λ (x : List PlacedSegment). x ++ v.inward p b) (sym (none_taken b)) ∙ m.inward p b;
-    says = ap (λ (f : ℕ → List ℕ). f p) m.says;
-  }
+  far = ap (λ (f : ℕ → _). f p) m.far;
+  outward = λ a. m.outward a p ∙ (ap (λ (x : List Outward). w.outward a p ++ x) (no_sent a) ∙ append-nil (w.outward a p));
+  inward = λ b. ap (λ (x : List PlacedSegment). x ++ v.inward p b) (sym (none_taken b)) ∙ m.inward p b;
+  says = ap (λ (f : ℕ → List ℕ). f p) m.says;
+}
 
 pub line_gets : (w v : World) (p r : ℕ) (taken : Option RouterTaken) (sent : List RouterSent) (part : RouterPart) (item : Outward) → RouterMoves r taken sent part w v
     → ((a : ℕ) → outward_sent r sent a p ≡ only r item a) → ((b : ℕ) → inward_taken r taken p b ≡ []) → LineGets p r item w v
 line_gets w v p r taken sent part item m gave none_taken = record {
-    far = ap (λ (f : ℕ → _). f p) m.far;
-    outward = λ a. m.outward a p ∙ ap (λ (x : List Outward). w.outward a p ++ x) (gave a);
-    inward = λ b. ap (λ (x : List PlacedSegment). x ++ v.inward p b) (sym (none_taken b)) ∙ m.inward p b;
-    says = ap (λ (f : ℕ → List ℕ). f p) m.says;
-  }
+  far = ap (λ (f : ℕ → _). f p) m.far;
+  outward = λ a. m.outward a p ∙ ap (λ (x : List Outward). w.outward a p ++ x) (gave a);
+  inward = λ b. ap (λ (x : List PlacedSegment). x ++ v.inward p b) (sym (none_taken b)) ∙ m.inward p b;
+  says = ap (λ (f : ℕ → List ℕ). f p) m.says;
+}
 
 pub line_gives : (w v : World) (p r : ℕ) (taken : Option RouterTaken) (part : RouterPart) (segment : PlacedSegment) → RouterMoves r taken [] part w v
     → ((b : ℕ) → inward_taken r taken p b ≡ only r segment b) → LineGives p r segment w v
 line_gives w v p r taken part segment m took = record {
-    far = ap (λ (f : ℕ → _). f p) m.far;
-    outward = λ a. m.outward a p ∙ append-nil (w.outward a p);
-    inward = λ b. ap (λ (x : List PlacedSegment). x ++ v.inward p b) (sym (took b)) ∙ m.inward p b;
-    says = ap (λ (f : ℕ → List ℕ). f p) m.says;
-  }
+  far = ap (λ (f : ℕ → _). f p) m.far;
+  outward = λ a. m.outward a p ∙ append-nil (w.outward a p);
+  inward = λ b. ap (λ (x : List PlacedSegment). x ++ v.inward p b) (sym (took b)) ∙ m.inward p b;
+  says = ap (λ (f : ℕ → List ℕ). f p) m.says;
+}
 
 same_entries_step : (b : Bool) (part old was : RouterPart) (p : ℕ) → part.entries p ≡ was.entries p → (b ≡ true → was ≡ old) → (cond b part old).entries p ≡ old.entries p
 same_entries_step true part old was p e is = e ∙ ap (λ (x : RouterPart). x.entries p) (is refl)
 same_entries_step false part old was p e is = refl
 
 pub same_entries : (w v : World) (p r : ℕ) (part : RouterPart) → v.router ≡ at w.router r part → part.entries p ≡ (w.router r).entries p → SameEntries p w v
-same_entries w v p r part m e = record { same = λ x. ap (λ (f : ℕ → RouterPart). (f x).entries p) m
-    ∙ same_entries_step (x == r) part (w.router x) (w.router r) p e (λ is. ap w.router (let n : r ≡ x = grind (arith, nat_tests) in n)) }
+same_entries w v p r part m e = record {
+  same = λ x. ap (λ (f : ℕ → RouterPart). (f x).entries p) m
+      ∙ same_entries_step (x == r) part (w.router x) (w.router r) p e (λ is. ap w.router (let n : r ≡ x = grind (arith, nat_tests) in n));
+}
 
 pub entries_here : (w v : World) (p r : ℕ) (part : RouterPart) → v.router ≡ at w.router r part → (v.router r).entries p ≡ part.entries p
 entries_here w v p r part m = ap (λ (f : ℕ → RouterPart). (f r).entries p) m ∙ ap (λ (x : RouterPart). x.entries p) (at_here w.router r part)
@@ -151,9 +153,9 @@ entries_there w v p r part m x ne = ap (λ (f : ℕ → RouterPart). (f x).entri
 
 pub enters : (setup : Setup) (w v : World) (p r : ℕ) (s : SessionValue) (part : RouterPart) → v.router ≡ at w.router r part → BringsIn setup r s (part.entries p) → Enters setup p r s w v
 enters setup w v p r s part m brings = record {
-    here = λ x. ap (λ (t : _). map.get t x) (entries_here w v p r part m) ∙ brings x;
-    others = entries_there w v p r part m;
-  }
+  here = λ x. ap (λ (t : _). map.get t x) (entries_here w v p r part m) ∙ brings x;
+  others = entries_there w v p r part m;
+}
 
 pub drops : (w v : World) (p r : ℕ) (part : RouterPart) → v.router ≡ at w.router r part → part.entries p ≡ map.empty → Drops p r w v
 drops w v p r part m none = record { here = entries_here w v p r part m ∙ none; others = entries_there w v p r part m }

@@ -1,7 +1,7 @@
 -- What the events of a graft at routers do.
-use Rattle.std.proofs.Common.{◌≡◌, ◌==◌, cond, ℕ, ◌<◌, ◌≤◌, ◌+◌, Bool, true, false, List, [], ◌∷◌, ◌++◌, Option, Some, None, refl, sym, ap, ◌∙◌, subst, arith, inl, inr}
+use Rattle.std.proofs.Common.{◌≡◌, ◌==◌, cond, ℕ, ◌<◌, ◌≤◌, ◌+◌, Bool, true, false, List, [], ◌∷◌, ◌++◌, Option, Some, None, refl, sym, ap, ◌∙◌, subst, arith}
 use Rattle.std.proofs.lemmas.Bool.Decides.{nat_tests}
-use Rattle.std.specs.Prelude.{◌≢◌, ◌⊎◌, IsSome}
+use Rattle.std.specs.Prelude.{◌≢◌, IsSome}
 use Rattle.std.specs.List.{AllByRecursion}
 use Rattle.std.specs.FinMap as map
 use Rattle.graft_steps.specs.declared.refusal.Refusal.{Refusal}
@@ -13,20 +13,20 @@ use Rattle.session_value.specs.Sessions.{SessionValue, state, hold_time}
 use Rattle.graft_model.specs.Points.{at}
 use Rattle.graft_model.specs.Setups.{Setup, peerings_in, room_of}
 use Rattle.graft_model.specs.Parts.{Order, Place, Vacant, Live, Frozen, Shadow, RouterPart, Mesh, Moved, Back, Done, Outward, PointAt, GraftOrder, Report, World}
-use Rattle.graft_model.specs.RouterRows.{RouterTaken, OrderIn, SegmentIn, MeshIn, RouterSent, MeshTo, OutwardTo, ReportOut, BringsIn}
+use Rattle.graft_model.specs.RouterRows.{RouterTaken, OrderIn, MeshIn, RouterSent, MeshTo, OutwardTo, ReportOut, BringsIn}
 use Rattle.graft_model.specs.GraftRows.{Admits, Refuses, Freezes, Leaves, Lands, TurnsBack, Returns, Clears, is_taken, taken_in, refusal_of}
 use Rattle.graft_model.specs.Steps.{Heads}
 use Rattle.graft_laws.specs.Phases.{Ordered, Stored, Halted, Moving, Landed, Returning, Phase, Busy, only}
 use Rattle.graft_laws.specs.Log.{graft_at, is_of}
 use Rattle.graft_laws.specs.Owned.{is_on, Stands, Owned}
-use Rattle.graft_laws.specs.Moves.{reports_sent, RouterMoves}
+use Rattle.graft_laws.specs.Moves.{RouterMoves}
 use Rattle.graft_laws.proofs.Phases.{live_session, stored_at, halted_at, moved_in, back_in, done_in, order_in}
-use Rattle.graft_laws.proofs.Others.{AreOthers, Apart}
+use Rattle.graft_laws.proofs.Others.{AreOthers}
 use Rattle.graft_laws.proofs.Logs.{own_known}
-use Rattle.graft_laws.proofs.Following.{Followed, at_phase, at_here, at_other, own_head}
+use Rattle.graft_laws.proofs.Following.{at_phase, at_here, at_other, own_head}
 use Rattle.graft_laws.proofs.Grafts.{equal, admit_own, refuse_own, freeze_own, leave_own, land_own, turn_back_own, return_own, clear_own}
 use Rattle.graft_laws.proofs.Room.{no_more_taken, one_more_taken, room_left}
-use Rattle.graft_laws.proofs.Deeds.{differs, of_known, not_of, known_place, known_mesh, known_order, Deed, own_or_apart, no_items, other_order, other_report, other_mesh, other_sent, other_taken, no_outward}
+use Rattle.graft_laws.proofs.Deeds.{differs, of_known, not_of, known_place, known_order, Deed, own_or_apart, no_items, other_order, other_report, other_mesh, other_sent, other_taken, no_outward}
 
 abbrev order_of : ℕ → ℕ → Order
 order_of k t = record { graft = k; target = t }
@@ -113,10 +113,10 @@ module _ (setup : Setup) (w v : World) (r : ℕ) (owned : Owned setup w) where
               inward_taken = λ b. refl;
             })
             (λ phase s b.
-              let e = order_in phase q r o _ (own_head (λ (x : GraftOrder). x.peering == q) (w.orders r) m.heads.rest o m.heads.is (equal q) ∙ b.orders r) in
-              let same : row.session ≡ s = live_session phase s row.session None r (sym row.live.is ∙ b.places r) in
-              at_phase setup w v q phase (Busy r k row.target Ordered) s e.0
-                (admit_own setup w v q r k row.target s part m (place_here before part q _ places ∙ ap (λ (x : SessionValue). Live x (Some (order_of k row.target))) same) (ap (λ (x : RouterPart). x.entries q) row.effect)) b);
+            let e = order_in phase q r o _ (own_head (λ (x : GraftOrder). x.peering == q) (w.orders r) m.heads.rest o m.heads.is (equal q) ∙ b.orders r) in
+            let same : row.session ≡ s = live_session phase s row.session None r (sym row.live.is ∙ b.places r) in
+            at_phase setup w v q phase (Busy r k row.target Ordered) s e.0
+            (admit_own setup w v q r k row.target s part m (place_here before part q _ places ∙ ap (λ (x : SessionValue). Live x (Some (order_of k row.target))) same) (ap (λ (x : RouterPart). x.entries q) row.effect)) b);
         reports = λ a. tt;
         room = λ l. le_trans _ _ _ (no_more_taken setup before part q _ places (ap is_taken row.live.is)) l;
       })
@@ -137,10 +137,10 @@ module _ (setup : Setup) (w v : World) (r : ℕ) (owned : Owned setup w) where
               inward_taken = λ b. refl;
             })
             (λ phase s b.
-              let e = stored_at phase s row.session r k row.target (sym row.live.is ∙ b.places r) in
-              at_phase setup w v q phase (Busy r k row.target Stored) s e.0
-                (refuse_own setup w v q r k row.target s part row.refusal m (place_here before part q _ places ∙ ap (λ (x : SessionValue). Live x None) e.1) (ap (λ (x : RouterPart). x.entries q) row.effect)
-                  (subst (λ (x : SessionValue). freeze_refusal (record { 0 = r }) (record { 0 = row.target }) (state x) (hold_time x) ≡ Some row.refusal) e.1 row.cause)) b);
+            let e = stored_at phase s row.session r k row.target (sym row.live.is ∙ b.places r) in
+            at_phase setup w v q phase (Busy r k row.target Stored) s e.0
+            (refuse_own setup w v q r k row.target s part row.refusal m (place_here before part q _ places ∙ ap (λ (x : SessionValue). Live x None) e.1) (ap (λ (x : RouterPart). x.entries q) row.effect)
+            (subst (λ (x : SessionValue). freeze_refusal (record { 0 = r }) (record { 0 = row.target }) (state x) (hold_time x) ≡ Some row.refusal) e.1 row.cause)) b);
         reports = λ a. one_report setup r a (record { graft = k; outcome = Refused row.refusal }) (of_known setup q k own);
         room = λ l. le_trans _ _ _ (no_more_taken setup before part q _ places (ap is_taken row.live.is)) l;
       })
@@ -159,11 +159,11 @@ module _ (setup : Setup) (w v : World) (r : ℕ) (owned : Owned setup w) where
               inward_taken = λ b. refl;
             })
             (λ phase s b.
-              let e = stored_at phase s row.session r k row.target (sym row.live.is ∙ b.places r) in
-              at_phase setup w v q phase (Busy r k row.target Stored) s e.0
-                (freeze_own setup w v q r k row.target s part m (place_here before part q _ places ∙ ap (λ (x : SessionValue). Frozen x (order_of k row.target)) e.1) (ap (λ (x : RouterPart). x.entries q) row.effect)
-                  (subst (λ (x : SessionValue). freeze_refusal (record { 0 = r }) (record { 0 = row.target }) (state x) (hold_time x) ≡ None) e.1 row.no_cause)
-                  (freezes_apart r row.target (state row.session) (hold_time row.session) row.no_cause)) b);
+            let e = stored_at phase s row.session r k row.target (sym row.live.is ∙ b.places r) in
+            at_phase setup w v q phase (Busy r k row.target Stored) s e.0
+            (freeze_own setup w v q r k row.target s part m (place_here before part q _ places ∙ ap (λ (x : SessionValue). Frozen x (order_of k row.target)) e.1) (ap (λ (x : RouterPart). x.entries q) row.effect)
+            (subst (λ (x : SessionValue). freeze_refusal (record { 0 = r }) (record { 0 = row.target }) (state x) (hold_time x) ≡ None) e.1 row.no_cause)
+            (freezes_apart r row.target (state row.session) (hold_time row.session) row.no_cause)) b);
         reports = λ a. tt;
         room = λ l. le_trans _ _ _ (no_more_taken setup before part q _ places (ap is_taken row.live.is)) l;
       })
@@ -182,9 +182,9 @@ module _ (setup : Setup) (w v : World) (r : ℕ) (owned : Owned setup w) where
               inward_taken = λ b. refl;
             })
             (λ phase s b.
-              let e = halted_at phase s row.session r k row.target (sym row.frozen ∙ b.places r) in
-              at_phase setup w v q phase (Busy r k row.target Halted) s e.0
-                (leave_own setup w v q r k row.target s part (subst (λ (x : SessionValue). RouterMoves r None (MeshTo row.target (Moved k q x) ∷ []) part w v) e.1 m) (place_here before part q _ places) (ap (λ (x : RouterPart). x.entries q) row.effect)) b);
+            let e = halted_at phase s row.session r k row.target (sym row.frozen ∙ b.places r) in
+            at_phase setup w v q phase (Busy r k row.target Halted) s e.0
+            (leave_own setup w v q r k row.target s part (subst (λ (x : SessionValue). RouterMoves r None (MeshTo row.target (Moved k q x) ∷ []) part w v) e.1 m) (place_here before part q _ places) (ap (λ (x : RouterPart). x.entries q) row.effect)) b);
         reports = λ a. tt;
         room = λ l. le_trans _ _ _ (no_more_taken setup before part q _ places (ap is_taken row.frozen)) l;
       })
@@ -193,7 +193,7 @@ module _ (setup : Setup) (w v : World) (r : ℕ) (owned : Owned setup w) where
 
   pub land_deed : (q : ℕ) (taken : Option RouterTaken) (sent : List RouterSent) (part : RouterPart) → Lands setup r q before taken sent part → RouterMoves r taken sent part w v → Deed setup w v r taken sent part
   land_deed q taken sent part row = deed_as setup w v r taken (Some (MeshIn q (Moved row.comes.graft row.comes.peering row.comes.session))) sent
-    (OutwardTo row.comes.peering (PointAt row.comes.graft) ∷ MeshTo q (Done row.comes.graft row.comes.peering) ∷ []) part row.comes.takes row.sends (λ m.
+      (OutwardTo row.comes.peering (PointAt row.comes.graft) ∷ MeshTo q (Done row.comes.graft row.comes.peering) ∷ []) part row.comes.takes row.sends (λ m.
       let k : ℕ = row.comes.graft in
       let n : ℕ = row.comes.peering in
       let item : Mesh = Moved k n row.comes.session in
@@ -208,19 +208,19 @@ module _ (setup : Setup) (w v : World) (r : ℕ) (owned : Owned setup w) where
               inward_taken = λ b. refl;
             })
             (λ phase s b.
-              let e = moved_in phase n s row.comes.session q r k _ (own_head (is_on n) (w.mesh q r) m.heads.rest item m.heads.is (equal n) ∙ b.mesh q r) in
-              at_phase setup w v n phase (Busy q k r Moving) s e.0
-                (land_own setup w v n q k r s part (subst (λ (x : SessionValue). RouterMoves r (Some (MeshIn q (Moved k n x))) (OutwardTo n (PointAt k) ∷ MeshTo q (Done k n) ∷ []) part w v) e.1 m)
-                  (place_here before part n _ places ∙ ap (λ (x : SessionValue). Live x None) e.1)
-                  (subst (λ (x : SessionValue). BringsIn setup r x (part.entries n)) e.1 row.entries)
-                  (subst (λ (x : SessionValue). refusal_of setup r before x ≡ None) e.1 row.admitted)) b);
+            let e = moved_in phase n s row.comes.session q r k _ (own_head (is_on n) (w.mesh q r) m.heads.rest item m.heads.is (equal n) ∙ b.mesh q r) in
+            at_phase setup w v n phase (Busy q k r Moving) s e.0
+            (land_own setup w v n q k r s part (subst (λ (x : SessionValue). RouterMoves r (Some (MeshIn q (Moved k n x))) (OutwardTo n (PointAt k) ∷ MeshTo q (Done k n) ∷ []) part w v) e.1 m)
+            (place_here before part n _ places ∙ ap (λ (x : SessionValue). Live x None) e.1)
+            (subst (λ (x : SessionValue). BringsIn setup r x (part.entries n)) e.1 row.entries)
+            (subst (λ (x : SessionValue). refusal_of setup r before x ≡ None) e.1 row.admitted)) b);
         reports = λ a. tt;
         room = λ l. le_trans _ _ _ (one_more_taken setup before part n _ places) (above _ _ (room_left setup r before row.comes.session row.admitted));
       })
 
   pub turn_back_deed : (q : ℕ) (taken : Option RouterTaken) (sent : List RouterSent) (part : RouterPart) → TurnsBack setup r q before taken sent part → RouterMoves r taken sent part w v → Deed setup w v r taken sent part
   turn_back_deed q taken sent part row = deed_as setup w v r taken (Some (MeshIn q (Moved row.comes.graft row.comes.peering row.comes.session))) sent
-    (MeshTo q (Back row.comes.graft row.comes.peering row.comes.session row.refusal) ∷ []) part row.comes.takes row.sends (λ m.
+      (MeshTo q (Back row.comes.graft row.comes.peering row.comes.session row.refusal) ∷ []) part row.comes.takes row.sends (λ m.
       let k : ℕ = row.comes.graft in
       let n : ℕ = row.comes.peering in
       let item : Mesh = Moved k n row.comes.session in
@@ -234,12 +234,12 @@ module _ (setup : Setup) (w v : World) (r : ℕ) (owned : Owned setup w) where
               inward_taken = λ b. refl;
             })
             (λ phase s b.
-              let e = moved_in phase n s row.comes.session q r k _ (own_head (is_on n) (w.mesh q r) m.heads.rest item m.heads.is (equal n) ∙ b.mesh q r) in
-              at_phase setup w v n phase (Busy q k r Moving) s e.0
-                (turn_back_own setup w v n q k r s part row.refusal (subst (λ (x : SessionValue). RouterMoves r (Some (MeshIn q (Moved k n x))) (MeshTo q (Back k n x row.refusal) ∷ []) part w v) e.1 m)
-                  (ap (λ (x : RouterPart). x.places n) row.stays ∙ row.comes.vacant)
-                  (ap (λ (x : RouterPart). x.entries n) row.stays)
-                  (subst (λ (x : SessionValue). refusal_of setup r before x ≡ Some row.refusal) e.1 row.cause)) b);
+            let e = moved_in phase n s row.comes.session q r k _ (own_head (is_on n) (w.mesh q r) m.heads.rest item m.heads.is (equal n) ∙ b.mesh q r) in
+            at_phase setup w v n phase (Busy q k r Moving) s e.0
+            (turn_back_own setup w v n q k r s part row.refusal (subst (λ (x : SessionValue). RouterMoves r (Some (MeshIn q (Moved k n x))) (MeshTo q (Back k n x row.refusal) ∷ []) part w v) e.1 m)
+            (ap (λ (x : RouterPart). x.places n) row.stays ∙ row.comes.vacant)
+            (ap (λ (x : RouterPart). x.entries n) row.stays)
+            (subst (λ (x : SessionValue). refusal_of setup r before x ≡ Some row.refusal) e.1 row.cause)) b);
         reports = λ a. tt;
         room = λ l. subst (λ (x : RouterPart). taken_in setup x ≤ room_of setup r) (sym row.stays) l;
       })
@@ -248,7 +248,7 @@ module _ (setup : Setup) (w v : World) (r : ℕ) (owned : Owned setup w) where
 
   pub return_deed : (q : ℕ) (taken : Option RouterTaken) (sent : List RouterSent) (part : RouterPart) → Returns q before taken sent part → RouterMoves r taken sent part w v → Deed setup w v r taken sent part
   return_deed q taken sent part row = deed_as setup w v r taken (Some (MeshIn q (Back row.graft row.peering row.session row.refusal))) sent
-    (ReportOut (record { graft = row.graft; outcome = Refused row.refusal }) ∷ []) part row.takes row.sends (λ m.
+      (ReportOut (record { graft = row.graft; outcome = Refused row.refusal }) ∷ []) part row.takes row.sends (λ m.
       let k : ℕ = row.graft in
       let n : ℕ = row.peering in
       let item : Mesh = Back k n row.session row.refusal in
@@ -266,18 +266,18 @@ module _ (setup : Setup) (w v : World) (r : ℕ) (owned : Owned setup w) where
               inward_taken = λ b. refl;
             })
             (λ phase s b.
-              let e = back_in phase n s row.session row.refusal q r k _ (own_head (is_on n) (w.mesh q r) m.heads.rest item m.heads.is (equal n) ∙ b.mesh q r) in
-              at_phase setup w v n phase (Busy r k q (Returning row.refusal)) s e.0
-                (return_own setup w v n r k q s part row.refusal (subst (λ (x : SessionValue). RouterMoves r (Some (MeshIn q (Back k n x row.refusal))) (ReportOut report ∷ []) part w v) e.1 m)
-                  (place_here before part n _ places ∙ ap (λ (x : SessionValue). Live x None) e.1)
-                  (ap (λ (x : RouterPart). x.entries n) row.effect)) b);
+            let e = back_in phase n s row.session row.refusal q r k _ (own_head (is_on n) (w.mesh q r) m.heads.rest item m.heads.is (equal n) ∙ b.mesh q r) in
+            at_phase setup w v n phase (Busy r k q (Returning row.refusal)) s e.0
+            (return_own setup w v n r k q s part row.refusal (subst (λ (x : SessionValue). RouterMoves r (Some (MeshIn q (Back k n x row.refusal))) (ReportOut report ∷ []) part w v) e.1 m)
+            (place_here before part n _ places ∙ ap (λ (x : SessionValue). Live x None) e.1)
+            (ap (λ (x : RouterPart). x.entries n) row.effect)) b);
         reports = λ a. one_report setup r a report (of_known setup n k own);
         room = λ l. le_trans _ _ _ (no_more_taken setup before part n _ places (ap is_taken row.shadow)) l;
       })
 
   pub clear_deed : (q : ℕ) (taken : Option RouterTaken) (sent : List RouterSent) (part : RouterPart) → Clears q before taken sent part → RouterMoves r taken sent part w v → Deed setup w v r taken sent part
   clear_deed q taken sent part row = deed_as setup w v r taken (Some (MeshIn q (Done row.graft row.peering))) sent
-    (ReportOut (record { graft = row.graft; outcome = Accepted }) ∷ []) part row.takes row.sends (λ m.
+      (ReportOut (record { graft = row.graft; outcome = Accepted }) ∷ []) part row.takes row.sends (λ m.
       let k : ℕ = row.graft in
       let n : ℕ = row.peering in
       let item : Mesh = Done k n in
@@ -295,9 +295,9 @@ module _ (setup : Setup) (w v : World) (r : ℕ) (owned : Owned setup w) where
               inward_taken = λ b. refl;
             })
             (λ phase s b.
-              let e = done_in phase n s q r k _ (own_head (is_on n) (w.mesh q r) m.heads.rest item m.heads.is (equal n) ∙ b.mesh q r) in
-              at_phase setup w v n phase (Busy r k q Landed) s e
-                (clear_own setup w v n r k q s part m (place_here before part n _ places) (ap (λ (x : RouterPart). x.entries n) row.effect ∙ at_here before.entries n map.empty)) b);
+            let e = done_in phase n s q r k _ (own_head (is_on n) (w.mesh q r) m.heads.rest item m.heads.is (equal n) ∙ b.mesh q r) in
+            at_phase setup w v n phase (Busy r k q Landed) s e
+            (clear_own setup w v n r k q s part m (place_here before part n _ places) (ap (λ (x : RouterPart). x.entries n) row.effect ∙ at_here before.entries n map.empty)) b);
         reports = λ a. one_report setup r a report (of_known setup n k own);
         room = λ l. le_trans _ _ _ (no_more_taken setup before part n _ places (ap is_taken row.shadow)) l;
       })

@@ -1,5 +1,5 @@
 -- The events of a graft at routers: each leads its peering from one phase to the next.
-use Rattle.std.proofs.Common.{◌≡◌, ◌==◌, cond, ℕ, ◌<◌, Bool, true, false, List, [], ◌∷◌, ◌++◌, Option, Some, None, refl, sym, ap, ◌∙◌, subst, arith}
+use Rattle.std.proofs.Common.{◌≡◌, ◌==◌, cond, ℕ, Bool, true, false, [], ◌∷◌, ◌++◌, Some, None, refl, ap, ◌∙◌, arith}
 use Rattle.std.proofs.lemmas.Bool.Decides.{nat_tests}
 use Rattle.std.proofs.lemmas.List.{append-nil}
 use Rattle.std.specs.Prelude.{◌≢◌, filter}
@@ -8,17 +8,17 @@ use Rattle.graft_steps.specs.declared.refusal.Refusal.{Refusal}
 use Rattle.graft_steps.specs.declared.refusal.Outcome.TheVariants.{Accepted, Refused}
 use Rattle.graft_steps.specs.Refusals.{freeze_refusal}
 use Rattle.session_value.specs.Sessions.{SessionValue, state, hold_time}
-use Rattle.graft_model.specs.Setups.{Setup, routers_in}
-use Rattle.graft_model.specs.Parts.{Order, Place, Vacant, Live, Frozen, Shadow, RouterPart, Mesh, Moved, Back, Done, PointAt, GraftOrder, Report, World}
-use Rattle.graft_model.specs.RouterRows.{RouterTaken, OrderIn, SegmentIn, MeshIn, RouterSent, MeshTo, OutwardTo, ReportOut, BringsIn}
+use Rattle.graft_model.specs.Setups.{Setup}
+use Rattle.graft_model.specs.Parts.{Place, Vacant, Live, Frozen, Shadow, RouterPart, Mesh, Moved, Back, Done, PointAt, GraftOrder, Report, World}
+use Rattle.graft_model.specs.RouterRows.{OrderIn, MeshIn, MeshTo, OutwardTo, ReportOut, BringsIn}
 use Rattle.graft_model.specs.GraftRows.{refusal_of}
-use Rattle.graft_laws.specs.Phases.{Stage, Ordered, Stored, Halted, Moving, Landed, Returning, Declined, Cleared, Phase, Idle, Busy, only, only2, place_by}
-use Rattle.graft_laws.specs.Log.{graft_at, is_of, LogSays}
+use Rattle.graft_laws.specs.Phases.{Ordered, Stored, Halted, Moving, Landed, Returning, Declined, Cleared, Busy, only, only2, place_by}
+use Rattle.graft_laws.specs.Log.{is_of}
 use Rattle.graft_laws.specs.Owned.{is_on, mesh_of, Stands}
 use Rattle.graft_laws.specs.Moves.{RouterMoves}
-use Rattle.graft_laws.specs.Life.{SameLine, LineGets, SameEntries, Enters, Drops, Change, Admits, Refuses, Freezes, Leaves, Lands, TurnsBack, Returns, Clears}
+use Rattle.graft_laws.specs.Life.{Admits, Refuses, Freezes, Leaves, Lands, TurnsBack, Returns, Clears}
 use Rattle.graft_laws.proofs.Logs.{log_on, own_known}
-use Rattle.graft_laws.proofs.Following.{Followed, own_only, own_only2, none_only, none_only2, Shifts, shifted, line_by_router, line_gets, same_entries, enters, drops}
+use Rattle.graft_laws.proofs.Following.{Followed, own_only, own_only2, shifted, line_by_router, line_gets, same_entries, enters, drops}
 
 pub equal : (n : ℕ) → (n == n) ≡ true
 equal n = grind (arith, nat_tests)
@@ -41,79 +41,79 @@ module _ (setup : Setup) (w v : World) (p q k t : ℕ) (s : SessionValue) (part 
   pub admit_own : RouterMoves q (Some (OrderIn (record { graft = k; peering = p; target = t }))) [] part w v → part.places p ≡ Live s (Some (record { graft = k; target = t })) → part.entries p ≡ (w.router q).entries p
       → Stands setup w p (Busy q k t Ordered) s → Followed setup w v p (Busy q k t Ordered) s
   admit_own m place entries b = record {
-      next = Busy q k t Stored;
-      session = s;
-      stands = shifted setup w v p q s (Some (OrderIn (record { graft = k; peering = p; target = t }))) [] part (Busy q k t Ordered) (Busy q k t Stored) m
-          (record {
-            places = λ x. place_now q x (part.places p) (Live s (Some (record { graft = k; target = t }))) (Live s None) place;
-            mesh_taken = λ i j. refl;
-            mesh_sent = λ i j. refl;
-            orders_taken = λ x. own_only (λ (o : GraftOrder). o.peering == p) (record { graft = k; peering = p; target = t }) q x (equal p);
-            no_order = λ x. refl;
-            no_report = λ x. refl;
-            reports_sent = λ x. refl;
-          }) b (log_on setup w.operator p q k t Ordered Stored b.log) b.bounds;
-      change = Admits (line_by_router w v p q _ [] part m (λ a. refl) (λ a. refl)) (same_entries w v p q part m.router entries);
-    }
+    next = Busy q k t Stored;
+    session = s;
+    stands = shifted setup w v p q s (Some (OrderIn (record { graft = k; peering = p; target = t }))) [] part (Busy q k t Ordered) (Busy q k t Stored) m
+        (record {
+          places = λ x. place_now q x (part.places p) (Live s (Some (record { graft = k; target = t }))) (Live s None) place;
+          mesh_taken = λ i j. refl;
+          mesh_sent = λ i j. refl;
+          orders_taken = λ x. own_only (λ (o : GraftOrder). o.peering == p) (record { graft = k; peering = p; target = t }) q x (equal p);
+          no_order = λ x. refl;
+          no_report = λ x. refl;
+          reports_sent = λ x. refl;
+        }) b (log_on setup w.operator p q k t Ordered Stored b.log) b.bounds;
+    change = Admits (line_by_router w v p q _ [] part m (λ a. refl) (λ a. refl)) (same_entries w v p q part m.router entries);
+  }
 
   -- the source refuses
   pub refuse_own : (refusal : Refusal) → RouterMoves q None (ReportOut (record { graft = k; outcome = Refused refusal }) ∷ []) part w v → part.places p ≡ Live s None → part.entries p ≡ (w.router q).entries p
       → freeze_refusal (record { 0 = q }) (record { 0 = t }) (state s) (hold_time s) ≡ Some refusal
       → Stands setup w p (Busy q k t Stored) s → Followed setup w v p (Busy q k t Stored) s
   refuse_own refusal m place entries cause b = record {
-      next = Busy q k t (Declined refusal);
-      session = s;
-      stands = shifted setup w v p q s None (ReportOut (record { graft = k; outcome = Refused refusal }) ∷ []) part (Busy q k t Stored) (Busy q k t (Declined refusal)) m
-          (record {
-            places = λ x. place_now q x (part.places p) (Live s None) (Live s (Some (record { graft = k; target = t }))) place;
-            mesh_taken = λ i j. refl;
-            mesh_sent = λ i j. refl;
-            orders_taken = λ x. refl;
-            no_order = λ x. refl;
-            no_report = λ x. refl;
-            reports_sent = λ x. own_report setup p q x (record { graft = k; outcome = Refused refusal }) (own_known setup p k t b.log.goes_on.known);
-          }) b (log_on setup w.operator p q k t Stored (Declined refusal) b.log) b.bounds;
-      change = Refuses cause (line_by_router w v p q None _ part m (λ a. refl) (λ a. refl)) (same_entries w v p q part m.router entries);
-    }
+    next = Busy q k t (Declined refusal);
+    session = s;
+    stands = shifted setup w v p q s None (ReportOut (record { graft = k; outcome = Refused refusal }) ∷ []) part (Busy q k t Stored) (Busy q k t (Declined refusal)) m
+        (record {
+          places = λ x. place_now q x (part.places p) (Live s None) (Live s (Some (record { graft = k; target = t }))) place;
+          mesh_taken = λ i j. refl;
+          mesh_sent = λ i j. refl;
+          orders_taken = λ x. refl;
+          no_order = λ x. refl;
+          no_report = λ x. refl;
+          reports_sent = λ x. own_report setup p q x (record { graft = k; outcome = Refused refusal }) (own_known setup p k t b.log.goes_on.known);
+        }) b (log_on setup w.operator p q k t Stored (Declined refusal) b.log) b.bounds;
+    change = Refuses cause (line_by_router w v p q None _ part m (λ a. refl) (λ a. refl)) (same_entries w v p q part m.router entries);
+  }
 
   -- the source freezes
   pub freeze_own : RouterMoves q None [] part w v → part.places p ≡ Frozen s (record { graft = k; target = t }) → part.entries p ≡ (w.router q).entries p
       → freeze_refusal (record { 0 = q }) (record { 0 = t }) (state s) (hold_time s) ≡ None → t ≢ q
       → Stands setup w p (Busy q k t Stored) s → Followed setup w v p (Busy q k t Stored) s
   freeze_own m place entries no_cause apart b = record {
-      next = Busy q k t Halted;
-      session = s;
-      stands = shifted setup w v p q s None [] part (Busy q k t Stored) (Busy q k t Halted) m
-          (record {
-            places = λ x. place_now q x (part.places p) (Frozen s (record { graft = k; target = t })) (Live s (Some (record { graft = k; target = t }))) place;
-            mesh_taken = λ i j. refl;
-            mesh_sent = λ i j. refl;
-            orders_taken = λ x. refl;
-            no_order = λ x. refl;
-            no_report = λ x. refl;
-            reports_sent = λ x. refl;
-          }) b (log_on setup w.operator p q k t Stored Halted b.log) (b.bounds.0, b.bounds.1, apart);
-      change = Freezes no_cause (line_by_router w v p q None [] part m (λ a. refl) (λ a. refl)) (same_entries w v p q part m.router entries);
-    }
+    next = Busy q k t Halted;
+    session = s;
+    stands = shifted setup w v p q s None [] part (Busy q k t Stored) (Busy q k t Halted) m
+        (record {
+          places = λ x. place_now q x (part.places p) (Frozen s (record { graft = k; target = t })) (Live s (Some (record { graft = k; target = t }))) place;
+          mesh_taken = λ i j. refl;
+          mesh_sent = λ i j. refl;
+          orders_taken = λ x. refl;
+          no_order = λ x. refl;
+          no_report = λ x. refl;
+          reports_sent = λ x. refl;
+        }) b (log_on setup w.operator p q k t Stored Halted b.log) (b.bounds.0, b.bounds.1, apart);
+    change = Freezes no_cause (line_by_router w v p q None [] part m (λ a. refl) (λ a. refl)) (same_entries w v p q part m.router entries);
+  }
 
   -- the session leaves
   pub leave_own : RouterMoves q None (MeshTo t (Moved k p s) ∷ []) part w v → part.places p ≡ Shadow k → part.entries p ≡ (w.router q).entries p
       → Stands setup w p (Busy q k t Halted) s → Followed setup w v p (Busy q k t Halted) s
   leave_own m place entries b = record {
-      next = Busy q k t Moving;
-      session = s;
-      stands = shifted setup w v p q s None (MeshTo t (Moved k p s) ∷ []) part (Busy q k t Halted) (Busy q k t Moving) m
-          (record {
-            places = λ x. place_now q x (part.places p) (Shadow k) (Frozen s (record { graft = k; target = t })) place;
-            mesh_taken = λ i j. refl;
-            mesh_sent = λ i j. own_sent p q t i j (Moved k p s) (equal p);
-            orders_taken = λ x. refl;
-            no_order = λ x. refl;
-            no_report = λ x. refl;
-            reports_sent = λ x. refl;
-          }) b (log_on setup w.operator p q k t Halted Moving b.log) b.bounds;
-      change = Leaves (line_by_router w v p q None _ part m (λ a. refl) (λ a. refl)) (same_entries w v p q part m.router entries);
-    }
+    next = Busy q k t Moving;
+    session = s;
+    stands = shifted setup w v p q s None (MeshTo t (Moved k p s) ∷ []) part (Busy q k t Halted) (Busy q k t Moving) m
+        (record {
+          places = λ x. place_now q x (part.places p) (Shadow k) (Frozen s (record { graft = k; target = t })) place;
+          mesh_taken = λ i j. refl;
+          mesh_sent = λ i j. own_sent p q t i j (Moved k p s) (equal p);
+          orders_taken = λ x. refl;
+          no_order = λ x. refl;
+          no_report = λ x. refl;
+          reports_sent = λ x. refl;
+        }) b (log_on setup w.operator p q k t Halted Moving b.log) b.bounds;
+    change = Leaves (line_by_router w v p q None _ part m (λ a. refl) (λ a. refl)) (same_entries w v p q part m.router entries);
+  }
 
   landed_place : (x : ℕ) (here : Place) → t ≢ q → here ≡ Live s None → cond (x == t) here (place_by (Busy q k t Moving) s x) ≡ place_by (Busy q k t Landed) s x
   landed_place x here apart e = ap (λ (y : Place). cond (x == t) y (place_by (Busy q k t Moving) s x)) e
@@ -122,21 +122,21 @@ module _ (setup : Setup) (w v : World) (p q k t : ℕ) (s : SessionValue) (part 
   pub land_own : RouterMoves t (Some (MeshIn q (Moved k p s))) (OutwardTo p (PointAt k) ∷ MeshTo q (Done k p) ∷ []) part w v → part.places p ≡ Live s None → BringsIn setup t s (part.entries p)
       → refusal_of setup t (w.router t) s ≡ None → Stands setup w p (Busy q k t Moving) s → Followed setup w v p (Busy q k t Moving) s
   land_own m place brings admitted b = record {
-      next = Busy q k t Landed;
-      session = s;
-      stands = shifted setup w v p t s (Some (MeshIn q (Moved k p s))) (OutwardTo p (PointAt k) ∷ MeshTo q (Done k p) ∷ []) part (Busy q k t Moving) (Busy q k t Landed) m
-          (record {
-            places = λ x. landed_place x (part.places p) b.bounds.2 place;
-            mesh_taken = λ i j. own_only2 (is_on p) (Moved k p s) q t i j (equal p);
-            mesh_sent = λ i j. own_sent p t q i j (Done k p) (equal p);
-            orders_taken = λ x. refl;
-            no_order = λ x. refl;
-            no_report = λ x. refl;
-            reports_sent = λ x. refl;
-          }) b (log_on setup w.operator p q k t Moving Landed b.log) b.bounds;
-      change = Lands admitted (line_gets w v p t _ _ part (PointAt k) m (λ a. (let e : only2 t p (PointAt k) a p ≡ only t (PointAt k) a = ap (λ c. cond (a == t) (cond c (PointAt k ∷ []) []) []) (equal p) in append-nil (only2 t p (PointAt k) a p) ∙ e)) (λ a. refl))
-          (enters setup w v p t s part m.router brings);
-    }
+    next = Busy q k t Landed;
+    session = s;
+    stands = shifted setup w v p t s (Some (MeshIn q (Moved k p s))) (OutwardTo p (PointAt k) ∷ MeshTo q (Done k p) ∷ []) part (Busy q k t Moving) (Busy q k t Landed) m
+        (record {
+          places = λ x. landed_place x (part.places p) b.bounds.2 place;
+          mesh_taken = λ i j. own_only2 (is_on p) (Moved k p s) q t i j (equal p);
+          mesh_sent = λ i j. own_sent p t q i j (Done k p) (equal p);
+          orders_taken = λ x. refl;
+          no_order = λ x. refl;
+          no_report = λ x. refl;
+          reports_sent = λ x. refl;
+        }) b (log_on setup w.operator p q k t Moving Landed b.log) b.bounds;
+    change = Lands admitted (line_gets w v p t _ _ part (PointAt k) m (λ a. (let e : only2 t p (PointAt k) a p ≡ only t (PointAt k) a = ap (λ c. cond (a == t) (cond c (PointAt k ∷ []) []) []) (equal p) in append-nil (only2 t p (PointAt k) a p) ∙ e)) (λ a. refl))
+        (enters setup w v p t s part m.router brings);
+  }
 
   turned_place : (x : ℕ) (here : Place) → t ≢ q → here ≡ Vacant → cond (x == t) here (cond (x == q) (Shadow k) Vacant) ≡ cond (x == q) (Shadow k) Vacant
   turned_place x here apart e = grind (arith, nat_tests)
@@ -145,39 +145,39 @@ module _ (setup : Setup) (w v : World) (p q k t : ℕ) (s : SessionValue) (part 
   pub turn_back_own : (refusal : Refusal) → RouterMoves t (Some (MeshIn q (Moved k p s))) (MeshTo q (Back k p s refusal) ∷ []) part w v → part.places p ≡ Vacant → part.entries p ≡ (w.router t).entries p
       → refusal_of setup t (w.router t) s ≡ Some refusal → Stands setup w p (Busy q k t Moving) s → Followed setup w v p (Busy q k t Moving) s
   turn_back_own refusal m place entries cause b = record {
-      next = Busy q k t (Returning refusal);
-      session = s;
-      stands = shifted setup w v p t s (Some (MeshIn q (Moved k p s))) (MeshTo q (Back k p s refusal) ∷ []) part (Busy q k t Moving) (Busy q k t (Returning refusal)) m
-          (record {
-            places = λ x. turned_place x (part.places p) b.bounds.2 place;
-            mesh_taken = λ i j. own_only2 (is_on p) (Moved k p s) q t i j (equal p);
-            mesh_sent = λ i j. own_sent p t q i j (Back k p s refusal) (equal p);
-            orders_taken = λ x. refl;
-            no_order = λ x. refl;
-            no_report = λ x. refl;
-            reports_sent = λ x. refl;
-          }) b (log_on setup w.operator p q k t Moving (Returning refusal) b.log) b.bounds;
-      change = TurnsBack cause (line_by_router w v p t _ _ part m (λ a. refl) (λ a. refl)) (same_entries w v p t part m.router entries);
-    }
+    next = Busy q k t (Returning refusal);
+    session = s;
+    stands = shifted setup w v p t s (Some (MeshIn q (Moved k p s))) (MeshTo q (Back k p s refusal) ∷ []) part (Busy q k t Moving) (Busy q k t (Returning refusal)) m
+        (record {
+          places = λ x. turned_place x (part.places p) b.bounds.2 place;
+          mesh_taken = λ i j. own_only2 (is_on p) (Moved k p s) q t i j (equal p);
+          mesh_sent = λ i j. own_sent p t q i j (Back k p s refusal) (equal p);
+          orders_taken = λ x. refl;
+          no_order = λ x. refl;
+          no_report = λ x. refl;
+          reports_sent = λ x. refl;
+        }) b (log_on setup w.operator p q k t Moving (Returning refusal) b.log) b.bounds;
+    change = TurnsBack cause (line_by_router w v p t _ _ part m (λ a. refl) (λ a. refl)) (same_entries w v p t part m.router entries);
+  }
 
   -- it is back at the source
   pub return_own : (refusal : Refusal) → RouterMoves q (Some (MeshIn t (Back k p s refusal))) (ReportOut (record { graft = k; outcome = Refused refusal }) ∷ []) part w v → part.places p ≡ Live s None
       → part.entries p ≡ (w.router q).entries p → Stands setup w p (Busy q k t (Returning refusal)) s → Followed setup w v p (Busy q k t (Returning refusal)) s
   return_own refusal m place entries b = record {
-      next = Busy q k t (Declined refusal);
-      session = s;
-      stands = shifted setup w v p q s (Some (MeshIn t (Back k p s refusal))) (ReportOut (record { graft = k; outcome = Refused refusal }) ∷ []) part (Busy q k t (Returning refusal)) (Busy q k t (Declined refusal)) m
-          (record {
-            places = λ x. place_now q x (part.places p) (Live s None) (Shadow k) place;
-            mesh_taken = λ i j. own_only2 (is_on p) (Back k p s refusal) t q i j (equal p);
-            mesh_sent = λ i j. refl;
-            orders_taken = λ x. refl;
-            no_order = λ x. refl;
-            no_report = λ x. refl;
-            reports_sent = λ x. own_report setup p q x (record { graft = k; outcome = Refused refusal }) (own_known setup p k t b.log.goes_on.known);
-          }) b (log_on setup w.operator p q k t (Returning refusal) (Declined refusal) b.log) (b.bounds.0, b.bounds.1, tt);
-      change = Returns (line_by_router w v p q _ _ part m (λ a. refl) (λ a. refl)) (same_entries w v p q part m.router entries);
-    }
+    next = Busy q k t (Declined refusal);
+    session = s;
+    stands = shifted setup w v p q s (Some (MeshIn t (Back k p s refusal))) (ReportOut (record { graft = k; outcome = Refused refusal }) ∷ []) part (Busy q k t (Returning refusal)) (Busy q k t (Declined refusal)) m
+        (record {
+          places = λ x. place_now q x (part.places p) (Live s None) (Shadow k) place;
+          mesh_taken = λ i j. own_only2 (is_on p) (Back k p s refusal) t q i j (equal p);
+          mesh_sent = λ i j. refl;
+          orders_taken = λ x. refl;
+          no_order = λ x. refl;
+          no_report = λ x. refl;
+          reports_sent = λ x. own_report setup p q x (record { graft = k; outcome = Refused refusal }) (own_known setup p k t b.log.goes_on.known);
+        }) b (log_on setup w.operator p q k t (Returning refusal) (Declined refusal) b.log) (b.bounds.0, b.bounds.1, tt);
+    change = Returns (line_by_router w v p q _ _ part m (λ a. refl) (λ a. refl)) (same_entries w v p q part m.router entries);
+  }
 
   cleared_place : (x : ℕ) (here : Place) → t ≢ q → here ≡ Vacant → cond (x == q) here (cond (x == t) (Live s None) (cond (x == q) (Shadow k) Vacant)) ≡ cond (x == t) (Live s None) Vacant
   cleared_place x here apart e = grind (arith, nat_tests)
@@ -186,17 +186,17 @@ module _ (setup : Setup) (w v : World) (p q k t : ℕ) (s : SessionValue) (part 
   pub clear_own : RouterMoves q (Some (MeshIn t (Done k p))) (ReportOut (record { graft = k; outcome = Accepted }) ∷ []) part w v → part.places p ≡ Vacant → part.entries p ≡ map.empty
       → Stands setup w p (Busy q k t Landed) s → Followed setup w v p (Busy q k t Landed) s
   clear_own m place none b = record {
-      next = Busy q k t Cleared;
-      session = s;
-      stands = shifted setup w v p q s (Some (MeshIn t (Done k p))) (ReportOut (record { graft = k; outcome = Accepted }) ∷ []) part (Busy q k t Landed) (Busy q k t Cleared) m
-          (record {
-            places = λ x. cleared_place x (part.places p) b.bounds.2 place;
-            mesh_taken = λ i j. own_only2 (is_on p) (Done k p) t q i j (equal p);
-            mesh_sent = λ i j. refl;
-            orders_taken = λ x. refl;
-            no_order = λ x. refl;
-            no_report = λ x. refl;
-            reports_sent = λ x. own_report setup p q x (record { graft = k; outcome = Accepted }) (own_known setup p k t b.log.goes_on.known);
-          }) b (log_on setup w.operator p q k t Landed Cleared b.log) b.bounds;
-      change = Clears (line_by_router w v p q _ _ part m (λ a. refl) (λ a. refl)) (drops w v p q part m.router none);
-    }
+    next = Busy q k t Cleared;
+    session = s;
+    stands = shifted setup w v p q s (Some (MeshIn t (Done k p))) (ReportOut (record { graft = k; outcome = Accepted }) ∷ []) part (Busy q k t Landed) (Busy q k t Cleared) m
+        (record {
+          places = λ x. cleared_place x (part.places p) b.bounds.2 place;
+          mesh_taken = λ i j. own_only2 (is_on p) (Done k p) t q i j (equal p);
+          mesh_sent = λ i j. refl;
+          orders_taken = λ x. refl;
+          no_order = λ x. refl;
+          no_report = λ x. refl;
+          reports_sent = λ x. own_report setup p q x (record { graft = k; outcome = Accepted }) (own_known setup p k t b.log.goes_on.known);
+        }) b (log_on setup w.operator p q k t Landed Cleared b.log) b.bounds;
+    change = Clears (line_by_router w v p q _ _ part m (λ a. refl) (λ a. refl)) (drops w v p q part m.router none);
+  }

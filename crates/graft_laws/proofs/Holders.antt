@@ -1,19 +1,19 @@
 -- A peering that stands somewhere has one session in the world.
-use Rattle.std.proofs.Common.{◌≡◌, ◌==◌, cond, ℕ, zero, suc, ◌<◌, ◌≤◌, ◌+◌, Bool, true, false, List, [], ◌∷◌, ◌++◌, length, Option, Some, None, refl, sym, ap, ◌∙◌, subst, arith}
+use Rattle.std.proofs.Common.{◌≡◌, ◌==◌, cond, ℕ, zero, suc, ◌<◌, ◌≤◌, ◌+◌, Bool, true, false, List, [], ◌∷◌, ◌++◌, refl, ap, ◌∙◌, arith}
 use Rattle.std.proofs.lemmas.Bool.Decides.{nat_tests}
 use Rattle.std.proofs.lemmas.List.{append-nil}
 use Rattle.std.specs.Prelude.{◌≢◌}
 use Rattle.std.specs.List.{flat_map, range_with_len}
 use Rattle.session_value.specs.Sessions.{SessionValue}
-use Rattle.graft_model.specs.Setups.{Setup, routers_in, peerings_in, router_numbers}
+use Rattle.graft_model.specs.Setups.{Setup, routers_in, router_numbers}
 use Rattle.graft_model.specs.Parts.{Mesh, Told, Moved, Back, Done, World}
 use Rattle.graft_model.specs.Claims.{sessions_at, sessions_on, sessions_of}
-use Rattle.graft_laws.specs.Phases.{Stage, Ordered, Stored, Halted, Moving, Landed, Returning, Declined, Cleared, Phase, Idle, Busy, place_by, mesh_by, InBounds}
-use Rattle.graft_laws.specs.Owned.{is_on, mesh_of, Stands}
+use Rattle.graft_laws.specs.Phases.{Ordered, Stored, Halted, Moving, Landed, Returning, Declined, Cleared, Phase, Idle, Busy, place_by, mesh_by, InBounds}
+use Rattle.graft_laws.specs.Owned.{mesh_of, Stands}
 
 -- ---- lists joined over numbers
 
-flat_same : {A : Type 0} (f g : ℕ → List A) (xs : List ℕ) → ((k : ℕ) → f k ≡ g k) → flat_map f xs ≡ flat_map g xs
+pub flat_same : {A : Type 0} (f g : ℕ → List A) (xs : List ℕ) → ((k : ℕ) → f k ≡ g k) → flat_map f xs ≡ flat_map g xs
 flat_same f g [] h = refl
 flat_same f g (x ∷ xs) h = cc (h x, flat_same f g xs h)
 
@@ -64,7 +64,7 @@ item_step p (Done k q) items h = by_test (q == p) where
   by_test false = h
 
 -- the sessions of a peering are those of its own items
-items_of : (p : ℕ) (items : List Mesh) → flat_map (sessions_on p) items ≡ flat_map (sessions_on p) (mesh_of p items)
+pub items_of : (p : ℕ) (items : List Mesh) → flat_map (sessions_on p) items ≡ flat_map (sessions_on p) (mesh_of p items)
 items_of p [] = refl
 items_of p (x ∷ items) = item_step p x items (items_of p items)
 
@@ -105,9 +105,9 @@ one_by setup (Busy q k t Cleared) p s l = at_router _ (Busy q k t Cleared) p t s
 pub one_session : (setup : Setup) (w : World) (p : ℕ) (phase : Phase) (s : SessionValue) → Stands setup w p phase s → sessions_of setup w p ≡ s ∷ []
 one_session setup w p phase s b =
     let held : flat_map (λ r. sessions_at ((w.router r).places p)) (router_numbers setup) ≡ flat_map (held_by phase s) (router_numbers setup) =
-        flat_same (λ r. sessions_at ((w.router r).places p)) (held_by phase s) (router_numbers setup) (λ r. ap sessions_at (b.places r)) in
+    flat_same (λ r. sessions_at ((w.router r).places p)) (held_by phase s) (router_numbers setup) (λ r. ap sessions_at (b.places r)) in
     let moves : flat_map (λ a. flat_map (λ c. flat_map (sessions_on p) (w.mesh a c)) (router_numbers setup)) (router_numbers setup) ≡ flat_map (λ a. flat_map (moves_by phase p s a) (router_numbers setup)) (router_numbers setup) =
-        flat_same (λ a. flat_map (λ c. flat_map (sessions_on p) (w.mesh a c)) (router_numbers setup)) (λ a. flat_map (moves_by phase p s a) (router_numbers setup)) (router_numbers setup)
-        (λ a. flat_same (λ c. flat_map (sessions_on p) (w.mesh a c)) (moves_by phase p s a) (router_numbers setup) (λ c. items_of p (w.mesh a c) ∙ ap (flat_map (sessions_on p)) (b.mesh a c))) in
+    flat_same (λ a. flat_map (λ c. flat_map (sessions_on p) (w.mesh a c)) (router_numbers setup)) (λ a. flat_map (moves_by phase p s a) (router_numbers setup)) (router_numbers setup)
+    (λ a. flat_same (λ c. flat_map (sessions_on p) (w.mesh a c)) (moves_by phase p s a) (router_numbers setup) (λ c. items_of p (w.mesh a c) ∙ ap (flat_map (sessions_on p)) (b.mesh a c))) in
     ap (λ (x : List SessionValue). x ++ flat_map (λ a. flat_map (λ c. flat_map (sessions_on p) (w.mesh a c)) (router_numbers setup)) (router_numbers setup)) held
     ∙ (ap (λ (x : List SessionValue). flat_map (held_by phase s) (router_numbers setup) ++ x) moves ∙ one_by setup phase p s b.bounds)

@@ -1,23 +1,22 @@
 -- The log when the outcome of a graft is noted.
-use Rattle.std.proofs.Common.{◌≡◌, ◌==◌, cond, ℕ, ◌<◌, ◌+◌, Bool, true, false, List, [], ◌∷◌, ◌++◌, Option, Some, None, refl, sym, ap, ◌∙◌, subst, arith, append_assoc}
+use Rattle.std.proofs.Common.{◌≡◌, ◌==◌, cond, ℕ, Bool, true, false, List, [], ◌∷◌, ◌++◌, Option, Some, None, refl, sym, ap, ◌∙◌, subst, arith, append_assoc}
 use Rattle.std.proofs.lemmas.Bool.Decides.{nat_tests}
 use Rattle.std.proofs.lemmas.List.Elements.{filter-append}
-use Rattle.std.proofs.lemmas.List.{append-nil}
-use Rattle.std.specs.Prelude.{◌≢◌, ◌&&◌, filter, map, slice_get, is_some, unwrap_or}
+use Rattle.std.specs.Prelude.{◌≢◌, ◌&&◌, filter, map, unwrap_or}
 use Rattle.std.specs.List.{AllByRecursion, last_or}
 use Rattle.graft_steps.specs.declared.refusal.Refusal.{Refusal}
 use Rattle.graft_steps.specs.declared.refusal.Outcome.{Outcome}
 use Rattle.graft_steps.specs.declared.refusal.Outcome.TheVariants.{Accepted, Refused}
 use Rattle.graft_model.specs.Points.{at}
-use Rattle.graft_model.specs.Setups.{Setup, ScriptGraft, MoveStep, grafts_in, graft_number, start_of}
+use Rattle.graft_model.specs.Setups.{Setup, ScriptGraft, grafts_in, start_of}
 use Rattle.graft_model.specs.Parts.{OperatorPart}
 use Rattle.graft_model.specs.OperatorRows.{placement, is_accepted}
-use Rattle.graft_laws.specs.Phases.{Stage, Phase, Idle, Busy, source_of, under_way}
-use Rattle.graft_laws.specs.Log.{grafts_of, graft_at, is_of, HasEnded, Waits, GoesOn, GoesOnIn, LogSays}
+use Rattle.graft_laws.specs.Phases.{Stage, Idle, Busy}
+use Rattle.graft_laws.specs.Log.{grafts_of, is_of, HasEnded, Waits, LogSays}
 use Rattle.graft_laws.proofs.Lists.{all_of, all_map, all_join, filter_same, filter_twice, filter_none, last_end}
-use Rattle.graft_laws.proofs.Numbers.{the_graft, one_peering}
+use Rattle.graft_laws.proofs.Numbers.{the_graft}
 use Rattle.graft_laws.proofs.Others.{SameLog}
-use Rattle.graft_laws.proofs.Logs.{own_known, counts}
+use Rattle.graft_laws.proofs.Logs.{counts}
 
 -- where the session belongs then
 abbrev pub ends_at : Outcome → ℕ → ℕ → ℕ
@@ -31,10 +30,10 @@ module _ (setup : Setup) (before : OperatorPart) (p k : ℕ) (outcome : Outcome)
   -- what the note does to the log of another peering
   pub note_others : is_of setup p k ≡ false → SameLog setup p before with_outcome
   note_others not_own = record {
-      source = λ j own. refl;
-      outcome = λ j own. let differs : j ≢ k = (λ (is : j ≡ k). (let e : is_of setup p k ≡ true = subst (λ (x : ℕ). is_of setup p x ≡ true) is own in absurd cc)) in grind (arith, nat_tests);
-      issued = λ n t e. refl;
-    }
+    source = λ j own. refl;
+    outcome = λ j own. let differs : j ≢ k = (λ (is : j ≡ k). (let e : is_of setup p k ≡ true = subst (λ (x : ℕ). is_of setup p x ≡ true) is own in absurd cc)) in grind (arith, nat_tests);
+    issued = λ n t e. refl;
+  }
 
   ended_then : (g : ScriptGraft) → HasEnded before g → HasEnded with_outcome g
   ended_then g was = record { ordered = was.ordered; ended = λ none. was.ended (grind (arith, nat_tests)) }
@@ -75,21 +74,21 @@ module _ (setup : Setup) (before : OperatorPart) (p q k t : ℕ) (stage : Stage)
 
   ended_here : HasEnded then g
   ended_here = record {
-      ordered = λ none. (let e : Some q ≡ None = sym log.goes_on.ordered ∙ none in absurd cc);
-      ended = λ none. (let e : then.outcome k ≡ Some outcome = grind (arith, nat_tests) in let f : Some outcome ≡ None = sym e ∙ none in absurd cc);
-    }
+    ordered = λ none. (let e : Some q ≡ None = sym log.goes_on.ordered ∙ none in absurd cc);
+    ended = λ none. (let e : then.outcome k ≡ Some outcome = grind (arith, nat_tests) in let f : Some outcome ≡ None = sym e ∙ none in absurd cc);
+  }
 
   log_then : (final : ℕ) → placement setup then p ≡ final → LogSays setup then p (Idle final)
   log_then final placed = record {
-      past = log.past ++ g ∷ [];
-      later = log.later;
-      grafts = log.grafts ∙ sym (append_assoc log.past (g ∷ []) log.later);
-      have_ended = all_join (HasEnded then) log.past (g ∷ []) (all_map (HasEnded before) (HasEnded then) log.past (ended_then setup before p k outcome) log.have_ended) (ended_here, tt);
-      goes_on = tt;
-      wait = wait_then;
-      placed = placed;
-      issued = log.issued;
-    }
+    past = log.past ++ g ∷ [];
+    later = log.later;
+    grafts = log.grafts ∙ sym (append_assoc log.past (g ∷ []) log.later);
+    have_ended = all_join (HasEnded then) log.past (g ∷ []) (all_map (HasEnded before) (HasEnded then) log.past (ended_then setup before p k outcome) log.have_ended) (ended_here, tt);
+    goes_on = tt;
+    wait = wait_then;
+    placed = placed;
+    issued = log.issued;
+  }
 
 -- ---- a graft that was refused
 
@@ -107,8 +106,8 @@ module _ (setup : Setup) (before : OperatorPart) (p q k t : ℕ) (stage : Stage)
   pub refused_log : LogSays setup (with_outcome setup before p k (Refused refusal)) p (Idle q)
   refused_log = log_then setup before p q k t stage (Refused refusal) log q
       (ap (λ (gs : List ScriptGraft). unwrap_or (last_or None (map (λ g. g.target) gs)) (start_of setup p))
-          (filter_same (counts p (at before.outcome k (Some (Refused refusal)))) (counts p before.outcome) (grafts_in setup)
-          (all_of (λ (x : ScriptGraft). counts p (at before.outcome k (Some (Refused refusal))) x ≡ counts p before.outcome x) (grafts_in setup) (λ x. ap (λ b. (x.peering == p) && b) (counts_alike x))))
+      (filter_same (counts p (at before.outcome k (Some (Refused refusal)))) (counts p before.outcome) (grafts_in setup)
+      (all_of (λ (x : ScriptGraft). counts p (at before.outcome k (Some (Refused refusal))) x ≡ counts p before.outcome x) (grafts_in setup) (λ x. ap (λ b. (x.peering == p) && b) (counts_alike x))))
       ∙ log.placed)
 
 -- ---- a graft that succeeded

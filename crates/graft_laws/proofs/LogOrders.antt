@@ -1,18 +1,18 @@
 -- The log when a graft is ordered.
-use Rattle.std.proofs.Common.{◌≡◌, ◌==◌, cond, ℕ, zero, suc, ◌<◌, ◌+◌, ◌≤◌, Bool, true, false, List, [], ◌∷◌, ◌++◌, length, take, drop, Option, Some, None, refl, sym, ap, ◌∙◌, subst, arith, append_assoc, inl, inr}
+use Rattle.std.proofs.Common.{◌≡◌, ◌==◌, ℕ, zero, suc, ◌<◌, ◌+◌, Bool, true, false, List, [], ◌∷◌, ◌++◌, length, take, drop, Option, Some, None, refl, sym, ap, ◌∙◌, subst, arith}
 use Rattle.std.proofs.lemmas.Bool.Decides.{nat_tests}
-use Rattle.std.specs.Prelude.{◌≢◌, ◌⊎◌, filter, slice_get, is_some}
+use Rattle.std.specs.Prelude.{◌≢◌, slice_get, is_some}
 use Rattle.std.specs.List.{AllByRecursion}
 use Rattle.graft_model.specs.Points.{at}
 use Rattle.graft_model.specs.Setups.{Setup, ScriptStep, ScriptGraft, MoveStep, grafts_after, graft_number}
 use Rattle.graft_model.specs.Parts.{OperatorPart}
-use Rattle.graft_model.specs.OperatorRows.{placement, OrdersGraft}
-use Rattle.graft_laws.specs.Phases.{Stage, Ordered, Phase, Idle, Busy, source_of, under_way}
-use Rattle.graft_laws.specs.Log.{grafts_of, graft_at, is_of, HasEnded, Waits, GoesOn, GoesOnIn, LogSays}
+use Rattle.graft_model.specs.OperatorRows.{placement}
+use Rattle.graft_laws.specs.Phases.{Ordered, Phase, Idle, Busy, source_of, under_way}
+use Rattle.graft_laws.specs.Log.{is_of, HasEnded, Waits, GoesOnIn, LogSays}
 use Rattle.graft_laws.proofs.Lists.{all_map, all_both, filter_all, filter_tests}
 use Rattle.graft_laws.proofs.Numbers.{the_graft, all_above, all_steps, step_known, split_of, earlier_grafts, later_grafts, other_number, one_peering}
 use Rattle.graft_laws.proofs.Others.{SameLog}
-use Rattle.graft_laws.proofs.Logs.{own_known, own_step}
+use Rattle.graft_laws.proofs.Logs.{own_step}
 
 -- ---- which graft comes next
 
@@ -127,10 +127,10 @@ module _ (setup : Setup) (before : OperatorPart) (n p t q : ℕ) (step : slice_g
   -- what the order does to the log of another peering
   pub order_others : (other : ℕ) → other ≢ p → SameLog setup other before with_order
   order_others other ne = record {
-      source = λ k own. let differs : k ≢ number = (λ (is : k ≡ number). ne (one_peering setup other p number (subst (λ (x : ℕ). is_of setup other x ≡ true) is own) (own_step setup n p t step))) in grind (arith, nat_tests);
-      outcome = λ k own. refl;
-      issued = λ m u e. let differs : m ≢ n = (λ (is : m ≡ n). ne (let f : Some (MoveStep other u) ≡ Some (MoveStep p t) = sym e ∙ (ap (slice_get setup.steps) is ∙ step) in cc)) in grind (arith, nat_tests);
-    }
+    source = λ k own. let differs : k ≢ number = (λ (is : k ≡ number). ne (one_peering setup other p number (subst (λ (x : ℕ). is_of setup other x ≡ true) is own) (own_step setup n p t step))) in grind (arith, nat_tests);
+    outcome = λ k own. refl;
+    issued = λ m u e. let differs : m ≢ n = (λ (is : m ≡ n). ne (let f : Some (MoveStep other u) ≡ Some (MoveStep p t) = sym e ∙ (ap (slice_get setup.steps) is ∙ step) in cc)) in grind (arith, nat_tests);
+  }
 
 -- what it says of its own peering before, and after it
 pub record OrderSays (setup : Setup) (before after : OperatorPart) (p k t : ℕ) (phase : Phase) : Type 0 where
@@ -177,6 +177,6 @@ module _ (setup : Setup) (before : OperatorPart) (n p t : ℕ) (step : slice_get
 
   pub order_own : (phase : Phase) → LogSays setup before p phase → OrderSays setup before ordered p k t phase
   order_own phase log = record {
-      was = idle_if_none phase p (first phase log).none ∙ ap Idle (sym log.placed);
-      log = log_with phase log;
-    }
+    was = idle_if_none phase p (first phase log).none ∙ ap Idle (sym log.placed);
+    log = log_with phase log;
+  }

@@ -1,21 +1,16 @@
 -- The operator's log of a peering's grafts, through the operator's events.
-use Rattle.std.proofs.Common.{◌≡◌, ◌==◌, cond, ℕ, zero, suc, ◌<◌, ◌+◌, Bool, true, false, List, [], ◌∷◌, ◌++◌, length, take, drop, Option, Some, None, refl, sym, ap, ◌∙◌, subst, arith, append_assoc}
+use Rattle.std.proofs.Common.{◌≡◌, ◌==◌, ℕ, Bool, true, false, List, ◌++◌, Option, Some, None, refl, sym, ap, ◌∙◌, subst, arith}
 use Rattle.std.proofs.lemmas.Bool.Decides.{nat_tests}
-use Rattle.std.proofs.lemmas.List.Elements.{filter-append}
-use Rattle.std.proofs.lemmas.List.{append-nil}
-use Rattle.std.specs.Prelude.{◌≢◌, ◌&&◌, filter, map, slice_get, is_some, unwrap_or}
+use Rattle.std.specs.Prelude.{◌&&◌, map, slice_get, is_some, unwrap_or}
 use Rattle.std.specs.List.{AllByRecursion, last_or}
-use Rattle.graft_steps.specs.declared.refusal.Refusal.{Refusal}
 use Rattle.graft_steps.specs.declared.refusal.Outcome.{Outcome}
-use Rattle.graft_steps.specs.declared.refusal.Outcome.TheVariants.{Accepted, Refused}
-use Rattle.graft_model.specs.Points.{at}
-use Rattle.graft_model.specs.Setups.{Setup, ScriptGraft, MoveStep, grafts_in, grafts_after, graft_number, start_of}
+use Rattle.graft_model.specs.Setups.{Setup, ScriptGraft, MoveStep, grafts_in, graft_number, start_of}
 use Rattle.graft_model.specs.Parts.{OperatorPart}
 use Rattle.graft_model.specs.OperatorRows.{placement, is_accepted}
-use Rattle.graft_laws.specs.Phases.{Stage, Ordered, Phase, Idle, Busy, source_of, under_way}
-use Rattle.graft_laws.specs.Log.{grafts_of, graft_at, is_peering, is_of, HasEnded, Waits, GoesOn, GoesOnIn, LogSays}
-use Rattle.graft_laws.proofs.Lists.{all_map, all_both, all_front, all_back, all_join, all_of, filter_all, filter_tests, filter_same, filter_twice, filter_none, last_end}
-use Rattle.graft_laws.proofs.Numbers.{the_graft, known_all, all_own, one_peering, all_above, step_known, split_of, earlier_grafts, later_grafts, other_number}
+use Rattle.graft_laws.specs.Phases.{Stage, Phase, Idle, Busy, under_way}
+use Rattle.graft_laws.specs.Log.{graft_at, is_peering, is_of, HasEnded, Waits, GoesOnIn, LogSays}
+use Rattle.graft_laws.proofs.Lists.{all_map, all_both, all_front, all_back, filter_same}
+use Rattle.graft_laws.proofs.Numbers.{the_graft, known_all, all_own, step_known}
 use Rattle.graft_laws.proofs.Others.{SameLog}
 
 -- ---- what is the graft's own

@@ -1,18 +1,18 @@
 -- A step of the world in equations, channel by channel.
-use Rattle.std.proofs.Common.{◌≡◌, ◌==◌, ℕ, Bool, true, false, cond, List, [], ◌∷◌, ◌++◌, Option, Some, None, refl, sym, ap, ◌∙◌, subst, arith, append_assoc}
-use Rattle.std.specs.Prelude.{fold, if◌then◌else◌}
+use Rattle.std.proofs.Common.{◌≡◌, ℕ, List, [], ◌∷◌, ◌++◌, Option, Some, None, refl, sym, ap, ◌∙◌, arith, append_assoc}
+use Rattle.std.specs.Prelude.{fold}
 use Rattle.std.proofs.lemmas.Bool.Decides.{nat_tests}
 use Rattle.std.proofs.lemmas.List.{append-nil}
 use Rattle.tcp_seq.specs.Endpoint.{PlacedSegment}
 use Rattle.graft_model.specs.Points.{at, at2}
 use Rattle.graft_model.specs.Setups.{Setup}
-use Rattle.graft_model.specs.Parts.{RouterPart, FarPart, OperatorPart, Mesh, Outward, GraftOrder, Report, World}
+use Rattle.graft_model.specs.Parts.{RouterPart, FarPart, Outward, GraftOrder, Report, World}
 use Rattle.graft_model.specs.RouterRows.{RouterTaken, OrderIn, SegmentIn, MeshIn, RouterSent, MeshTo, OutwardTo, ReportOut}
 use Rattle.graft_model.specs.FarRows.{FarTaken, OutwardIn, SayIn, FarSent}
 use Rattle.graft_model.specs.OperatorRows.{OperatorTaken, ReportIn, OperatorSent, OrderTo, SayTo}
-use Rattle.graft_model.specs.Steps.{RouterEvent, FarEvent, OperatorEvent, Heads, RouterTook, FarTook, OperatorTook, router_sends, far_sends, operator_sends, RouterStep, FarStep, OperatorStep}
+use Rattle.graft_model.specs.Steps.{RouterEvent, FarEvent, OperatorEvent, RouterTook, FarTook, OperatorTook, router_sends, far_sends, operator_sends, RouterStep, FarStep, OperatorStep}
 use Rattle.graft_laws.specs.Phases.{only, only2}
-use Rattle.graft_laws.specs.Moves.{mesh_taken, inward_taken, orders_taken, mesh_sent, outward_sent, reports_sent, RouterHeads, RouterMoves, outward_taken, says_taken, inward_sent, FarHeads, FarMoves, reports_taken, orders_sent, says_sent, OperatorHeads, OperatorMoves}
+use Rattle.graft_laws.specs.Moves.{mesh_taken, inward_taken, orders_taken, mesh_sent, outward_sent, reports_sent, RouterHeads, RouterMoves, outward_taken, says_taken, inward_sent, FarHeads, FarMoves, orders_sent, says_sent, OperatorMoves}
 
 -- ---- one channel, of any kind of item
 
@@ -49,26 +49,51 @@ record Sends (r : ℕ) (sent : List RouterSent) (w v : World) : Type 0 where
 
 sends_more : (r : ℕ) (item : RouterSent) (sent : List RouterSent) (w v : World) → Sends r sent (router_sends r w item) v → Sends r (item ∷ sent) w v
 sends_more r (MeshTo q item) sent w v s = record {
-    router = s.router; far = s.far; operator = s.operator;
-    mesh = λ a b. then_others (w.mesh a b) (only2 r q item a b) (mesh_sent r sent a b) (v.mesh a b) _ (put2 w.mesh r q a b item) (s.mesh a b);
-    outward = s.outward; inward = s.inward; orders = s.orders; reports = s.reports; says = s.says;
-  }
+  router = s.router;
+  far = s.far;
+  operator = s.operator;
+  mesh = λ a b. then_others (w.mesh a b) (only2 r q item a b) (mesh_sent r sent a b) (v.mesh a b) _ (put2 w.mesh r q a b item) (s.mesh a b);
+  outward = s.outward;
+  inward = s.inward;
+  orders = s.orders;
+  reports = s.reports;
+  says = s.says;
+}
 sends_more r (OutwardTo q item) sent w v s = record {
-    router = s.router; far = s.far; operator = s.operator; mesh = s.mesh;
-    outward = λ a p. then_others (w.outward a p) (only2 r q item a p) (outward_sent r sent a p) (v.outward a p) _ (put2 w.outward r q a p item) (s.outward a p);
-    inward = s.inward; orders = s.orders; reports = s.reports; says = s.says;
-  }
+  router = s.router;
+  far = s.far;
+  operator = s.operator;
+  mesh = s.mesh;
+  outward = λ a p. then_others (w.outward a p) (only2 r q item a p) (outward_sent r sent a p) (v.outward a p) _ (put2 w.outward r q a p item) (s.outward a p);
+  inward = s.inward;
+  orders = s.orders;
+  reports = s.reports;
+  says = s.says;
+}
 sends_more r (ReportOut report) sent w v s = record {
-    router = s.router; far = s.far; operator = s.operator; mesh = s.mesh; outward = s.outward; inward = s.inward; orders = s.orders;
-    reports = λ a. then_others (w.reports a) (only r report a) (reports_sent r sent a) (v.reports a) _ (put1 w.reports r a report) (s.reports a);
-    says = s.says;
-  }
+  router = s.router;
+  far = s.far;
+  operator = s.operator;
+  mesh = s.mesh;
+  outward = s.outward;
+  inward = s.inward;
+  orders = s.orders;
+  reports = λ a. then_others (w.reports a) (only r report a) (reports_sent r sent a) (v.reports a) _ (put1 w.reports r a report) (s.reports a);
+  says = s.says;
+}
 
 sends : (r : ℕ) (sent : List RouterSent) (w v : World) → v ≡ fold (router_sends r) w sent → Sends r sent w v
 sends r [] w v is = rw is (record {
-    router = refl; far = refl; operator = refl; mesh = λ a b. sym (append-nil (w.mesh a b)); outward = λ a p. sym (append-nil (w.outward a p));
-    inward = refl; orders = refl; reports = λ a. sym (append-nil (w.reports a)); says = refl;
-  })
+  router = refl;
+  far = refl;
+  operator = refl;
+  mesh = λ a b. sym (append-nil (w.mesh a b));
+  outward = λ a p. sym (append-nil (w.outward a p));
+  inward = refl;
+  orders = refl;
+  reports = λ a. sym (append-nil (w.reports a));
+  says = refl;
+})
 sends r (item ∷ sent) w v is = sends_more r item sent w v (sends r sent (router_sends r w item) v is)
 
 record Takes (r : ℕ) (taken : Option RouterTaken) (w u : World) : Type 0 where
@@ -86,17 +111,41 @@ record Takes (r : ℕ) (taken : Option RouterTaken) (w u : World) : Type 0 where
 takes : (r : ℕ) (taken : Option RouterTaken) (w u : World) → RouterTook w r taken u → Takes r taken w u
 takes r None w u is = rw is (record { heads = tt; router = refl; far = refl; operator = refl; mesh = λ a b. refl; outward = refl; inward = λ p b. refl; orders = λ b. refl; reports = refl; says = refl })
 takes r (Some (OrderIn order)) w u (h, is) = rw is (record {
-    heads = h; router = refl; far = refl; operator = refl; mesh = λ a b. refl; outward = refl; inward = λ p b. refl;
-    orders = λ b. cut1 w.orders r b order h.rest h.is; reports = refl; says = refl;
-  })
+  heads = h;
+  router = refl;
+  far = refl;
+  operator = refl;
+  mesh = λ a b. refl;
+  outward = refl;
+  inward = λ p b. refl;
+  orders = λ b. cut1 w.orders r b order h.rest h.is;
+  reports = refl;
+  says = refl;
+})
 takes r (Some (SegmentIn p segment)) w u (h, is) = rw is (record {
-    heads = h; router = refl; far = refl; operator = refl; mesh = λ a b. refl; outward = refl;
-    inward = λ q b. cut2 w.inward p r q b segment h.rest h.is; orders = λ b. refl; reports = refl; says = refl;
-  })
+  heads = h;
+  router = refl;
+  far = refl;
+  operator = refl;
+  mesh = λ a b. refl;
+  outward = refl;
+  inward = λ q b. cut2 w.inward p r q b segment h.rest h.is;
+  orders = λ b. refl;
+  reports = refl;
+  says = refl;
+})
 takes r (Some (MeshIn q item)) w u (h, is) = rw is (record {
-    heads = h; router = refl; far = refl; operator = refl; mesh = λ a b. cut2 w.mesh q r a b item h.rest h.is; outward = refl;
-    inward = λ p b. refl; orders = λ b. refl; reports = refl; says = refl;
-  })
+  heads = h;
+  router = refl;
+  far = refl;
+  operator = refl;
+  mesh = λ a b. cut2 w.mesh q r a b item h.rest h.is;
+  outward = refl;
+  inward = λ p b. refl;
+  orders = λ b. refl;
+  reports = refl;
+  says = refl;
+})
 
 -- what was taken, what is left and what was sent
 joined : {A : Type 0} (taken left sent was mid now : List A) → taken ++ mid ≡ was → now ≡ mid ++ sent → taken ++ now ≡ was ++ sent
@@ -138,9 +187,15 @@ far_sent p [] w v is = rw is (record { router = refl; far = refl; operator = ref
 far_sent p (item ∷ sent) w v is =
     let s : FarSends p sent (far_sends p w item) v = far_sent p sent (far_sends p w item) v is in
     record {
-      router = s.router; far = s.far; operator = s.operator; mesh = s.mesh; outward = s.outward;
+      router = s.router;
+      far = s.far;
+      operator = s.operator;
+      mesh = s.mesh;
+      outward = s.outward;
       inward = λ q b. then_others (w.inward q b) (only2 p item.router item.segment q b) (inward_sent p sent q b) (v.inward q b) _ (put2 w.inward p item.router q b item.segment) (s.inward q b);
-      orders = s.orders; reports = s.reports; says = s.says;
+      orders = s.orders;
+      reports = s.reports;
+      says = s.says;
     }
 
 record FarTakes (p : ℕ) (taken : Option FarTaken) (w u : World) : Type 0 where
@@ -158,11 +213,29 @@ record FarTakes (p : ℕ) (taken : Option FarTaken) (w u : World) : Type 0 where
 far_took : (p : ℕ) (taken : Option FarTaken) (w u : World) → FarTook w p taken u → FarTakes p taken w u
 far_took p None w u is = rw is (record { heads = tt; router = refl; far = refl; operator = refl; mesh = refl; outward = λ a q. refl; inward = refl; orders = refl; reports = refl; says = λ q. refl })
 far_took p (Some (OutwardIn r item)) w u (h, is) = rw is (record {
-    heads = h; router = refl; far = refl; operator = refl; mesh = refl; outward = λ a q. cut2 w.outward r p a q item h.rest h.is; inward = refl; orders = refl; reports = refl; says = λ q. refl;
-  })
+  heads = h;
+  router = refl;
+  far = refl;
+  operator = refl;
+  mesh = refl;
+  outward = λ a q. cut2 w.outward r p a q item h.rest h.is;
+  inward = refl;
+  orders = refl;
+  reports = refl;
+  says = λ q. refl;
+})
 far_took p (Some (SayIn step)) w u (h, is) = rw is (record {
-    heads = h; router = refl; far = refl; operator = refl; mesh = refl; outward = λ a q. refl; inward = refl; orders = refl; reports = refl; says = λ q. cut1 w.says p q step h.rest h.is;
-  })
+  heads = h;
+  router = refl;
+  far = refl;
+  operator = refl;
+  mesh = refl;
+  outward = λ a q. refl;
+  inward = refl;
+  orders = refl;
+  reports = refl;
+  says = λ q. cut1 w.says p q step h.rest h.is;
+})
 
 pub far_moves : (setup : Setup) (p : ℕ) (event : FarEvent) (w v : World) (x : FarStep setup p event w v) → FarMoves p x.taken x.sent x.part w v
 far_moves setup p event w v x =
@@ -197,14 +270,27 @@ record OperatorSends (sent : List OperatorSent) (w v : World) : Type 0 where
 
 operator_more : (item : OperatorSent) (sent : List OperatorSent) (w v : World) → OperatorSends sent (operator_sends w item) v → OperatorSends (item ∷ sent) w v
 operator_more (OrderTo r order) sent w v s = record {
-    router = s.router; far = s.far; operator = s.operator; mesh = s.mesh; outward = s.outward; inward = s.inward;
-    orders = λ b. then_others (w.orders b) (only r order b) (orders_sent sent b) (v.orders b) _ (put1 w.orders r b order) (s.orders b);
-    reports = s.reports; says = s.says;
-  }
+  router = s.router;
+  far = s.far;
+  operator = s.operator;
+  mesh = s.mesh;
+  outward = s.outward;
+  inward = s.inward;
+  orders = λ b. then_others (w.orders b) (only r order b) (orders_sent sent b) (v.orders b) _ (put1 w.orders r b order) (s.orders b);
+  reports = s.reports;
+  says = s.says;
+}
 operator_more (SayTo p step) sent w v s = record {
-    router = s.router; far = s.far; operator = s.operator; mesh = s.mesh; outward = s.outward; inward = s.inward; orders = s.orders; reports = s.reports;
-    says = λ q. then_others (w.says q) (only p step q) (says_sent sent q) (v.says q) _ (put1 w.says p q step) (s.says q);
-  }
+  router = s.router;
+  far = s.far;
+  operator = s.operator;
+  mesh = s.mesh;
+  outward = s.outward;
+  inward = s.inward;
+  orders = s.orders;
+  reports = s.reports;
+  says = λ q. then_others (w.says q) (only p step q) (says_sent sent q) (v.says q) _ (put1 w.says p q step) (s.says q);
+}
 
 operator_sent : (sent : List OperatorSent) (w v : World) → v ≡ fold operator_sends w sent → OperatorSends sent w v
 operator_sent [] w v is = rw is (record { router = refl; far = refl; operator = refl; mesh = refl; outward = refl; inward = refl; orders = λ b. sym (append-nil (w.orders b)); reports = refl; says = λ q. sym (append-nil (w.says q)) })
@@ -214,16 +300,26 @@ pub operator_moves : (setup : Setup) (event : OperatorEvent) (w v : World) (x : 
 operator_moves setup event w v x = by_taken x.taken x.without x.took (operator_sent x.sent (record x.without { operator = x.part }) v x.is) where
   by_taken : (taken : Option OperatorTaken) (u : World) → OperatorTook w taken u → OperatorSends x.sent (record u { operator = x.part }) v → OperatorMoves taken x.sent x.part w v
   by_taken None u is s = record {
-      heads = tt; router = s.router ∙ ap (λ (y : World). y.router) is; far = s.far ∙ ap (λ (y : World). y.far) is; operator = s.operator; mesh = s.mesh ∙ ap (λ (y : World). y.mesh) is;
-      outward = s.outward ∙ ap (λ (y : World). y.outward) is; inward = s.inward ∙ ap (λ (y : World). y.inward) is;
-      orders = λ b. s.orders b ∙ ap (λ (y : World). y.orders b ++ orders_sent x.sent b) is;
-      reports = λ a. ap (λ (f : ℕ → List Report). f a) (s.reports ∙ ap (λ (y : World). y.reports) is);
-      says = λ q. s.says q ∙ ap (λ (y : World). y.says q ++ says_sent x.sent q) is;
-    }
+    heads = tt;
+    router = s.router ∙ ap (λ (y : World). y.router) is;
+    far = s.far ∙ ap (λ (y : World). y.far) is;
+    operator = s.operator;
+    mesh = s.mesh ∙ ap (λ (y : World). y.mesh) is;
+    outward = s.outward ∙ ap (λ (y : World). y.outward) is;
+    inward = s.inward ∙ ap (λ (y : World). y.inward) is;
+    orders = λ b. s.orders b ∙ ap (λ (y : World). y.orders b ++ orders_sent x.sent b) is;
+    reports = λ a. ap (λ (f : ℕ → List Report). f a) (s.reports ∙ ap (λ (y : World). y.reports) is);
+    says = λ q. s.says q ∙ ap (λ (y : World). y.says q ++ says_sent x.sent q) is;
+  }
   by_taken (Some (ReportIn r report)) u (h, is) s = record {
-      heads = h; router = s.router ∙ ap (λ (y : World). y.router) is; far = s.far ∙ ap (λ (y : World). y.far) is; operator = s.operator; mesh = s.mesh ∙ ap (λ (y : World). y.mesh) is;
-      outward = s.outward ∙ ap (λ (y : World). y.outward) is; inward = s.inward ∙ ap (λ (y : World). y.inward) is;
-      orders = λ b. s.orders b ∙ ap (λ (y : World). y.orders b ++ orders_sent x.sent b) is;
-      reports = λ a. ap (λ (f : ℕ → List Report). only r report a ++ f a) (s.reports ∙ ap (λ (y : World). y.reports) is) ∙ cut1 w.reports r a report h.rest h.is;
-      says = λ q. s.says q ∙ ap (λ (y : World). y.says q ++ says_sent x.sent q) is;
-    }
+    heads = h;
+    router = s.router ∙ ap (λ (y : World). y.router) is;
+    far = s.far ∙ ap (λ (y : World). y.far) is;
+    operator = s.operator;
+    mesh = s.mesh ∙ ap (λ (y : World). y.mesh) is;
+    outward = s.outward ∙ ap (λ (y : World). y.outward) is;
+    inward = s.inward ∙ ap (λ (y : World). y.inward) is;
+    orders = λ b. s.orders b ∙ ap (λ (y : World). y.orders b ++ orders_sent x.sent b) is;
+    reports = λ a. ap (λ (f : ℕ → List Report). only r report a ++ f a) (s.reports ∙ ap (λ (y : World). y.reports) is) ∙ cut1 w.reports r a report h.rest h.is;
+    says = λ q. s.says q ∙ ap (λ (y : World). y.says q ++ says_sent x.sent q) is;
+  }

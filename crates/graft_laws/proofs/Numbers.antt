@@ -1,5 +1,5 @@
 -- The numbers of a script's grafts: each names one graft, and they rise.
-use Rattle.std.proofs.Common.{◌≡◌, ◌==◌, ℕ, zero, suc, ◌+◌, ◌<◌, ◌≤◌, Bool, true, false, cond, List, [], ◌∷◌, ◌++◌, length, take, drop, Option, Some, None, refl, sym, ap, ◌∙◌, subst, arith, append_assoc}
+use Rattle.std.proofs.Common.{◌≡◌, ◌==◌, ℕ, zero, suc, ◌+◌, ◌<◌, Bool, true, List, [], ◌∷◌, ◌++◌, length, take, drop, Option, Some, None, refl, ap, ◌∙◌, subst, arith}
 use Rattle.std.specs.Prelude.{filter, slice_get, ◌≢◌}
 use Rattle.std.specs.List.{AllByRecursion, find}
 use Rattle.std.proofs.lemmas.Bool.Decides.{nat_tests}
@@ -125,7 +125,7 @@ split_of setup n p t e =
     ∙ (filter-append test (grafts_after 0 (take n setup.steps)) (the_graft k p t ∷ rest)
     ∙ ap (λ (x : List ScriptGraft). earlier_grafts setup p n ++ x) (own_first k p t rest))
 
-found_in : (gs hs : List ScriptGraft) (g : ScriptGraft) (P : ScriptGraft → Type 0) → AllByRecursion P (gs ++ g ∷ hs) → P g
+pub found_in : (gs hs : List ScriptGraft) (g : ScriptGraft) (P : ScriptGraft → Type 0) → AllByRecursion P (gs ++ g ∷ hs) → P g
 found_in [] hs g P all = all.0
 found_in (x ∷ gs) hs g P all = found_in gs hs g P all.1
 
@@ -134,4 +134,4 @@ step_known setup n p t e =
     let k : ℕ = graft_number setup n in
     let P : ScriptGraft → Type 0 = λ g. graft_at setup g.graft ≡ Some g in
     found_in (grafts_after 0 (take n setup.steps)) (grafts_after k (drop (suc n) setup.steps)) (the_graft k p t) P
-        (subst (λ (x : List ScriptGraft). AllByRecursion P x) (split_at setup.steps n 0 k p t e (omega arith)) (known_all setup))
+    (subst (λ (x : List ScriptGraft). AllByRecursion P x) (split_at setup.steps n 0 k p t e (omega arith)) (known_all setup))

@@ -1,19 +1,17 @@
 -- What an event leaves of a peering that isn't its own.
-use Rattle.std.proofs.Common.{◌≡◌, ◌==◌, cond, ℕ, ◌<◌, Bool, true, false, List, [], ◌∷◌, ◌++◌, Option, Some, None, refl, sym, ap, ◌∙◌, subst, arith}
+use Rattle.std.proofs.Common.{◌≡◌, ◌==◌, ℕ, Bool, true, List, [], ◌++◌, Option, Some, refl, sym, ap, ◌∙◌, subst, arith}
 use Rattle.std.proofs.lemmas.Bool.Decides.{nat_tests}
 use Rattle.std.proofs.lemmas.List.Elements.{filter-append}
 use Rattle.std.proofs.lemmas.List.{append-nil}
-use Rattle.std.specs.Prelude.{◌≢◌, filter, slice_get}
+use Rattle.std.specs.Prelude.{filter, slice_get}
 use Rattle.graft_model.specs.Points.{at}
 use Rattle.graft_model.specs.Setups.{Setup, MoveStep}
-use Rattle.graft_model.specs.Parts.{Place, RouterPart, FarPart, OperatorPart, Mesh, GraftOrder, Report, World}
+use Rattle.graft_model.specs.Parts.{RouterPart, FarPart, OperatorPart, Mesh, GraftOrder, Report, World}
 use Rattle.graft_model.specs.RouterRows.{RouterTaken, RouterSent}
 use Rattle.graft_model.specs.FarRows.{FarTaken, FarSent}
 use Rattle.graft_model.specs.OperatorRows.{OperatorTaken, OperatorSent}
-use Rattle.session_value.specs.Sessions.{SessionValue}
-use Rattle.graft_laws.specs.Phases.{Phase}
-use Rattle.graft_laws.specs.Log.{is_of, LogSays}
-use Rattle.graft_laws.specs.Owned.{is_on, mesh_of, orders_of, reports_of, Stands, IsAbsent}
+use Rattle.graft_laws.specs.Log.{is_of}
+use Rattle.graft_laws.specs.Owned.{is_on, mesh_of, orders_of, reports_of, IsAbsent}
 use Rattle.graft_laws.specs.Moves.{mesh_taken, inward_taken, orders_taken, mesh_sent, outward_sent, reports_sent, RouterMoves, FarMoves, OperatorMoves, orders_sent, reports_taken}
 
 -- the log has the same of a peering's grafts
@@ -76,12 +74,12 @@ same_place f part r x p e = grind (arith, nat_tests)
 pub untouched_by_items : (setup : Setup) (p r : ℕ) (taken : Option RouterTaken) (sent : List RouterSent) (part : RouterPart) (w v : World)
     → RouterMoves r taken sent part w v → part.places p ≡ (w.router r).places p → AreOthers setup p r taken sent → Untouched setup p w v
 untouched_by_items setup p r taken sent part w v m places items = record {
-    places = λ x. ap (λ (f : ℕ → RouterPart). (f x).places p) m.router ∙ same_place w.router part r x p places;
-    mesh = λ a b. still_in (is_on p) (mesh_taken r taken a b) (v.mesh a b) (w.mesh a b) (mesh_sent r sent a b) (m.mesh a b) (items.mesh_taken a b) (items.mesh_sent a b);
-    orders = λ b. still_taken (λ o. o.peering == p) (orders_taken r taken b) (v.orders b) (w.orders b) (m.orders b) (items.orders_taken b);
-    reports = λ a. still_sent (λ o. is_of setup p o.graft) (v.reports a) (w.reports a) (reports_sent r sent a) (m.reports a) (items.reports_sent a);
-    log = same_log setup p w.operator v.operator m.operator;
-  }
+  places = λ x. ap (λ (f : ℕ → RouterPart). (f x).places p) m.router ∙ same_place w.router part r x p places;
+  mesh = λ a b. still_in (is_on p) (mesh_taken r taken a b) (v.mesh a b) (w.mesh a b) (mesh_sent r sent a b) (m.mesh a b) (items.mesh_taken a b) (items.mesh_sent a b);
+  orders = λ b. still_taken (λ o. o.peering == p) (orders_taken r taken b) (v.orders b) (w.orders b) (m.orders b) (items.orders_taken b);
+  reports = λ a. still_sent (λ o. is_of setup p o.graft) (v.reports a) (w.reports a) (reports_sent r sent a) (m.reports a) (items.reports_sent a);
+  log = same_log setup p w.operator v.operator m.operator;
+}
 
 pub untouched_by_router : (setup : Setup) (p r : ℕ) (taken : Option RouterTaken) (sent : List RouterSent) (part : RouterPart) (w v : World)
     → RouterMoves r taken sent part w v → Apart setup p r taken sent (w.router r) part → Untouched setup p w v
@@ -91,19 +89,19 @@ untouched_by_router setup p r taken sent part w v m apart = untouched_by_items s
 
 pub untouched_by_far : (setup : Setup) (p q : ℕ) (taken : Option FarTaken) (sent : List FarSent) (part : FarPart) (w v : World) → FarMoves q taken sent part w v → Untouched setup p w v
 untouched_by_far setup p q taken sent part w v m = record {
-    places = λ x. ap (λ (f : ℕ → RouterPart). (f x).places p) m.router;
-    mesh = λ a b. ap (λ (f : ℕ → ℕ → List Mesh). mesh_of p (f a b)) m.mesh;
-    orders = λ b. ap (λ (f : ℕ → List GraftOrder). orders_of p (f b)) m.orders;
-    reports = λ a. ap (λ (f : ℕ → List Report). reports_of setup p (f a)) m.reports;
-    log = same_log setup p w.operator v.operator m.operator;
-  }
+  places = λ x. ap (λ (f : ℕ → RouterPart). (f x).places p) m.router;
+  mesh = λ a b. ap (λ (f : ℕ → ℕ → List Mesh). mesh_of p (f a b)) m.mesh;
+  orders = λ b. ap (λ (f : ℕ → List GraftOrder). orders_of p (f b)) m.orders;
+  reports = λ a. ap (λ (f : ℕ → List Report). reports_of setup p (f a)) m.reports;
+  log = same_log setup p w.operator v.operator m.operator;
+}
 
 pub untouched_by_operator : (setup : Setup) (p : ℕ) (taken : Option OperatorTaken) (sent : List OperatorSent) (part : OperatorPart) (w v : World) → OperatorMoves taken sent part w v
     → ((b : ℕ) → orders_of p (orders_sent sent b) ≡ []) → ((a : ℕ) → reports_of setup p (reports_taken taken a) ≡ []) → SameLog setup p w.operator part → Untouched setup p w v
 untouched_by_operator setup p taken sent part w v m no_order no_report same = record {
-    places = λ x. ap (λ (f : ℕ → RouterPart). (f x).places p) m.router;
-    mesh = λ a b. ap (λ (f : ℕ → ℕ → List Mesh). mesh_of p (f a b)) m.mesh;
-    orders = λ b. still_sent (λ o. o.peering == p) (v.orders b) (w.orders b) (orders_sent sent b) (m.orders b) (no_order b);
-    reports = λ a. still_taken (λ o. is_of setup p o.graft) (reports_taken taken a) (v.reports a) (w.reports a) (m.reports a) (no_report a);
-    log = subst (λ (x : OperatorPart). SameLog setup p w.operator x) (sym m.operator) same;
-  }
+  places = λ x. ap (λ (f : ℕ → RouterPart). (f x).places p) m.router;
+  mesh = λ a b. ap (λ (f : ℕ → ℕ → List Mesh). mesh_of p (f a b)) m.mesh;
+  orders = λ b. still_sent (λ o. o.peering == p) (v.orders b) (w.orders b) (orders_sent sent b) (m.orders b) (no_order b);
+  reports = λ a. still_taken (λ o. is_of setup p o.graft) (reports_taken taken a) (v.reports a) (w.reports a) (m.reports a) (no_report a);
+  log = subst (λ (x : OperatorPart). SameLog setup p w.operator x) (sym m.operator) same;
+}

@@ -1,12 +1,11 @@
 -- What is found at one place tells the phase.
-use Rattle.std.proofs.Common.{◌≡◌, ◌==◌, cond, ℕ, ◌<◌, Bool, true, false, List, [], ◌∷◌, ◌++◌, Option, Some, None, refl, sym, ap, subst, arith}
+use Rattle.std.proofs.Common.{◌≡◌, ◌==◌, cond, ℕ, List, ◌∷◌, Option, Some, refl, arith}
 use Rattle.std.proofs.lemmas.Bool.Decides.{nat_tests}
-use Rattle.std.specs.Prelude.{◌≢◌}
 use Rattle.graft_steps.specs.declared.refusal.Refusal.{Refusal}
 use Rattle.graft_steps.specs.declared.refusal.Outcome.TheVariants.{Accepted, Refused}
 use Rattle.session_value.specs.Sessions.{SessionValue}
-use Rattle.graft_model.specs.Parts.{Order, Place, Vacant, Live, Frozen, Shadow, Mesh, Moved, Back, Done, GraftOrder, Report}
-use Rattle.graft_laws.specs.Phases.{Stage, Ordered, Stored, Halted, Moving, Landed, Returning, Declined, Cleared, Phase, Idle, Busy, place_by, mesh_by, orders_by, reports_by}
+use Rattle.graft_model.specs.Parts.{Order, Live, Frozen, Mesh, Moved, Back, Done, GraftOrder, Report}
+use Rattle.graft_laws.specs.Phases.{Ordered, Stored, Halted, Moving, Landed, Returning, Declined, Cleared, Phase, Idle, Busy, place_by, mesh_by, orders_by, reports_by}
 
 -- ---- at a router
 

@@ -1,7 +1,7 @@
 -- How many places of a router are taken, through its events.
-use Rattle.std.proofs.Common.{◌≡◌, ◌==◌, cond, ℕ, zero, suc, ◌<◌, ◌≤◌, ◌+◌, Bool, true, false, List, [], ◌∷◌, length, Option, Some, None, refl, sym, ap, ◌∙◌, subst, arith, inl, inr}
+use Rattle.std.proofs.Common.{◌≡◌, ◌==◌, cond, ℕ, zero, suc, ◌<◌, ◌≤◌, ◌+◌, Bool, true, false, List, [], ◌∷◌, length, Option, Some, None, refl, sym, ap, ◌∙◌, arith}
 use Rattle.std.proofs.lemmas.Bool.Decides.{nat_tests}
-use Rattle.std.specs.Prelude.{◌≢◌, ◌⊎◌, filter, nat_le}
+use Rattle.std.specs.Prelude.{◌≢◌, filter, nat_le}
 use Rattle.std.specs.List.{range_with_len}
 use Rattle.graft_steps.specs.declared.refusal.Refusal.TheVariants.{RouterFull, PolicyMissing}
 use Rattle.std.specs.Option.{option_map}
@@ -9,7 +9,7 @@ use Rattle.graft_steps.specs.Refusals.{admit_refusal}
 use Rattle.session_value.specs.Sessions.{SessionValue}
 use Rattle.graft_model.specs.Points.{at}
 use Rattle.graft_model.specs.Setups.{Setup, peerings_in, peering_numbers, room_of, missing_policy}
-use Rattle.graft_model.specs.Parts.{Place, Vacant, Live, RouterPart}
+use Rattle.graft_model.specs.Parts.{Place, RouterPart}
 use Rattle.graft_model.specs.GraftRows.{is_taken, taken_in, refusal_of}
 
 fewer_step : {A : Type 0} (f g : A → Bool) (x : A) (xs : List A) → (f x ≡ true → g x ≡ true) → length (filter f xs) ≤ length (filter g xs) → length (filter f (x ∷ xs)) ≤ length (filter g (x ∷ xs))

@@ -1,19 +1,21 @@
 -- What each event keeps, every run keeps.
-use Rattle.std.proofs.Common.{◌≡◌, ◌==◌, cond, ℕ, ◌<◌, ◌≤◌, Bool, true, false, List, [], ◌∷◌, ◌++◌, Option, Some, None, refl, sym, ap, ◌∙◌, subst, arith}
+use Rattle.std.proofs.Common.{◌≡◌, ◌==◌, cond, ℕ, ◌<◌, ◌≤◌, Bool, true, false, List, [], ◌∷◌, ◌++◌, Some, refl, sym, ap, subst, arith}
 use Rattle.std.proofs.lemmas.Bool.Decides.{nat_tests}
-use Rattle.std.specs.Prelude.{IsSome, slice_get, option_map}
+use Rattle.std.specs.Prelude.{IsSome, option_map}
 use Rattle.std.specs.List.{AllByRecursion}
 use Rattle.session_value.specs.Sessions.{SessionValue, begun}
+use Rattle.session_value.specs.declared.config.SessionConfig.{SessionConfig}
 use Rattle.graft_model.specs.Points.{at}
-use Rattle.graft_model.specs.Setups.{Setup, PeeringSetup, IsSetup, routers_in, peerings_in, room_of, start_of}
+use Rattle.graft_model.specs.Setups.{Setup, PeeringSetup, IsSetup, routers_in, peerings_in, room_of, config_of, start_of}
 use Rattle.graft_model.specs.Parts.{RouterPart, Report, World}
 use Rattle.graft_model.specs.GraftRows.{taken_in}
 use Rattle.graft_model.specs.First.{first_world}
-use Rattle.graft_model.specs.Steps.{Event, ByRouter, ByFar, ByOperator, RouterStep, FarStep, OperatorStep, Step, Run}
+use Rattle.graft_model.specs.Steps.{Event, ByRouter, ByFar, ByOperator, Step, Run}
 use Rattle.graft_laws.specs.Phases.{Phase, Idle}
 use Rattle.graft_laws.specs.Log.{graft_at}
-use Rattle.graft_laws.specs.Owned.{Stands, IsHeld, IsAbsent, Owned}
+use Rattle.graft_laws.specs.Owned.{Stands, Owned}
 use Rattle.graft_laws.specs.Moves.{reports_sent, RouterMoves, reports_taken, OperatorMoves, FarMoves}
+use Rattle.graft_laws.specs.Life.{Change}
 use Rattle.graft_laws.specs.Keeps.{Reached, Keeps, Has}
 use Rattle.graft_laws.proofs.Lists.{all_join, all_back}
 use Rattle.graft_laws.proofs.Moves.{router_moves, far_moves, operator_moves}
@@ -93,6 +95,15 @@ module _ (setup : Setup) (I : World → Type 0) (keeps : (event : Event) (before
   along [] w v reached is i = subst I (sym is) i
   along (event ∷ events) w v reached (u, step, run) i = along events u v (reached_more setup event w u reached step) run (keeps event w u reached step i)
 
+-- a run goes on from a world that is reached
+pub reached_run : (setup : Setup) (events : List Event) (w v : World) → Reached setup w → Run setup w events v → Reached setup v
+reached_run setup [] w v reached is = subst (Reached setup) (sym is) reached
+reached_run setup (event ∷ events) w v reached (u, step, run) = reached_run setup events u v (reached_more setup event w u reached step) run
+
+pub carried_from : (setup : Setup) (I : World → Type 0) → ((event : Event) (before after : World) → Reached setup before → Step setup event before after → I before → I after)
+    → (events : List Event) (w v : World) → Reached setup w → Run setup w events v → I w → I v
+carried_from setup I keeps events w v reached run i = along setup I keeps events w v reached run i
+
 pub carried : (setup : Setup) (I : World → Type 0) → I (first_world setup) → ((event : Event) (before after : World) → Reached setup before → Step setup event before after → I before → I after)
     → (w : World) → Reached setup w → I w
 carried setup I first keeps w reached = along setup I keeps reached.events (first_world setup) w (reached_first setup) reached.run first
@@ -105,22 +116,35 @@ always_owned setup ok = carried setup (Owned setup) (first_owned setup ok) (λ e
 abbrev HaveAll : Setup → (World → ℕ → Phase → SessionValue → Type 0) → World → Type 0
 HaveAll setup I w = (p : ℕ) → p < peerings_in setup → Has setup I w p
 
-has_first : (setup : Setup) (I : World → ℕ → Phase → SessionValue → Type 0) → IsSetup setup → Keeps setup I → HaveAll setup I (first_world setup)
-has_first setup I ok keeps p l =
+has_first : (setup : Setup) (I : World → ℕ → Phase → SessionValue → Type 0) → IsSetup setup
+    → ((p : ℕ) (config : SessionConfig) → config_of setup p ≡ Some config → I (first_world setup) p (Idle (start_of setup p)) (begun config)) → HaveAll setup I (first_world setup)
+has_first setup I ok first p l =
     let some = some_peering setup p l in
     record {
       phase = Idle (start_of setup p);
       session = begun some.0.config;
       stands = first_stands setup p some.0 ok some.1;
-      more = keeps.first p some.0.config (ap (option_map (λ (x : PeeringSetup). x.config)) some.1);
+      more = first p some.0.config (ap (option_map (λ (x : PeeringSetup). x.config)) some.1);
     }
 
-has_then : (setup : Setup) (I : World → ℕ → Phase → SessionValue → Type 0) → IsSetup setup → Keeps setup I → (event : Event) (before after : World) → Reached setup before → Step setup event before after
+-- what each event keeps of a peering
+abbrev IsKept : Setup → (World → ℕ → Phase → SessionValue → Type 0) → Type 0
+IsKept setup I = (event : Event) (before after : World) (p : ℕ) (phase next : Phase) (s t : SessionValue) → Reached setup before → Step setup event before after → p < peerings_in setup
+    → Stands setup before p phase s → Stands setup after p next t → Change setup before after p phase s next t → I before p phase s → I after p next t
+
+has_then : (setup : Setup) (I : World → ℕ → Phase → SessionValue → Type 0) → IsSetup setup → IsKept setup I → (event : Event) (before after : World) → Reached setup before → Step setup event before after
     → HaveAll setup I before → HaveAll setup I after
-has_then setup I ok keeps event before after reached step have p l =
+has_then setup I ok kept event before after reached step have p l =
     let h = have p l in
     let f = followed setup before after event p h.phase h.session ok (always_owned setup ok before reached) step l h.stands in
-    record { phase = f.next; session = f.session; stands = f.stands; more = keeps.step before after p h.phase f.next h.session f.session reached l h.stands f.stands f.change h.more }
+    record { phase = f.next; session = f.session; stands = f.stands; more = kept event before after p h.phase f.next h.session f.session reached step l h.stands f.stands f.change h.more }
+
+-- the same where the event itself counts
+pub always_has_along : (setup : Setup) (I : World → ℕ → Phase → SessionValue → Type 0) → IsSetup setup
+    → ((p : ℕ) (config : SessionConfig) → config_of setup p ≡ Some config → I (first_world setup) p (Idle (start_of setup p)) (begun config)) → IsKept setup I
+    → (w : World) → Reached setup w → (p : ℕ) → p < peerings_in setup → Has setup I w p
+always_has_along setup I ok first kept = carried setup (HaveAll setup I) (has_first setup I ok first) (has_then setup I ok kept)
 
 pub always_has : (setup : Setup) (I : World → ℕ → Phase → SessionValue → Type 0) → IsSetup setup → Keeps setup I → (w : World) → Reached setup w → (p : ℕ) → p < peerings_in setup → Has setup I w p
-always_has setup I ok keeps = carried setup (HaveAll setup I) (has_first setup I ok keeps) (has_then setup I ok keeps)
+always_has setup I ok keeps = always_has_along setup I ok keeps.first
+    (λ event before after p phase next s t reached step l stands then change i. keeps.step before after p phase next s t reached l stands then change i)

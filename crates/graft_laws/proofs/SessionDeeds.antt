@@ -1,31 +1,30 @@
 -- What the events of live sessions and of tables do.
-use Rattle.std.proofs.Common.{◌≡◌, ◌==◌, cond, ℕ, zero, suc, ◌<◌, ◌≤◌, Bool, true, false, List, [], ◌∷◌, ◌++◌, Option, Some, None, refl, sym, ap, ◌∙◌, subst, arith, inl, inr}
-use Rattle.std.proofs.lemmas.Bool.Decides.{nat_tests}
+use Rattle.std.proofs.Common.{◌≡◌, ◌==◌, cond, ℕ, zero, suc, ◌≤◌, List, [], ◌∷◌, ◌++◌, Option, Some, None, refl, sym, ap, ◌∙◌, subst, inl, inr}
 use Rattle.std.proofs.lemmas.List.{append-nil}
-use Rattle.std.specs.Prelude.{◌≢◌, ◌⊎◌, filter, length, IsSome}
+use Rattle.std.specs.Prelude.{filter, length, IsSome}
 use Rattle.std.specs.List.{AllByRecursion}
 use Rattle.std.specs.FinMap as map
 use Rattle.route_policy.specs.Telling.{tell_in}
 use Rattle.bgp_types.specs.Prefixes.{PrefixValue}
-use Rattle.tcp_seq.specs.Endpoint.{Endpoint, PlacedSegment, TakesSegment}
+use Rattle.tcp_seq.specs.Endpoint.{PlacedSegment, TakesSegment}
 use Rattle.session_value.specs.Sessions.{SessionValue}
 use Rattle.session_value.specs.Cases.{GetsFrame, PutsUpdate, PassesRound}
 use Rattle.graft_model.specs.Slices.{EmitsAt}
 use Rattle.graft_model.specs.Points.{at}
-use Rattle.graft_model.specs.Setups.{Setup, peerings_in, peering_numbers, room_of}
-use Rattle.graft_model.specs.Parts.{Order, Place, Vacant, Live, RouterPart, Entries, Mesh, Told, Outward, Seg, Report, World}
-use Rattle.graft_model.specs.RouterRows.{RouterTaken, OrderIn, SegmentIn, MeshIn, RouterSent, MeshTo, OutwardTo, ReportOut, PutsNothing, PutsSome, Emits, Arrives, Strays, GetsNext, Ticks, Follows, update_for}
+use Rattle.graft_model.specs.Setups.{Setup, peering_numbers, room_of}
+use Rattle.graft_model.specs.Parts.{Order, Place, Live, RouterPart, Entries, Told, Outward, Seg, Report, World}
+use Rattle.graft_model.specs.RouterRows.{RouterTaken, SegmentIn, MeshIn, RouterSent, MeshTo, OutwardTo, PutsNothing, PutsSome, Emits, Arrives, Strays, GetsNext, Ticks, Follows, update_for}
 use Rattle.graft_model.specs.TableRows.{Decides, Tells, Hears}
 use Rattle.graft_model.specs.GraftRows.{is_taken, taken_in}
 use Rattle.graft_laws.specs.Phases.{Phase, only, only2, place_by}
-use Rattle.graft_laws.specs.Owned.{is_on, Stands, Owned}
+use Rattle.graft_laws.specs.Owned.{Stands, Owned}
 use Rattle.graft_laws.specs.Log.{graft_at}
 use Rattle.graft_laws.specs.Moves.{inward_taken, outward_sent, reports_sent, RouterMoves}
 use Rattle.graft_model.specs.Steps.{RouterEvent, Put, Emit, Arrive, Stray, Got, Decide, Tell, Hear, Admit, Refuse, Freeze, Leave, Land, TurnBack, Return, Clear, Tick, router_row}
 use Rattle.graft_laws.specs.Life.{SameLine, SameEntries, Enters, Change, Rests, Puts, Emits as ToEmit, Arrives as ToArrive, Gets, Ticks as ToTick, Strays as ToStray}
 use Rattle.graft_laws.proofs.Phases.{live_session}
 use Rattle.graft_laws.proofs.Others.{Untouched, AreOthers, absent_still, untouched_by_items}
-use Rattle.graft_laws.proofs.Following.{Followed, at_other, at_here, line_by_router, line_gets, line_gives, same_entries, enters}
+use Rattle.graft_laws.proofs.Following.{at_other, line_by_router, line_gets, line_gives, same_entries, enters}
 use Rattle.graft_laws.proofs.Rests.{changed, stands_still}
 use Rattle.graft_laws.proofs.Room.{no_more_taken}
 use Rattle.graft_laws.proofs.Deeds.{known_place, equal_or_not, Deed, all_apart, own_or_apart, no_items, other_sent, other_taken, no_outward, no_inward}
@@ -64,14 +63,14 @@ module _ (setup : Setup) (w v : World) (r : ℕ) (owned : Owned setup w) where
         each = own_or_apart setup w v r p None [] part m (known_place setup w owned r p _ row.live.is (λ e. absurd cc))
             (λ q ne. record { places = place_stays before part q p _ places ne; entries = ap (λ (x : RouterPart). x.entries q) row.effect; items = no_items setup q r; outward_sent = λ a. refl; inward_taken = λ b. refl })
             (λ phase s b.
-              let e = there p phase s row.session row.order row.live.is b in
-              record {
-                next = phase;
-                session = row.next;
-                stands = changed setup w v p r None [] part phase s row.next row.order m (no_items setup p r) e.1 (place_here before part p _ places) b;
-                change = Puts r row.order (update_for row.attrs row.prefixes) e.1 (subst (λ (x : SessionValue). PutsUpdate x (update_for row.attrs row.prefixes) row.next) e.0 row.puts)
-                    (line_by_router w v p r None [] part m (λ a. refl) (λ a. refl)) (same_entries w v p r part m.router (ap (λ (x : RouterPart). x.entries p) row.effect));
-              });
+            let e = there p phase s row.session row.order row.live.is b in
+            record {
+              next = phase;
+              session = row.next;
+              stands = changed setup w v p r None [] part phase s row.next row.order m (no_items setup p r) e.1 (place_here before part p _ places) b;
+              change = Puts r row.order (update_for row.attrs row.prefixes) e.1 (subst (λ (x : SessionValue). PutsUpdate x (update_for row.attrs row.prefixes) row.next) e.0 row.puts)
+                  (line_by_router w v p r None [] part m (λ a. refl) (λ a. refl)) (same_entries w v p r part m.router (ap (λ (x : RouterPart). x.entries p) row.effect));
+            });
         reports = λ a. tt;
         room = λ l. le_trans _ _ _ (no_more_taken setup before part p _ places (ap is_taken row.live.is)) l;
       })
@@ -86,16 +85,16 @@ module _ (setup : Setup) (w v : World) (r : ℕ) (owned : Owned setup w) where
         each = own_or_apart setup w v r p None (OutwardTo p (Seg row.segment) ∷ []) part m (known_place setup w owned r p _ row.live.is (λ e. absurd cc))
             (λ q ne. record { places = place_stays before part q p _ places ne; entries = ap (λ (x : RouterPart). x.entries q) row.effect; items = sends_outward setup q r p (Seg row.segment); outward_sent = λ a. no_outward r p q a (Seg row.segment) ne; inward_taken = λ b. refl })
             (λ phase s b.
-              let e = there p phase s row.session row.order row.live.is b in
-              let then : SessionValue = record s { end = row.end } in
-              record {
-                next = phase;
-                session = then;
-                stands = changed setup w v p r None (OutwardTo p (Seg row.segment) ∷ []) part phase s then row.order m (sends_outward setup p r p (Seg row.segment)) e.1
-                    (place_here before part p _ places ∙ ap (λ (x : SessionValue). (let y : SessionValue = record x { end = row.end } in Live y row.order)) e.0) b;
-                change = ToEmit r row.order from len row.segment row.end e.1 (subst (λ (x : SessionValue). EmitsAt from len x.end row.segment row.end) e.0 row.emits)
-                    (line_gets w v p r None _ part (Seg row.segment) m (λ a. own_outward r p a (Seg row.segment)) (λ a. refl)) (same_entries w v p r part m.router (ap (λ (x : RouterPart). x.entries p) row.effect));
-              });
+            let e = there p phase s row.session row.order row.live.is b in
+            let then : SessionValue = record s { end = row.end } in
+            record {
+              next = phase;
+              session = then;
+              stands = changed setup w v p r None (OutwardTo p (Seg row.segment) ∷ []) part phase s then row.order m (sends_outward setup p r p (Seg row.segment)) e.1
+                  (place_here before part p _ places ∙ ap (λ (x : SessionValue). (let y : SessionValue = record x { end = row.end } in Live y row.order)) e.0) b;
+              change = ToEmit r row.order from len row.segment row.end e.1 (subst (λ (x : SessionValue). EmitsAt from len x.end row.segment row.end) e.0 row.emits)
+                  (line_gets w v p r None _ part (Seg row.segment) m (λ a. own_outward r p a (Seg row.segment)) (λ a. refl)) (same_entries w v p r part m.router (ap (λ (x : RouterPart). x.entries p) row.effect));
+            });
         reports = λ a. tt;
         room = λ l. le_trans _ _ _ (no_more_taken setup before part p _ places (ap is_taken row.live.is)) l;
       })
@@ -108,16 +107,16 @@ module _ (setup : Setup) (w v : World) (r : ℕ) (owned : Owned setup w) where
         each = own_or_apart setup w v r p (Some (SegmentIn p row.segment)) [] part m (known_place setup w owned r p _ row.live.is (λ e. absurd cc))
             (λ q ne. record { places = place_stays before part q p _ places ne; entries = ap (λ (x : RouterPart). x.entries q) row.effect; items = takes_segment setup q r p row.segment; outward_sent = λ a. refl; inward_taken = λ b. no_inward r p q b row.segment ne })
             (λ phase s b.
-              let e = there p phase s row.session row.order row.live.is b in
-              let then : SessionValue = record s { end = row.end } in
-              record {
-                next = phase;
-                session = then;
-                stands = changed setup w v p r (Some (SegmentIn p row.segment)) [] part phase s then row.order m (takes_segment setup p r p row.segment) e.1
-                    (place_here before part p _ places ∙ ap (λ (x : SessionValue). (let y : SessionValue = record x { end = row.end } in Live y row.order)) e.0) b;
-                change = ToArrive r row.order row.segment row.end e.1 (subst (λ (x : SessionValue). TakesSegment x.end row.segment row.end) e.0 row.arrives)
-                    (line_gives w v p r _ part row.segment m (λ a. own_inward r p a row.segment)) (same_entries w v p r part m.router (ap (λ (x : RouterPart). x.entries p) row.effect));
-              });
+            let e = there p phase s row.session row.order row.live.is b in
+            let then : SessionValue = record s { end = row.end } in
+            record {
+              next = phase;
+              session = then;
+              stands = changed setup w v p r (Some (SegmentIn p row.segment)) [] part phase s then row.order m (takes_segment setup p r p row.segment) e.1
+                  (place_here before part p _ places ∙ ap (λ (x : SessionValue). (let y : SessionValue = record x { end = row.end } in Live y row.order)) e.0) b;
+              change = ToArrive r row.order row.segment row.end e.1 (subst (λ (x : SessionValue). TakesSegment x.end row.segment row.end) e.0 row.arrives)
+                  (line_gives w v p r _ part row.segment m (λ a. own_inward r p a row.segment)) (same_entries w v p r part m.router (ap (λ (x : RouterPart). x.entries p) row.effect));
+            });
         reports = λ a. tt;
         room = λ l. le_trans _ _ _ (no_more_taken setup before part p _ places (ap is_taken row.live.is)) l;
       })
@@ -135,9 +134,9 @@ module _ (setup : Setup) (w v : World) (r : ℕ) (owned : Owned setup w) where
             session = s;
             stands = stands_still setup w v q phase s (same q) b;
             change = elim (equal_or_not q p) [
-                inl e ↦ ToStray r row.segment (line_gives w v q r _ part row.segment m (λ a. subst (λ (x : ℕ). only2 p r row.segment x a ≡ only r row.segment a) (sym e) (own_inward r p a row.segment))) (entries q)
+              | inl e ↦ ToStray r row.segment (line_gives w v q r _ part row.segment m (λ a. subst (λ (x : ℕ). only2 p r row.segment x a ≡ only r row.segment a) (sym e) (own_inward r p a row.segment))) (entries q)
               | inr ne ↦ Rests (line_by_router w v q r _ [] part m (λ a. refl) (λ b. no_inward r p q b row.segment ne)) (entries q)
-              ];
+            ];
           };
         };
         reports = λ a. tt;
@@ -157,15 +156,18 @@ module _ (setup : Setup) (w v : World) (r : ℕ) (owned : Owned setup w) where
             (λ q ne. record {
               places = place_stays before part q p _ places ne;
               entries = ap (λ (x : RouterPart). x.entries q) row.effect ∙ at_other before.entries p q (part.entries p) ne;
-              items = no_items setup q r; outward_sent = λ a. refl; inward_taken = λ b. refl })
+              items = no_items setup q r;
+              outward_sent = λ a. refl;
+              inward_taken = λ b. refl;
+            })
             (λ phase s b.
-              let e = there p phase s session order is b in
-              record {
-                next = phase;
-                session = next;
-                stands = changed setup w v p r None [] part phase s next order m (no_items setup p r) e.1 (place_here before part p _ places) b;
-                change = change phase s (sym e.0) e.1 (line_by_router w v p r None [] part m (λ a. refl) (λ a. refl)) (enters setup w v p r next part m.router row.entries);
-              });
+            let e = there p phase s session order is b in
+            record {
+              next = phase;
+              session = next;
+              stands = changed setup w v p r None [] part phase s next order m (no_items setup p r) e.1 (place_here before part p _ places) b;
+              change = change phase s (sym e.0) e.1 (line_by_router w v p r None [] part m (λ a. refl) (λ a. refl)) (enters setup w v p r next part m.router row.entries);
+            });
         reports = λ a. tt;
         room = λ l. le_trans _ _ _ (no_more_taken setup before part p _ places (ap is_taken is)) l;
       }
@@ -173,12 +175,12 @@ module _ (setup : Setup) (w v : World) (r : ℕ) (owned : Owned setup w) where
   pub get_deed : (p : ℕ) (taken : Option RouterTaken) (sent : List RouterSent) (part : RouterPart) → GetsNext setup r p before taken sent part → RouterMoves r taken sent part w v → Deed setup w v r taken sent part
   get_deed p taken sent part row = deed_as setup w v r taken None sent [] part row.alone.0 row.alone.1
       (follow_deed p row.session row.next row.order part row.live.is row.follows
-        (λ phase s e place line entries. Gets r row.order row.bytes place (subst (λ (x : SessionValue). GetsFrame x row.bytes row.next) (sym e) row.gets) line entries))
+      (λ phase s e place line entries. Gets r row.order row.bytes place (subst (λ (x : SessionValue). GetsFrame x row.bytes row.next) (sym e) row.gets) line entries))
 
   pub tick_deed : (p round : ℕ) (taken : Option RouterTaken) (sent : List RouterSent) (part : RouterPart) → Ticks setup r p round before taken sent part → RouterMoves r taken sent part w v → Deed setup w v r taken sent part
   tick_deed p round taken sent part row = deed_as setup w v r taken None sent [] part row.alone.0 row.alone.1
       (follow_deed p row.session row.next row.order part row.live.is row.follows
-        (λ phase s e place line entries. ToTick r row.order round place (subst (λ (x : SessionValue). PassesRound x round row.next) (sym e) row.passes) line entries))
+      (λ phase s e place line entries. ToTick r row.order round place (subst (λ (x : SessionValue). PassesRound x round row.next) (sym e) row.passes) line entries))
 
   -- ---- tables alone
 
@@ -186,10 +188,10 @@ module _ (setup : Setup) (w v : World) (r : ℕ) (owned : Owned setup w) where
       → ((p : ℕ) → AreOthers setup p r taken sent) → ((p a : ℕ) → outward_sent r sent a p ≡ []) → ((p b : ℕ) → inward_taken r taken p b ≡ []) → ((a : ℕ) → reports_sent r sent a ≡ [])
       → RouterMoves r taken sent part w v → Deed setup w v r taken sent part
   tables_deed taken sent part places entries items none_out none_in no_report m = record {
-      each = all_apart setup w v r taken sent part m (λ p. record { places = ap (λ (f : ℕ → Place). f p) places; entries = ap (λ (f : ℕ → Entries). f p) entries; items = items p; outward_sent = none_out p; inward_taken = none_in p });
-      reports = λ a. subst (λ (x : List Report). AllByRecursion (λ (o : Report). IsSome (graft_at setup o.graft)) x) (sym (no_report a)) tt;
-      room = λ l. subst (λ (x : ℕ → Place). length (filter (λ p. is_taken (x p)) (peering_numbers setup)) ≤ room_of setup r) (sym places) l;
-    }
+    each = all_apart setup w v r taken sent part m (λ p. record { places = ap (λ (f : ℕ → Place). f p) places; entries = ap (λ (f : ℕ → Entries). f p) entries; items = items p; outward_sent = none_out p; inward_taken = none_in p });
+    reports = λ a. subst (λ (x : List Report). AllByRecursion (λ (o : Report). IsSome (graft_at setup o.graft)) x) (sym (no_report a)) tt;
+    room = λ l. subst (λ (x : ℕ → Place). length (filter (λ p. is_taken (x p)) (peering_numbers setup)) ≤ room_of setup r) (sym places) l;
+  }
 
   pub put_none_deed : (p : ℕ) (taken : Option RouterTaken) (sent : List RouterSent) (part : RouterPart) → PutsNothing setup r p before taken sent part → RouterMoves r taken sent part w v → Deed setup w v r taken sent part
   put_none_deed p taken sent part row = deed_as setup w v r taken None sent [] part row.alone.0 row.alone.1
@@ -202,12 +204,12 @@ module _ (setup : Setup) (w v : World) (r : ℕ) (owned : Owned setup w) where
   pub tell_deed : (q : ℕ) (prefix : PrefixValue) (taken : Option RouterTaken) (sent : List RouterSent) (part : RouterPart) → Tells q prefix before taken sent part → RouterMoves r taken sent part w v → Deed setup w v r taken sent part
   tell_deed q prefix taken sent part row = deed_as setup w v r taken None sent (MeshTo q (Told prefix (tell_in (map.get before.best prefix))) ∷ []) part row.takes row.sends
       (tables_deed None (MeshTo q (Told prefix (tell_in (map.get before.best prefix))) ∷ []) part (ap (λ (x : RouterPart). x.places) row.effect) (ap (λ (x : RouterPart). x.entries) row.effect)
-        (λ p. other_sent setup p r q (Told prefix (tell_in (map.get before.best prefix))) refl) (λ p a. refl) (λ p b. refl) (λ a. refl))
+      (λ p. other_sent setup p r q (Told prefix (tell_in (map.get before.best prefix))) refl) (λ p a. refl) (λ p b. refl) (λ a. refl))
 
   pub hear_deed : (q : ℕ) (taken : Option RouterTaken) (sent : List RouterSent) (part : RouterPart) → Hears q before taken sent part → RouterMoves r taken sent part w v → Deed setup w v r taken sent part
   hear_deed q taken sent part row = deed_as setup w v r taken (Some (MeshIn q (Told row.prefix row.route))) sent [] part row.takes row.sends
       (tables_deed (Some (MeshIn q (Told row.prefix row.route))) [] part (ap (λ (x : RouterPart). x.places) row.effect) (ap (λ (x : RouterPart). x.entries) row.effect)
-        (λ p. record { mesh_taken = other_taken setup p r q (Told row.prefix row.route) refl; mesh_sent = λ i j. refl; orders_taken = λ i. refl; reports_sent = λ i. refl }) (λ p a. refl) (λ p b. refl) (λ a. refl))
+      (λ p. record { mesh_taken = other_taken setup p r q (Told row.prefix row.route) refl; mesh_sent = λ i j. refl; orders_taken = λ i. refl; reports_sent = λ i. refl }) (λ p a. refl) (λ p b. refl) (λ a. refl))
 
 -- ---- any event of a router
 

@@ -42,7 +42,7 @@ beat_has_room setup p round w taken sent part sound reached row = by_peering (sl
       beat_fits setup p peering w (sound.peerings p peering known) (said_is setup p peering w known reached)
       (subst (λ (n : ℕ). 0 < n) (sym (same_Some (beat_of peering) row.beat e)) row.some) row.few
 
-keeps_unbroken : (setup : Setup) → IsSetup setup → Keeps setup (IsUnbroken setup)
+pub keeps_unbroken : (setup : Setup) → IsSetup setup → Keeps setup (IsUnbroken setup)
 keeps_unbroken setup sound = record {
   first = λ p config is. first_unbroken setup p config sound is;
   step = λ before after p phase next s t reached below stands stands' change is.

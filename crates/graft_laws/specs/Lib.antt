@@ -5,5 +5,9 @@ pub mod Moves
 pub mod Life
 pub mod Keeps
 pub mod Configs
+pub mod Facts
+pub mod Pointing
+pub mod Unchanged
 pub mod Streams
 pub mod Said
+pub mod Tables

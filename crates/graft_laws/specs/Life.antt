@@ -14,7 +14,7 @@ use Rattle.graft_model.specs.RouterRows.{BringsIn}
 use Rattle.graft_model.specs.GraftRows.{refusal_of}
 use Rattle.graft_model.specs.FarRows.{FarTaken, FarSent}
 use Rattle.graft_model.specs.Steps.{FarEvent, far_row}
-use Rattle.graft_laws.specs.Phases.{Stage, Ordered, Stored, Halted, Moving, Landed, Returning, Declined, Cleared, Phase, Idle, Busy, place_by, only}
+use Rattle.graft_laws.specs.Phases.{Ordered, Stored, Halted, Moving, Landed, Returning, Declined, Cleared, Phase, Idle, Busy, place_by, only}
 use Rattle.graft_laws.specs.Moves.{FarMoves}
 
 -- ---- the far side of a peering, and the channels from and to it

@@ -1,5 +1,5 @@
 -- What the operator's log says of the grafts of a peering, by the phase of the last one.
-use Rattle.std.specs.Prelude.{ℕ, ◌==◌, ◌≡◌, ◌≢◌, Bool, true, false, List, ◌++◌, filter, Option, Some, None, is_some, slice_get}
+use Rattle.std.specs.Prelude.{ℕ, ◌==◌, ◌≡◌, ◌≢◌, Bool, false, List, ◌++◌, filter, Option, Some, None, is_some, slice_get}
 use Rattle.std.specs.List.{AllByRecursion, find}
 use Rattle.graft_model.specs.Setups.{Setup, ScriptGraft, MoveStep, grafts_in, graft_number}
 use Rattle.graft_model.specs.Parts.{OperatorPart}

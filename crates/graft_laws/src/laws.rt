@@ -1,19 +1,25 @@
 //! What holds after every list of events.
 
-ghost use Rattle.std.specs.Prelude.{ℕ, ◌≡◌, ◌<◌, ◌≤◌, ◌+◌, ◌^◌, List, [], ◌∷◌, length, Some, slice_get};
+ghost use Rattle.std.specs.Prelude.{ℕ, ◌≡◌, ◌≢◌, ◌<◌, ◌≤◌, ◌+◌, ◌^◌, List, [], ◌∷◌, length, true, false, Some, None, slice_get};
 ghost use Rattle.std.specs.List.{AllByRecursion};
 ghost use Rattle.session_value.specs.Sessions.{SessionValue};
-ghost use Rattle.graft_model.specs.Setups.{Setup, PeeringSetup, SayStep, IsSetup, peerings_in};
+ghost use Rattle.graft_model.specs.Setups.{Setup, PeeringSetup, SayStep, MoveStep, IsSetup, peerings_in, graft_number};
 ghost use Rattle.graft_model.specs.Parts.{World};
+ghost use Rattle.graft_model.specs.OperatorRows.{placement};
 ghost use Rattle.graft_model.specs.First.{first_world};
 ghost use Rattle.graft_model.specs.Steps.{Event, Run};
-ghost use Rattle.graft_model.specs.Claims.{holders, sessions_of, Transparent};
-ghost use Rattle.graft_laws.specs.Phases.{Phase};
+ghost use Rattle.graft_model.specs.Claims.{holders, sessions_at, sessions_of, Transparent, Unchanged, Solves};
+ghost use Rattle.graft_model.specs.Laws.{HasOnce};
+ghost use Rattle.graft_model.specs.Quiet.{Quiet};
+ghost use Rattle.graft_laws.specs.Phases.{Stage, Phase, Busy};
 ghost use Rattle.graft_laws.specs.Owned.{Owned, Stands};
 ghost use Rattle.graft_laws.specs.Keeps.{Reached, Has};
 ghost use Rattle.graft_laws.specs.Configs.{IsOwn};
+ghost use Rattle.graft_laws.specs.Facts.{NothingIsDropped, IsNowhereElse, IsUnderWay};
 ghost use Rattle.graft_laws.specs.Streams.{IsUnbroken, ArePlaced};
 ghost use Rattle.graft_laws.specs.Said.{Said, IsSayOf};
+ghost use Rattle.graft_laws.specs.Pointing.{Points};
+ghost use Rattle.graft_laws.specs.Tables.{Decided, Informed, Answered, IsWhole};
 
 /// Each peering has one session, and stands in one phase of its last graft, by which every place, every channel and the log have of it just
 /// what belongs to that phase.
@@ -21,15 +27,45 @@ pub fn every_world_is_owned()
     ensures { (setup : Setup) (events : List Event) (w : World) → IsSetup setup → Run setup (first_world setup) events w → Owned setup w }
 {}
 
-/// A peering that stands in a phase has one session in the whole world, moving capsules counted, and that is the phase's.
+/// A peering stands in one phase with one session, which is the only one of the peering in the whole world, moving capsules counted. Where a
+/// router holds it, no other router does, and none is on its way.
 pub fn one_session_is_held()
+    ensures phase { (setup : Setup) (w : World) (p : ℕ) (phase next : Phase) (s t : SessionValue) → Stands setup w p phase s → Stands setup w p next t → phase ≡ next }
     ensures one { (setup : Setup) (w : World) (p : ℕ) (phase : Phase) (s : SessionValue) → Stands setup w p phase s → sessions_of setup w p ≡ s ∷ [] }
     ensures count { (setup : Setup) (w : World) (p : ℕ) → IsSetup setup → Reached setup w → p < peerings_in setup → holders setup w p ≡ 1 }
+    ensures alone { (setup : Setup) (w : World) (p r : ℕ) → IsSetup setup → Reached setup w → p < peerings_in setup → sessions_at ((w.router r).places p) ≢ [] → IsNowhereElse w p r }
+{}
+
+/// Each actor may take the next item of each channel that leads to it, so that none is dropped.
+pub fn no_item_is_dropped()
+    ensures { (setup : Setup) (w : World) → IsSetup setup → Reached setup w → NothingIsDropped setup w }
+{}
+
+/// A graft that was issued and has no outcome is under way in one phase, from the router to which it was ordered. One that wasn't issued is
+/// in none. No two places of a router have the same graft.
+pub fn grafts_are_in_one_phase()
+    ensures issued { (setup : Setup) (w : World) (n p target : ℕ) → IsSetup setup → Reached setup w → slice_get setup.steps n ≡ Some (MoveStep p target) → w.operator.issued n ≡ true
+        → w.operator.outcome (graft_number setup n) ≡ None → IsUnderWay setup w p (placement setup w.operator p) (graft_number setup n) target }
+    ensures unissued { (setup : Setup) (w : World) (n p target x q t : ℕ) (stage : Stage) (s : SessionValue) → IsSetup setup → Reached setup w → slice_get setup.steps n ≡ Some (MoveStep p target)
+        → w.operator.issued n ≡ false → Stands setup w x (Busy q (graft_number setup n) t stage) s → ⊥ }
+    ensures once { (setup : Setup) (w : World) (r k : ℕ) → IsSetup setup → Reached setup w → HasOnce k (w.router r) }
 {}
 
 /// The session of a peering keeps what it began with.
 pub fn sessions_keep_their_config()
     ensures { (setup : Setup) (w : World) (p : ℕ) → IsSetup setup → Reached setup w → p < peerings_in setup → Has setup (IsOwn setup) w p }
+{}
+
+/// Every word of a landing that is on its way to a far side, and the last that it followed, are of the last graft of its peering that landed or of
+/// earlier ones. Where the word of the last one isn't on its way, the link points to the router where the session is at home.
+pub fn links_follow_landings()
+    ensures { (setup : Setup) (w : World) (p : ℕ) → IsSetup setup → Reached setup w → p < peerings_in setup → Has setup (Points setup) w p }
+{}
+
+/// A graft that lands or is turned back leaves the session as the freeze found it, a landing at the target and a return at the source. A graft that
+/// the source refuses leaves every session as it is.
+pub fn always_unchanged()
+    ensures { (setup : Setup) (events : List Event) → IsSetup setup → Unchanged setup (first_world setup) events }
 {}
 
 /// After every list of events, in whatever order its turns come and whatever a link loses, repeats or reorders, each peering is transparent: it has
@@ -53,4 +89,22 @@ pub fn what_is_said_has_room()
     ensures orders { (setup : Setup) (p : ℕ) (w : World) → IsSetup setup → Reached setup w → p < peerings_in setup → AllByRecursion (IsSayOf setup p) (w.says p) }
     ensures room { (setup : Setup) (p step : ℕ) (rest bytes : List ℕ) (w : World) → IsSetup setup → Reached setup w → p < peerings_in setup
         → w.says p ≡ step ∷ rest → slice_get setup.steps step ≡ Some (SayStep p bytes) → length (w.far p).end.stream + length bytes ≤ 2 ^ 20 }
+{}
+
+/// A router's best route to each prefix that isn't to be decided again is the choice between what it has. What it has of another router is what that one
+/// tells of its best route, but for what is due or on its way. What was told on a live established session is what is to be told on it, but for what is
+/// due (RFC 4271, sections 9.1.2, 9.1.3 and 9.2). Nothing is assumed of the time for which a session was away: what was told, and what is best, is due again.
+pub fn tables_are_what_is_decided()
+    ensures decided { (setup : Setup) (w : World) (r : ℕ) → Reached setup w → Decided setup r (w.router r) }
+    ensures informed { (setup : Setup) (w : World) (a b : ℕ) → Reached setup w → Informed setup a b w }
+    ensures answered { (setup : Setup) (w : World) (r : ℕ) → IsSetup setup → Reached setup w → Answered setup r (w.router r) }
+    ensures whole { (setup : Setup) (w : World) (p : ℕ) → IsSetup setup → Reached setup w → p < peerings_in setup → Has setup (IsWhole setup) w p }
+{}
+
+/// Where nothing is left to do, the tables of all routers solve the decision equations (RFC 4271, section 9.1) for the placement by the operator's log:
+/// each best route is the choice between the router's own network, what the sessions that it holds heard, and what the others tell now; each session is
+/// live where it belongs, with the link turned there; its remote received all that was told, and all that the remote said was got; and no other router has
+/// anything of it.
+pub fn quiet_solves()
+    ensures { (setup : Setup) (events : List Event) (w : World) → IsSetup setup → Run setup (first_world setup) events w → Quiet setup w → Solves setup w }
 {}

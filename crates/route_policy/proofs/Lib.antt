@@ -1,3 +1,2 @@
 pub mod PolicyLemmas
-pub mod Worked
 pub mod Tells

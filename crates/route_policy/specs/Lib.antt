@@ -3,3 +3,4 @@ pub mod Paths
 pub mod Policies
 pub mod Candidates
 pub mod Telling
+pub mod Worked

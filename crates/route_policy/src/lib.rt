@@ -4,6 +4,7 @@
 
 mod best;
 mod entry;
+mod laws;
 mod path;
 mod policy;
 mod rank;
@@ -12,6 +13,7 @@ mod tell;
 
 pub use best::Best;
 pub use entry::Entry;
+pub use laws::{worked_candidates, worked_telling};
 pub use path::prepend;
 pub use policy::Policy;
 pub use rank::{own_rank, router_rank, session_rank};

@@ -3,3 +3,4 @@ mod loc;
 mod side_by_side;
 mod sorted;
 mod trie;
+mod walk;

@@ -1,3 +1,4 @@
+use super::walk::longest;
 use bgp_types::{NoMemory, Prefix, Table};
 use prefix_table::SortedTable;
 use prefix_trie::TrieTable;
@@ -70,26 +71,6 @@ fn run<T: Table<u32>>(table: &mut T, command: &Command) -> Result<Answer, NoMemo
         Command::Get(prefix) => Answer::Value(table.get(*prefix).copied()),
         Command::NextAfter(prefix) => Answer::Next(table.next_after(Some(*prefix))),
     })
-}
-
-/// The longest prefix of a table that covers an address, by a walk over all of them.
-fn longest<T: Table<u32>>(table: &T, address: u32) -> Option<Prefix> {
-    let host = Prefix::new(address, 32)?;
-    let mut longest = None;
-    let mut len = 0;
-    let mut at = None;
-    for _ in 0..table.len() {
-        let Some(prefix) = table.next_after(at) else {
-            return longest;
-        };
-        let bits = prefix.len();
-        if bits >= len && prefix.covers(&host) {
-            longest = Some(prefix);
-            len = bits;
-        }
-        at = Some(prefix);
-    }
-    longest
 }
 
 /// What a walk through a table passes, at most one more than there are.

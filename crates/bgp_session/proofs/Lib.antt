@@ -1,0 +1,11 @@
+pub mod Ends
+pub mod Opens
+pub mod Got
+pub mod Reading
+pub mod Rounds
+pub mod Offered
+pub mod Exchanged
+pub mod Arrivals
+pub mod Fronts
+pub mod Listed
+pub mod Begun

@@ -1,0 +1,13 @@
+pub mod RemoteSteps
+pub mod LinkSteps
+pub mod PassLists
+pub mod Kept
+pub mod Sessions
+pub mod Dids
+pub mod HomeSteps
+pub mod ReachSteps
+pub mod EmitSteps
+pub mod BeatSteps
+pub mod Begins
+pub mod Takings
+pub mod TurnSteps

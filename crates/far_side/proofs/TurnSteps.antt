@@ -1,0 +1,206 @@
+-- The pieces of a turn, one after another.
+use Rattle.std.proofs.Common.{◌≡◌, ℕ, ◌+◌, List, [], ◌++◌, length, false, refl, sym, ap, subst, ◌∙◌, arith, inl, inr, append_assoc}
+use Rattle.ring_net.specs.declared.post.Post.{Post}
+use Rattle.graft_steps.specs.declared.item.Item.{Item}
+use Rattle.tcp_seq.specs.Endpoint.{Endpoint}
+use Rattle.link_bag.specs.declared.plan.Fate.{Fate}
+use Rattle.link_bag.specs.Planned.{fate_in}
+use Rattle.session_value.specs.Sessions.{SessionValue}
+use Rattle.graft_model.specs.Steps.{FarEvent}
+use Rattle.graft_actors.specs.Emissions.{nothing, Tally, reach_of}
+use Rattle.far_side.specs.Remotes.{RemoteValue}
+use Rattle.far_side.specs.Links.{LinkValue, home_events, remote_events, left_of}
+use Rattle.far_side.specs.Parts.{far_part}
+use Rattle.far_side.specs.Turns.{Did}
+use Rattle.far_side.specs.Passes.{fates_in, plans_put, SameRemote, HomePass, RemotePass, Sent, SentAgain, SentFresh, SentAnswer, Beats, Beaten, again_events, answer_events}
+use Rattle.far_side.specs.Turned.{TurnsOnce}
+use Rattle.far_side.specs.declared.fields.Fields.{Fields}
+use Rattle.far_side.specs.declared.link.InLink.{InLink}
+use Rattle.far_side.proofs.Dids.{did_same, did_then}
+use Rattle.far_side.proofs.EmitSteps.{plans_put-append}
+
+-- what a beat leaves alone
+beats_same : (f g : Fields) (events : List FarEvent) → Beats f events g → (g.homeward ≡ f.homeward) × (g.remoteward ≡ f.remoteward) × (g.plan ≡ f.plan) × (g.pointer ≡ f.pointer) × (g.turns ≡ f.turns) × (g.remote.at_turn ≡ f.remote.at_turn)
+    × (g ≡ record f { remote = g.remote; beats = g.beats; last_beat = g.last_beat })
+beats_same f g events (inl b) = let is = b.2 in (
+  ap (λ (h : Fields). h.homeward) is,
+  ap (λ (h : Fields). h.remoteward) is,
+  ap (λ (h : Fields). h.plan) is,
+  ap (λ (h : Fields). h.pointer) is,
+  ap (λ (h : Fields). h.turns) is,
+  ap (λ (h : Fields). h.remote.at_turn) is,
+  subst (λ (h : Fields). h ≡ record f { remote = h.remote; beats = h.beats; last_beat = h.last_beat }) (sym is) refl,
+)
+beats_same f g events (inr b) = let is = b.2 in (
+  ap (λ (h : Fields). h.homeward) is,
+  ap (λ (h : Fields). h.remoteward) is,
+  ap (λ (h : Fields). h.plan) is,
+  ap (λ (h : Fields). h.pointer) is,
+  ap (λ (h : Fields). h.turns) is,
+  ap (λ (h : Fields). h.remote.at_turn) is,
+  subst (λ (h : Fields). h ≡ record f { remote = h.remote; beats = h.beats; last_beat = h.last_beat }) (sym is) refl,
+)
+
+-- f0 is the far side before the turn, a after its turn was counted, b and c after the two passes, d after the retransmission turn, e after the beat,
+-- g after the new slices, h after the answer
+module _ {C : Type 0} (session : C → SessionValue) (f0 a b c d e g h : Fields) (p0 p1 p2 p3 p4 p5 p6 : Post (Item C)) (counted : a ≡ record f0 { turns = f0.turns + 1 })
+    (home : HomePass session a p0 b p1) (remote : RemotePass session b p1 c p2) (again : SentAgain session c p2 d p3) (beaten : Beaten session d p3 e p4) (fresh : SentFresh session e p4 g p5) (answer : SentAnswer session g p5 h p6) where
+  did_tail : Did session c p2 nothing (again_events c.remote ++ (beaten.events ++ (fresh.events ++ answer_events g.remote.end))) h p6 (record { again = length (again_events c.remote); answers = length (answer_events g.remote.end) })
+  did_tail =
+      let n = length (again_events c.remote) in
+      let t : Tally = record { again = 0 + n; answers = 0 } in
+      let u : Tally = record { again = 0 + n; answers = 0 + length (answer_events g.remote.end) } in
+      let all : Did session c p2 nothing (again_events c.remote ++ (beaten.events ++ (fresh.events ++ answer_events g.remote.end))) h p6 u =
+      did_then session c d h p2 p3 p6 nothing t u (again_events c.remote) (beaten.events ++ (fresh.events ++ answer_events g.remote.end)) (again.sent nothing).did
+      (did_then session d e h p3 p4 p6 t t u beaten.events (fresh.events ++ answer_events g.remote.end) (beaten.did t)
+      (did_then session e g h p4 p5 p6 t t u fresh.events (answer_events g.remote.end) (fresh.sent t).did (answer.sent t).did)) in
+      subst (λ (v : Tally). Did session c p2 nothing (again_events c.remote ++ (beaten.events ++ (fresh.events ++ answer_events g.remote.end))) h p6 v)
+      (λ i. record { again = (let z : 0 + n ≡ n = omega arith in z) i; answers = (let z : 0 + length (answer_events g.remote.end) ≡ length (answer_events g.remote.end) = omega arith in z) i }) all
+
+  did_all : Did session f0 p0 nothing (home_events a.pointer.0 a.homeward.plans ++ (remote_events b.remoteward.plans ++ (again_events c.remote ++ (beaten.events ++ (fresh.events ++ answer_events g.remote.end))))) h p6 (record { again = length (again_events c.remote); answers = length (answer_events g.remote.end) })
+  did_all =
+      let u : Tally = record { again = length (again_events c.remote); answers = length (answer_events g.remote.end) } in
+      let rest = again_events c.remote ++ (beaten.events ++ (fresh.events ++ answer_events g.remote.end)) in
+      did_then session f0 a h p0 p0 p6 nothing nothing u [] (home_events a.pointer.0 a.homeward.plans ++ (remote_events b.remoteward.plans ++ rest))
+      (did_same session f0 a p0 nothing (ap (λ (k : Fields). k.known.setup) counted) (ap (λ (k : Fields). k.peering) counted) (ap far_part counted))
+      (did_then session a b h p0 p1 p6 nothing nothing u (home_events a.pointer.0 a.homeward.plans) (remote_events b.remoteward.plans ++ rest) (home.did nothing)
+      (did_then session b c h p1 p2 p6 nothing nothing u (remote_events b.remoteward.plans) rest (remote.did nothing) did_tail))
+
+-- ---- plans that were put
+
+puts_then : (fate : ℕ → Fate) (router k m n : ℕ) (xs ys zs : List InLink) → ys ≡ xs ++ plans_put fate router k m → zs ≡ ys ++ plans_put fate router (k + m) n → zs ≡ xs ++ plans_put fate router k (m + n)
+puts_then fate router k m n xs ys zs first second =
+    second ∙ ap (λ (us : List InLink). us ++ plans_put fate router (k + m) n) first
+    ∙ append_assoc xs (plans_put fate router k m) (plans_put fate router (k + m) n)
+    ∙ ap (λ (us : List InLink). xs ++ us) (sym (plans_put-append fate router k m n))
+
+-- what pieces put into the link to home, by the fates of the first
+record Puts (fate : ℕ → Fate) (router : ℕ) (old new : LinkValue) (n : ℕ) : Type 0 where
+  plans : new.plans ≡ old.plans ++ plans_put fate router old.put n
+  put : new.put ≡ old.put + n
+
+puts_on : (fate : ℕ → Fate) (router : ℕ) (a b c : LinkValue) (m n : ℕ) → Puts fate router a b m → Puts fate router b c n → Puts fate router a c (m + n)
+puts_on fate router a b c m n x y = record {
+  plans = puts_then fate router a.put m n a.plans b.plans c.plans x.plans (y.plans ∙ ap (λ (k : ℕ). b.plans ++ plans_put fate router k n) x.put);
+  put = let e : c.put ≡ a.put + (m + n) = omega (arith, y.put, x.put) in e;
+}
+
+-- the fates that the plan has for a link, and the router that it points at
+record SameFates (f g : Fields) : Type 0 where
+  fates : fates_in g.plan g.homeward ≡ fates_in f.plan f.homeward
+  router : g.pointer.0 ≡ f.pointer.0
+
+fates_on : (f g h : Fields) → SameFates f g → SameFates g h → SameFates f h
+fates_on f g h x y = record { fates = y.fates ∙ x.fates; router = y.router ∙ x.router }
+
+module _ {C : Type 0} (session : C → SessionValue) where
+  sent_puts : (f g : Fields) (p q : Post (Item C)) (t u : Tally) (es : List FarEvent) → Sent session f p t es g q u → Puts (fates_in f.plan f.homeward) f.pointer.0 f.homeward g.homeward (length es) × SameFates f g
+  sent_puts f g p q t u es x = (
+    record { plans = x.plans; put = x.put },
+    record {
+      fates = ap (λ (k : Fields). fates_in k.plan g.homeward) x.same ∙ ap (λ (l : LinkValue). fates_in f.plan l) x.link;
+      router = ap (λ (k : Fields). k.pointer.0) x.same;
+    },
+  )
+
+puts_by : (f g : Fields) (a b : LinkValue) (n : ℕ) → SameFates f g → Puts (fates_in g.plan g.homeward) g.pointer.0 a b n → Puts (fates_in f.plan f.homeward) f.pointer.0 a b n
+puts_by f g a b n same puts = subst (λ v. Puts v f.pointer.0 a b n) same.fates (subst (λ (r : ℕ). Puts (fates_in g.plan g.homeward) r a b n) same.router puts)
+
+module _ {C : Type 0} (session : C → SessionValue) (f0 b c d e g h : Fields) (p0 p1 p2 p3 p4 p5 p6 : Post (Item C))
+    (home : HomePass session (record f0 { turns = f0.turns + 1 }) p0 b p1) (remote : RemotePass session b p1 c p2) (again : SentAgain session c p2 d p3) (beaten : Beaten session d p3 e p4) (fresh : SentFresh session e p4 g p5) (answer : SentAnswer session g p5 h p6) where
+  -- before anything is sent
+  b_remoteward : b.remoteward ≡ f0.remoteward
+  b_remoteward = ap (λ (k : Fields). k.remoteward) home.same
+
+  c_same : c ≡ record f0 { turns = f0.turns + 1; remote = c.remote; homeward = b.homeward; remoteward = c.remoteward }
+  c_same = remote.same ∙ ap (λ (k : Fields). let m : Fields = record k { remote = c.remote; remoteward = c.remoteward } in m) home.same
+
+  d_same : d ≡ record f0 { turns = f0.turns + 1; remote = d.remote; homeward = d.homeward; remoteward = c.remoteward }
+  d_same = (again.sent nothing).same ∙ ap (λ (k : Fields). let m : Fields = record k { remote = d.remote; homeward = d.homeward } in m) c_same
+
+  e_same : e ≡ record f0 { turns = f0.turns + 1; remote = e.remote; homeward = d.homeward; remoteward = c.remoteward; beats = e.beats; last_beat = e.last_beat }
+  e_same = (beats_same d e beaten.events beaten.beats).6 ∙ ap (λ (k : Fields). let m : Fields = record k { remote = e.remote; beats = e.beats; last_beat = e.last_beat } in m) d_same
+
+  g_same : g ≡ record f0 { turns = f0.turns + 1; remote = g.remote; homeward = g.homeward; remoteward = c.remoteward; beats = e.beats; last_beat = e.last_beat }
+  g_same = (fresh.sent nothing).same ∙ ap (λ (k : Fields). let m : Fields = record k { remote = g.remote; homeward = g.homeward } in m) e_same
+
+  h_same : h ≡ record f0 { turns = f0.turns + 1; remote = h.remote; homeward = h.homeward; remoteward = c.remoteward; beats = e.beats; last_beat = e.last_beat }
+  h_same = (answer.sent nothing).same ∙ ap (λ (k : Fields). let m : Fields = record k { remote = h.remote; homeward = h.homeward } in m) g_same
+
+  -- the links
+  first_fates : SameFates f0 c
+  first_fates = record {
+    fates = ap (λ (k : Fields). fates_in k.plan c.homeward) c_same ∙ ap (λ (l : LinkValue). fates_in f0.plan l) (ap (λ (k : Fields). k.homeward) c_same)
+        ∙ (λ i. (λ (n : ℕ). fate_in f0.plan (record { 0 = home.link.peering i }) (home.link.way i) n));
+    router = ap (λ (k : Fields). k.pointer.0) c_same;
+  }
+
+  first_puts : Puts (fates_in f0.plan f0.homeward) f0.pointer.0 c.homeward d.homeward (length (again_events c.remote)) × SameFates f0 d
+  first_puts = let x = sent_puts session c d p2 p3 nothing _ (again_events c.remote) (again.sent nothing) in
+      (puts_by f0 c c.homeward d.homeward (length (again_events c.remote)) first_fates x.0, fates_on f0 c d first_fates x.1)
+
+  beat_fates : SameFates d e
+  beat_fates = let s = beats_same d e beaten.events beaten.beats in record {
+    fates = ap (λ pl. fates_in pl e.homeward) s.2 ∙ ap (λ (l : LinkValue). fates_in d.plan l) s.0;
+    router = ap (λ r. r.0) s.3;
+  }
+
+  all_puts : Puts (fates_in f0.plan f0.homeward) f0.pointer.0 c.homeward h.homeward (length (again_events c.remote) + (length fresh.events + length (answer_events g.remote.end)))
+  all_puts =
+      let before : SameFates f0 e = fates_on f0 d e first_puts.1 beat_fates in
+      let x = sent_puts session e g p4 p5 nothing nothing fresh.events (fresh.sent nothing) in
+      let y = sent_puts session g h p5 p6 nothing _ (answer_events g.remote.end) (answer.sent nothing) in
+      let second : Puts (fates_in f0.plan f0.homeward) f0.pointer.0 e.homeward g.homeward (length fresh.events) = puts_by f0 e e.homeward g.homeward (length fresh.events) before x.0 in
+      let third : Puts (fates_in f0.plan f0.homeward) f0.pointer.0 g.homeward h.homeward (length (answer_events g.remote.end)) = puts_by f0 g g.homeward h.homeward (length (answer_events g.remote.end)) (fates_on f0 e g before x.1) y.0 in
+      let start : Puts (fates_in f0.plan f0.homeward) f0.pointer.0 d.homeward g.homeward (length fresh.events) = subst (λ (l : LinkValue). Puts (fates_in f0.plan f0.homeward) f0.pointer.0 l g.homeward (length fresh.events)) (beats_same d e beaten.events beaten.beats).0 second in
+      puts_on _ _ c.homeward d.homeward h.homeward _ _ first_puts.0 (puts_on _ _ d.homeward g.homeward h.homeward _ _ start third)
+
+  -- the whole turn
+  pub turns_once : TurnsOnce session f0 p0 h p6
+  turns_once =
+      let rest : List FarEvent = again_events c.remote ++ (beaten.events ++ (fresh.events ++ answer_events g.remote.end)) in
+      let u : Tally = record { again = length (again_events c.remote); answers = length (answer_events g.remote.end) } in
+      let did : Did session f0 p0 nothing (home_events f0.pointer.0 f0.homeward.plans ++ (remote_events f0.remoteward.plans ++ rest)) h p6 u =
+      subst (λ (l : LinkValue). Did session f0 p0 nothing (home_events f0.pointer.0 f0.homeward.plans ++ (remote_events l.plans ++ rest)) h p6 u) b_remoteward
+      (did_all session f0 (let k : Fields = record f0 { turns = f0.turns + 1 } in k) b c d e g h p0 p1 p2 p3 p4 p5 p6 refl home remote again beaten fresh answer) in
+      let end_is : h.remote.end ≡ record g.remote.end { owed = false } = ap (λ (v : RemoteValue). v.end) answer.remote in
+      record {
+        moved = record {
+          deeds = did.deeds;
+          wrote = did.wrote;
+          none = did.none;
+          replay = did.replay;
+          moved = record {
+            beats = beaten.events;
+            fresh = fresh.events;
+            reached = c.remote;
+            before = d;
+            beaten = e;
+            sent = g.remote.end;
+            is_reached = subst (λ (v : RemoteValue). SameRemote v c.remote) (ap (λ (k : Fields). k.remote) home.same) remote.remote;
+            is_before = (again.remote, ap (λ (k : Fields). k.turns) d_same, ap (λ (k : Fields). k.beat) d_same, ap (λ (k : Fields). k.beats) d_same, ap (λ (k : Fields). k.last_beat) d_same);
+            is_beat = beaten.beats;
+            is_fresh = fresh.fresh;
+            events = did.coded;
+            round = did.round;
+            end = end_is;
+            rested = record { emitted = ap (λ (x : Endpoint). x.emitted) end_is ∙ fresh.all ∙ sym (ap reach_of end_is); answered = ap (λ (x : Endpoint). x.owed) end_is };
+            at_turn = ap (λ (v : RemoteValue). v.at_turn) answer.remote ∙ fresh.at_turn ∙ (beats_same d e beaten.events beaten.beats).5 ∙ ap (λ (v : RemoteValue). v.at_turn) again.remote;
+            homeward = all_puts.plans
+                ∙ ap (λ (xs : List InLink). xs ++ plans_put (fates_in f0.plan f0.homeward) f0.pointer.0 c.homeward.put (length (again_events c.remote) + (length fresh.events + length (answer_events g.remote.end))))
+                (ap (λ (k : Fields). k.homeward.plans) remote.same ∙ home.plans)
+                ∙ ap (λ (n : ℕ). left_of f0.homeward.plans ++ plans_put (fates_in f0.plan f0.homeward) f0.pointer.0 n (length (again_events c.remote) + (length fresh.events + length (answer_events g.remote.end)))) put_is;
+            put = all_puts.put ∙ ap (λ (n : ℕ). n + (length (again_events c.remote) + (length fresh.events + length (answer_events g.remote.end)))) put_is;
+            remoteward = (
+              ap (λ (k : Fields). k.remoteward.plans) h_same ∙ remote.plans ∙ ap (λ (l : LinkValue). left_of l.plans) b_remoteward,
+              ap (λ (k : Fields). k.remoteward.put) h_same ∙ remote.put ∙ ap (λ (l : LinkValue). l.put) b_remoteward,
+            );
+            turns = ap (λ (k : Fields). k.turns) h_same;
+            same = subst (λ (k : Fields). k ≡ record f0 { remote = k.remote; homeward = k.homeward; remoteward = k.remoteward; turns = k.turns; beats = k.beats; last_beat = k.last_beat }) (sym h_same) refl;
+          };
+        };
+        keeps = (answer.sent nothing).keeps;
+      }
+    where
+      put_is : c.homeward.put ≡ f0.homeward.put
+      put_is = ap (λ (k : Fields). k.homeward.put) remote.same ∙ home.put

@@ -1,0 +1,25 @@
+use Rattle.std.proofs.Common.{arith}
+use Rattle.ring_net.proofs.TakesEach.{same_edges_self, same_edges_then}
+use Rattle.far_side.proofs.ReachSteps.{passing_first, passing_next, passing_last, passing_place}
+use Rattle.far_side.proofs.reach.pass_remote.Goals as goal
+
+pub loop-count-init : goal.loop-count-init
+loop-count-init g c = (passing_first c.args.far.now c.args.post.now c.requires, same_edges_self c.args.post.now)
+
+pub remote_step-requires-clause-place : goal.remote_step-requires-clause-place
+remote_step-requires-clause-place g c = passing_place c.args.far.now c.loop-count.far c.args.post.now c.loop-count.post c.loop-count.place c.loop-count._count c.loop-count.invariant.0 (omega (arith, c.len-count-end.ensures.plans))
+
+pub loop-count-preserved : goal.loop-count-preserved
+loop-count-preserved g c = (
+  passing_next c.args.far.now c.loop-count.far c.remote_step.new.far c.args.post.now c.loop-count.post c.remote_step.new.post c.loop-count.place c.in_ok-place.place c.loop-count._count c.loop-count.invariant.0 c.in_ok-place.ensures.step,
+  same_edges_then c.args.post.now c.loop-count.post c.remote_step.new.post c.loop-count.invariant.1 c.remote_step.ensures.edges,
+)
+
+pub returns-in_err-place-clause-edges : goal.returns-in_err-place-clause-edges
+returns-in_err-place-clause-edges g c = same_edges_then c.args.post.now c.loop-count.post c.remote_step.new.post c.loop-count.invariant.1 c.remote_step.ensures.edges
+
+pub returns-clause-edges : goal.returns-clause-edges
+returns-clause-edges g c = c.loop-count.invariant.1
+
+pub returns-clause-pass : goal.returns-clause-pass
+returns-clause-pass g c = passing_last c.args.far.now c.loop-count.far c.args.post.now c.loop-count.post c.loop-count.place c.loop-count._count c.loop-count.invariant.0 (omega (arith, c.len-count-end.ensures.plans))

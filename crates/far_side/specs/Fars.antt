@@ -1,0 +1,55 @@
+-- A far side: which configuration is whose, how it begins, and what is said of its calls.
+use Rattle.std.specs.Prelude.{ℕ, ◌≡◌, ◌<◌, ◌≤◌, List, [], length, Some, slice_get}
+use Rattle.ring_net.specs.Deeds.{Deed}
+use Rattle.graft_steps.specs.declared.item.Item.{Item}
+use Rattle.graft_model.specs.Setups.{Setup, PeeringSetup, beat_of, routers_in, peerings_in}
+use Rattle.graft_model.specs.Parts.{FarPart}
+use Rattle.graft_model.specs.First.{first_far}
+use Rattle.graft_runs.specs.Actors.{FarSide, FarIs}
+use Rattle.graft_actors.specs.Acts.{OwnPart}
+use Rattle.far_side.specs.Says.{bytes_of}
+use Rattle.far_side.specs.Parts.{far_part, own_part, say_by}
+use Rattle.far_side.specs.Takes.{Took}
+use Rattle.far_side.specs.Turned.{Turned}
+use Rattle.far_side.specs.declared.config.FarConfig.{FarConfig}
+use Rattle.far_side.specs.declared.far.Far.{Far}
+
+-- the part of the world that a far side is, by itself and as an actor
+abbrev pub part_in : Far → FarPart
+part_in f = far_part f.fields
+
+abbrev pub own : Far → OwnPart
+own f = own_part f.fields
+
+-- A configuration is that of a peering of a laboratory.
+pub record IsConfigOf (setup : Setup) (config : FarConfig) : Type 0 where
+  pub peering : PeeringSetup
+  pub is : slice_get setup.peerings config.peering.0 ≡ Some peering
+  pub routers : config.routers ≡ routers_in setup
+  pub few : config.routers ≤ 256
+  pub peerings : config.peerings ≡ peerings_in setup
+  pub pointer : config.pointer.0 ≡ peering.start
+  pub known : peering.start < routers_in setup
+  pub sends : config.send_first ≡ peering.config.receive_first
+  pub receives : config.receive_first ≡ peering.config.send_first
+  pub opening : config.opening ≡ peering.opening
+  pub short : length config.opening ≤ 4096
+  pub says : (step : ℕ) → bytes_of config.says step ≡ say_by config.peering.0 (slice_get setup.steps step)
+  pub beat : config.beat ≡ beat_of peering
+
+-- It is the far side of its peering in the first world, with nothing in its links and before its first turn.
+pub record IsNew (setup : Setup) (config : FarConfig) (far : Far) : Type 0 where
+  pub is : own far ≡ record { setup = setup; name = FarSide config.peering.0; part = FarIs (first_far (slice_get setup.peerings config.peering.0)) }
+  pub at_turn : far.fields.remote.at_turn ≡ 0
+  pub homeward : (far.fields.homeward.plans ≡ []) × (far.fields.homeward.put ≡ 0)
+  pub remoteward : (far.fields.remoteward.plans ≡ []) × (far.fields.remoteward.put ≡ 0)
+  pub turns : far.fields.turns ≡ 0
+  pub beat : far.fields.beat ≡ config.beat
+  pub plan : far.fields.plan ≡ config.plan
+
+-- what is said of a take and of a turn beside their events
+abbrev pub took : {C : Type 0} → Far → ℕ → Item C → List (Deed (Item C)) → Far → Type 0
+took old from item deeds new = Took old.fields from item deeds new.fields
+
+abbrev pub turned : {C : Type 0} → Far → List (Deed (Item C)) → Far → Type 0
+turned old deeds new = Turned old.fields deeds new.fields

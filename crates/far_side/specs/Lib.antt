@@ -1,0 +1,13 @@
+pub mod Remotes
+pub mod RemoteInner
+pub mod Links
+pub mod LinkInner
+pub mod Says
+pub mod Notes
+pub mod Parts
+pub mod Turns
+pub mod Passes
+pub mod Takes
+pub mod Turned
+pub mod FieldProps
+pub mod Fars

@@ -1,0 +1,103 @@
+-- What a plan does to the segments in a link, turn by turn.
+use Rattle.std.specs.Prelude.{ℕ, ◌≡◌, ◌<◌, ◌+◌, ◌==◌, ◌^◌, nat_le, not, if◌then◌else◌, Bool, true, false, List, [], ◌∷◌, ◌++◌, length, map, filter}
+use Rattle.link_bag.specs.declared.plan.Fate.{Fate}
+use Rattle.link_bag.specs.declared.plan.Fate.TheVariants.{Pass, Lose, Repeat, Hold, Stray}
+use Rattle.tcp_seq.specs.Endpoint.{PlacedSegment, IsInStreams}
+use Rattle.tcp_seq.specs.Placed.{placed}
+use Rattle.tcp_seq.specs.declared.segment.Way.{Way}
+use Rattle.tcp_seq.specs.declared.segment.Segment.{Segment}
+use Rattle.graft_model.specs.FarRows.{Homeward, Remoteward}
+use Rattle.graft_model.specs.Steps as events
+use Rattle.graft_model.specs.Steps.{FarEvent}
+use Rattle.far_side.specs.declared.link.InLink.{InLink}
+use Rattle.far_side.specs.declared.link.Act.{Act}
+use Rattle.far_side.specs.declared.link.Act.TheVariants.{Stays, Delivered, Copied, Lost}
+
+-- What happens to a segment of this fate, so many turns after its first delivery. The table of fates: one that passes is delivered at once; one
+-- that is lost is lost then; a repeated one is delivered then, and again later; one that is held is delivered only later; and of one that strays
+-- a copy goes astray later.
+abbrev pub act_of : Fate → ℕ → Act
+act_of Pass turns = Delivered false
+act_of Lose turns = Lost
+act_of (Repeat after) turns = if nat_le after turns then Delivered false else if turns == 0 then Delivered true else Stays
+act_of (Hold after) turns = if nat_le after turns then Delivered false else Stays
+act_of (Stray after) turns = if nat_le after turns then Copied else if turns == 0 then Delivered true else Stays
+
+abbrev pub act_in : InLink → Act
+act_in x = act_of x.fate x.turns
+
+-- whether the segment has left the link then
+abbrev pub is_gone : Act → Bool
+is_gone Stays = false
+is_gone (Delivered keep) = not keep
+is_gone Copied = true
+is_gone Lost = true
+
+-- the same segment, one turn later
+abbrev pub older : InLink → InLink
+older x = record x { turns = x.turns + 1 }
+
+-- a segment that is put now, while the link points at this router
+abbrev pub put_now : Fate → ℕ → InLink
+put_now fate router = record { fate = fate; turns = 0; pointed = record { 0 = router } }
+
+-- ---- one turn over a link
+
+-- what is left of it
+abbrev pub left_of : List InLink → List InLink
+left_of xs = map older (filter (λ x. not (is_gone (act_in x))) xs)
+
+-- the event of a segment that goes home, at its place in the link, while the link points at this router
+abbrev pub home_act : (pointer index : ℕ) → InLink → Act → List FarEvent
+home_act pointer index x Stays = []
+home_act pointer index x (Delivered keep) = events.Pass index keep pointer ∷ []
+home_act pointer index x Copied = events.Pass index false x.pointed.0 ∷ []
+home_act pointer index x Lost = events.Lose Homeward index ∷ []
+
+abbrev pub home_event : (pointer : ℕ) → ℕ → InLink → List FarEvent
+home_event pointer index x = home_act pointer index x (act_in x)
+
+-- the event of a segment that goes to the remote, for which a copy that goes astray is one more
+abbrev pub remote_act : (index : ℕ) → Act → List FarEvent
+remote_act index Stays = []
+remote_act index (Delivered keep) = events.Reach index keep ∷ []
+remote_act index Copied = events.Reach index false ∷ []
+remote_act index Lost = events.Lose Remoteward index ∷ []
+
+abbrev pub remote_event : ℕ → InLink → List FarEvent
+remote_event index x = remote_act index (act_in x)
+
+-- the place of the next segment, where each place counts those that are still there
+abbrev pub next_place : ℕ → InLink → ℕ
+next_place index x = if is_gone (act_in x) then index else index + 1
+
+-- the events of all segments from a place on, by rising place
+abbrev pub pass_events : (ℕ → InLink → List FarEvent) → ℕ → List InLink → List FarEvent
+pass_events event index [] = []
+pass_events event index (x ∷ xs) = event index x ++ pass_events event (next_place index x) xs
+
+abbrev pub home_events : (pointer : ℕ) → List InLink → List FarEvent
+home_events pointer xs = pass_events (home_event pointer) 0 xs
+
+abbrev pub remote_events : List InLink → List FarEvent
+remote_events xs = pass_events remote_event 0 xs
+
+-- ---- a link
+
+-- the side that it leads to and the peering, the numbers of the first bytes of the stream that its segments carry and of the other one, its segments with what
+-- the plan does to each, and how many were put
+pub record LinkValue : Type 0 where
+  pub way : Way
+  pub peering : ℕ
+  pub seq_first : ℕ
+  pub ack_first : ℕ
+  pub segments : List PlacedSegment
+  pub plans : List InLink
+  pub put : ℕ
+
+-- a segment that this link may carry
+pub record IsOn (link : LinkValue) (g : Segment) : Type 0 where
+  pub way : g.way ≡ link.way
+  pub peering : g.peering.0 ≡ link.peering
+  pub in_streams : IsInStreams (placed link.seq_first link.ack_first g)
+  pub short : length g.bytes < 2 ^ 16

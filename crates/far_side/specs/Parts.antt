@@ -1,0 +1,65 @@
+-- A far side as the model has it, and what its fields keep.
+use Rattle.std.specs.Prelude.{ℕ, ◌≡◌, ◌<◌, ◌≤◌, ◌==◌, List, Option, Some, None, option_map, if◌then◌else◌, slice_get}
+use Rattle.std.specs.List.{AllByRecursion}
+use Rattle.tcp_seq.specs.declared.segment.Way.{Way}
+use Rattle.tcp_seq.specs.declared.segment.Way.TheVariants.{Home, Remote}
+use Rattle.session_value.specs.Sessions.{SessionValue}
+use Rattle.graft_model.specs.Setups.{ScriptStep, SayStep, MoveStep, SettleStep, beat_of, routers_in, peerings_in}
+use Rattle.graft_model.specs.Parts.{FarPart}
+use Rattle.graft_runs.specs.Actors.{FarSide, FarIs}
+use Rattle.graft_actors.specs.Items.{home_first, remote_first}
+use Rattle.graft_actors.specs.Acts.{OwnPart}
+use Rattle.far_side.specs.Links.{LinkValue}
+use Rattle.far_side.specs.Says.{bytes_at}
+use Rattle.far_side.specs.declared.fields.Fields.{Fields}
+
+abbrev pub far_part : Fields → FarPart
+far_part f = record {
+  end = f.remote.end;
+  homeward = f.homeward.segments;
+  remoteward = f.remoteward.segments;
+  pointer = f.pointer.0;
+  followed = f.followed;
+  beats = f.beats;
+  last_beat = f.last_beat;
+}
+
+abbrev pub own_part : Fields → OwnPart
+own_part f = record { setup = f.known.setup; name = FarSide f.peering.0; part = FarIs (far_part f) }
+
+-- the bytes that a step has the remote of this peering say
+abbrev pub say_by : ℕ → Option ScriptStep → Option (List ℕ)
+say_by p None = None
+say_by p (Some (SayStep q bytes)) = if q == p then Some bytes else None
+say_by p (Some (MoveStep q target)) = None
+say_by p (Some SettleStep) = None
+
+-- a link leads this way, and counts from these first numbers
+pub record Leads (link : LinkValue) (to : Way) (p first other : ℕ) : Type 0 where
+  pub way : link.way ≡ to
+  pub peering : link.peering ≡ p
+  pub seq_first : link.seq_first ≡ first
+  pub ack_first : link.ack_first ≡ other
+
+pub record Keeps (f : Fields) : Type 0 where
+  -- what it begins with is its laboratory's
+  pub routers : f.routers ≡ routers_in f.known.setup
+  pub few : f.routers ≤ 256
+  pub peerings : f.peerings ≡ peerings_in f.known.setup
+  pub there : f.peering.0 < peerings_in f.known.setup
+  pub beat : option_map beat_of (slice_get f.known.setup.peerings f.peering.0) ≡ Some f.beat
+  pub says : (step : ℕ) → bytes_at f.says step ≡ say_by f.peering.0 (slice_get f.known.setup.steps step)
+  -- the remote and both links are its peering's
+  pub remote : f.remote.peering ≡ f.peering.0
+  pub sends : f.remote.send_first ≡ remote_first f.known.setup f.peering.0
+  pub receives : f.remote.receive_first ≡ home_first f.known.setup f.peering.0
+  pub homeward : Leads f.homeward Home f.peering.0 (remote_first f.known.setup f.peering.0) (home_first f.known.setup f.peering.0)
+  pub remoteward : Leads f.remoteward Remote f.peering.0 (home_first f.known.setup f.peering.0) (remote_first f.known.setup f.peering.0)
+  -- the link points, and pointed, at routers that are there
+  pub pointer : f.pointer.0 < routers_in f.known.setup
+  pub pointed : AllByRecursion (λ x. x.pointed.0 < routers_in f.known.setup) f.homeward.plans
+
+-- something holds for every session that a capsule may be seen as, and the far side is sound
+pub record ForEach {C : Type 0} (P : (C → SessionValue) → Type 0) (far : Fields) : Type 0 where
+  pub keeps : Keeps far
+  pub each : (session : C → SessionValue) → P session

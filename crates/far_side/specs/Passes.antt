@@ -1,0 +1,181 @@
+-- The pieces of a far side's turn.
+use Rattle.std.specs.Prelude.{ℕ, zero, suc, ◌≡◌, ◌⊎◌, ◌<◌, ◌≤◌, ◌+◌, ◌%◌, ◌^◌, nat_lt, if◌then◌else◌, false, List, [], ◌∷◌, ◌++◌, length, Some, slice_get, slice_set}
+use Rattle.ring_net.specs.declared.post.Post.{Post}
+use Rattle.graft_steps.specs.declared.item.Item.{Item}
+use Rattle.graft_steps.specs.declared.item.Item.TheVariants as items
+use Rattle.link_bag.specs.declared.plan.Fate.{Fate}
+use Rattle.link_bag.specs.declared.plan.Plan.{Plan}
+use Rattle.link_bag.specs.Planned.{fate_in}
+use Rattle.tcp_seq.specs.Placed.{placed}
+use Rattle.tcp_seq.specs.Endpoint.{Endpoint, PlacedSegment, TakesSegment, next_length, again_length}
+use Rattle.tcp_seq.specs.declared.segment.Segment.{Segment}
+use Rattle.session_value.specs.Sessions.{SessionValue}
+use Rattle.graft_model.specs.FarRows.{without}
+use Rattle.graft_model.specs.Steps.{FarEvent, Send, Beat}
+use Rattle.session_value.specs.Cases.{sending}
+use Rattle.bgp_types.specs.declared.message.Message.TheVariants.{KeepaliveMsg}
+use Rattle.bgp_types.specs.Spelling.{spell}
+use Rattle.graft_actors.specs.Emissions.{reach_of, Tally}
+use Rattle.far_side.specs.Remotes.{RemoteValue, IsSound}
+use Rattle.far_side.specs.Links.{LinkValue, IsOn, act_in, is_gone, older, next_place, home_event, home_events, remote_event, remote_events, left_of, put_now}
+use Rattle.far_side.specs.Notes.{WroteOne}
+use Rattle.far_side.specs.Parts.{Keeps}
+use Rattle.far_side.specs.Turns.{Did}
+use Rattle.far_side.specs.declared.link.InLink.{InLink}
+use Rattle.far_side.specs.declared.fields.Fields.{Fields}
+
+-- The segment at a place of a link goes to a router: it is the one that was sent.
+pub record SendsHome {C : Type 0} (link : LinkValue) (place keep router : ℕ) (before after : Post (Item C)) : Type 0 where
+  pub segment : Segment
+  pub own : IsOn link segment
+  pub is : slice_get link.segments place ≡ Some (placed link.seq_first link.ack_first segment)
+  pub wrote : WroteOne before 20 place keep router ((router, items.Seg segment) ∷ []) after
+
+-- what a link keeps of its plans after the one at a place had its turn
+abbrev pub plans_after : ℕ → InLink → List InLink → List InLink
+plans_after place x plans = if is_gone (act_in x) then without place plans else slice_set plans place (older x)
+
+-- the other fields of a link stay
+pub record SameLink (old new : LinkValue) : Type 0 where
+  pub way : new.way ≡ old.way
+  pub peering : new.peering ≡ old.peering
+  pub seq_first : new.seq_first ≡ old.seq_first
+  pub ack_first : new.ack_first ≡ old.ack_first
+
+-- the segment at a place of the link to home has its turn
+pub record HomeStep {C : Type 0} (session : C → SessionValue) (old : Fields) (place : ℕ) (before : Post (Item C)) (new : Fields) (next : ℕ) (after : Post (Item C)) : Type 0 where
+  pub plan : InLink
+  pub is : slice_get old.homeward.plans place ≡ Some plan
+  pub did : (t : Tally) → Did session old before t (home_event old.pointer.0 place plan) new after t
+  pub next_is : next ≡ next_place place plan
+  pub plans : new.homeward.plans ≡ plans_after place plan old.homeward.plans
+  pub link : SameLink old.homeward new.homeward
+  pub put : new.homeward.put ≡ old.homeward.put
+  pub same : new ≡ record old { homeward = new.homeward }
+  pub keeps : Keeps new
+
+-- all of them have
+pub record HomePass {C : Type 0} (session : C → SessionValue) (old : Fields) (before : Post (Item C)) (new : Fields) (after : Post (Item C)) : Type 0 where
+  pub did : (t : Tally) → Did session old before t (home_events old.pointer.0 old.homeward.plans) new after t
+  pub plans : new.homeward.plans ≡ left_of old.homeward.plans
+  pub link : SameLink old.homeward new.homeward
+  pub put : new.homeward.put ≡ old.homeward.put
+  pub same : new ≡ record old { homeward = new.homeward }
+  pub keeps : Keeps new
+
+-- ---- the link to the remote
+
+-- what segments that arrive leave of a remote: it has emitted as much as before, and at least as much is acknowledged
+pub record SameRemote (old new : RemoteValue) : Type 0 where
+  pub is : new ≡ record old { end = new.end }
+  pub stream : new.end.stream ≡ old.end.stream
+  pub emitted : new.end.emitted ≡ old.end.emitted
+  pub acked : old.end.acked ≤ new.end.acked
+
+-- the segment at a place of a link arrives at the remote
+pub record Arrives (link : LinkValue) (place : ℕ) (old new : RemoteValue) : Type 0 where
+  pub segment : PlacedSegment
+  pub is : slice_get link.segments place ≡ Some segment
+  pub takes : TakesSegment old.end segment new.end
+  pub same : new ≡ record old { end = new.end }
+
+pub record RemoteStep {C : Type 0} (session : C → SessionValue) (old : Fields) (place : ℕ) (before : Post (Item C)) (new : Fields) (next : ℕ) (after : Post (Item C)) : Type 0 where
+  pub plan : InLink
+  pub is : slice_get old.remoteward.plans place ≡ Some plan
+  pub did : (t : Tally) → Did session old before t (remote_event place plan) new after t
+  pub next_is : next ≡ next_place place plan
+  pub plans : new.remoteward.plans ≡ plans_after place plan old.remoteward.plans
+  pub link : SameLink old.remoteward new.remoteward
+  pub put : new.remoteward.put ≡ old.remoteward.put
+  pub remote : SameRemote old.remote new.remote
+  pub same : new ≡ record old { remote = new.remote; remoteward = new.remoteward }
+  pub keeps : Keeps new
+
+pub record RemotePass {C : Type 0} (session : C → SessionValue) (old : Fields) (before : Post (Item C)) (new : Fields) (after : Post (Item C)) : Type 0 where
+  pub did : (t : Tally) → Did session old before t (remote_events old.remoteward.plans) new after t
+  pub plans : new.remoteward.plans ≡ left_of old.remoteward.plans
+  pub link : SameLink old.remoteward new.remoteward
+  pub put : new.remoteward.put ≡ old.remoteward.put
+  pub remote : SameRemote old.remote new.remote
+  pub same : new ≡ record old { remote = new.remote; remoteward = new.remoteward }
+  pub keeps : Keeps new
+
+-- ---- what the remote sends
+
+-- the plan for the segments of a link, by their numbers from 1
+abbrev pub fates_in : Plan → LinkValue → ℕ → Fate
+fates_in plan link n = fate_in plan (record { 0 = link.peering }) link.way n
+
+-- one segment more was put into a link
+abbrev pub put_in : LinkValue → Fields → PlacedSegment → LinkValue
+put_in link f segment = record link {
+  segments = link.segments ++ segment ∷ [];
+  plans = link.plans ++ put_now (fates_in f.plan link (link.put + 1)) f.pointer.0 ∷ [];
+  put = link.put + 1;
+}
+
+-- the plans of so many segments that are put one after another, after so many others, while the link points at this router
+abbrev pub plans_put : (ℕ → Fate) → (router : ℕ) → (from n : ℕ) → List InLink
+plans_put fate router from zero = []
+plans_put fate router from (suc n) = put_now (fate (from + 1)) router ∷ plans_put fate router (from + 1) n
+
+-- The far side sent segments: these events, as many segments into the link to home, and this endpoint.
+pub record Sent {C : Type 0} (session : C → SessionValue) (old : Fields) (before : Post (Item C)) (t : Tally) (events : List FarEvent) (new : Fields) (after : Post (Item C)) (u : Tally) : Type 0 where
+  pub did : Did session old before t events new after u
+  pub plans : new.homeward.plans ≡ old.homeward.plans ++ plans_put (fates_in old.plan old.homeward) old.pointer.0 old.homeward.put (length events)
+  pub put : new.homeward.put ≡ old.homeward.put + length events
+  pub link : new.homeward ≡ record old.homeward { segments = new.homeward.segments; plans = new.homeward.plans; put = new.homeward.put }
+  pub remote : new.remote ≡ record old.remote { end = new.remote.end; at_turn = new.remote.at_turn }
+  pub same : new ≡ record old { remote = new.remote; homeward = new.homeward }
+  pub keeps : Keeps new
+
+-- the first outstanding slice, if it is to be sent again
+abbrev pub again_events : RemoteValue → List FarEvent
+again_events r = if nat_lt r.at_turn r.end.acked then [] else (if nat_lt 0 (again_length r.end) then Send r.end.acked (again_length r.end) ∷ [] else [])
+
+-- The new slices up to the end of the stream or of the flight, and the endpoint that has emitted them.
+abbrev pub FreshEvents : Endpoint → List FarEvent → Endpoint → Type 0
+FreshEvents e [] f = (next_length e ≡ 0) × (f ≡ e)
+FreshEvents e (event ∷ events) f = (0 < next_length e) × (event ≡ Send e.emitted (next_length e)) × FreshEvents (record e { emitted = e.emitted + next_length e }) events f
+
+abbrev pub answer_events : Endpoint → List FarEvent
+answer_events e = if e.owed then Send e.emitted 0 ∷ [] else []
+
+-- The remote is to say a KEEPALIVE in this turn, and has room for it.
+pub record IsDue (f : Fields) : Type 0 where
+  pub some : 0 < f.beat
+  pub multiple : f.turns % f.beat ≡ 0
+  pub later : f.last_beat < f.turns
+  pub few : f.beats < 27594
+  pub room : length f.remote.end.stream + 19 ≤ 2 ^ 20
+
+-- the retransmission turn
+pub record SentAgain {C : Type 0} (session : C → SessionValue) (old : Fields) (before : Post (Item C)) (new : Fields) (after : Post (Item C)) : Type 0 where
+  pub sent : (t : Tally) → Sent session old before t (again_events old.remote) new after (record t { again = t.again + length (again_events old.remote) })
+  pub remote : new.remote ≡ record old.remote { at_turn = old.remote.end.acked }
+  pub sound : IsSound old.remote.end
+
+-- all new slices, after which all is emitted that may be
+pub record SentFresh {C : Type 0} (session : C → SessionValue) (old : Fields) (before : Post (Item C)) (new : Fields) (after : Post (Item C)) : Type 0 where
+  pub events : List FarEvent
+  pub sent : (t : Tally) → Sent session old before t events new after t
+  pub fresh : FreshEvents old.remote.end events new.remote.end
+  pub at_turn : new.remote.at_turn ≡ old.remote.at_turn
+  pub all : new.remote.end.emitted ≡ reach_of new.remote.end
+
+-- the owed answer
+pub record SentAnswer {C : Type 0} (session : C → SessionValue) (old : Fields) (before : Post (Item C)) (new : Fields) (after : Post (Item C)) : Type 0 where
+  pub sent : (t : Tally) → Sent session old before t (answer_events old.remote.end) new after (record t { answers = t.answers + length (answer_events old.remote.end) })
+  pub remote : new.remote ≡ record old.remote { end = record old.remote.end { owed = false } }
+
+-- A KEEPALIVE is said where it is due, and else nothing happens.
+abbrev pub Beats : Fields → List FarEvent → Fields → Type 0
+Beats old events new =
+    (IsDue old × (events ≡ Beat old.turns ∷ []) × (new ≡ record old { remote = record old.remote { end = sending (spell KeepaliveMsg false) old.remote.end }; beats = old.beats + 1; last_beat = old.turns }))
+    ⊎ ((¬ IsDue old) × (events ≡ []) × (new ≡ old))
+
+pub record Beaten {C : Type 0} (session : C → SessionValue) (old : Fields) (before : Post (Item C)) (new : Fields) (after : Post (Item C)) : Type 0 where
+  pub events : List FarEvent
+  pub did : (t : Tally) → Did session old before t events new after t
+  pub beats : Beats old events new
+  pub keeps : Keeps new

@@ -1,0 +1,52 @@
+-- What a far side says of one turn.
+use Rattle.std.specs.Prelude.{◌≡◌, ◌+◌, List, ◌++◌, length, false}
+use Rattle.ring_net.specs.Deeds.{Deed}
+use Rattle.ring_net.specs.Posts.{Moved}
+use Rattle.ring_net.specs.declared.post.Post.{Post}
+use Rattle.graft_steps.specs.declared.item.Item.{Item}
+use Rattle.tcp_seq.specs.Endpoint.{Endpoint}
+use Rattle.session_value.specs.Sessions.{SessionValue}
+use Rattle.graft_model.specs.Steps.{FarEvent}
+use Rattle.graft_actors.specs.Acts.{acts}
+use Rattle.graft_actors.specs.Emissions.{nothing, IsRested}
+use Rattle.far_side.specs.Remotes.{RemoteValue}
+use Rattle.far_side.specs.Links.{home_events, remote_events, left_of}
+use Rattle.far_side.specs.Parts.{far_part, own_part, Keeps}
+use Rattle.far_side.specs.Turns.{FarRound, AreOf}
+use Rattle.far_side.specs.Passes.{fates_in, plans_put, SameRemote, again_events, FreshEvents, answer_events, Beats}
+use Rattle.far_side.specs.declared.fields.Fields.{Fields}
+
+-- One turn. Its events are, in this order: those that the plan has for the link to home and for the link to the remote, the first outstanding slice again,
+-- a KEEPALIVE by the beat, all new slices, and the owed answer.
+pub record Turned {C : Type 0} (old : Fields) (deeds : List (Deed (Item C))) (new : Fields) : Type 0 where
+  pub beats : List FarEvent
+  pub fresh : List FarEvent
+  -- the remote after the deliveries, the far side before and after its beat, and the endpoint that has emitted all new slices
+  pub reached : RemoteValue
+  pub before : Fields
+  pub beaten : Fields
+  pub sent : Endpoint
+  pub is_reached : SameRemote old.remote reached
+  pub is_before : (before.remote ≡ record reached { at_turn = reached.end.acked }) × (before.turns ≡ old.turns + 1) × (before.beat ≡ old.beat) × (before.beats ≡ old.beats) × (before.last_beat ≡ old.last_beat)
+  pub is_beat : Beats before beats beaten
+  pub is_fresh : FreshEvents beaten.remote.end fresh sent
+  pub events : AreOf (home_events old.pointer.0 old.homeward.plans ++ (remote_events old.remoteward.plans ++ (again_events reached ++ (beats ++ (fresh ++ answer_events sent))))) deeds
+  pub round : FarRound old.known.setup old.peering.0 (far_part old) nothing
+      (home_events old.pointer.0 old.homeward.plans ++ (remote_events old.remoteward.plans ++ (again_events reached ++ (beats ++ (fresh ++ answer_events sent)))))
+      (far_part new) (record { again = length (again_events reached); answers = length (answer_events sent) })
+  -- At its end all is emitted that may be, and no answer is owed.
+  pub end : new.remote.end ≡ record sent { owed = false }
+  pub rested : IsRested new.remote.end
+  pub at_turn : new.remote.at_turn ≡ reached.end.acked
+  -- Of each link the segments are left that aren't gone, one turn older, and behind those that go home the ones that were sent now.
+  pub homeward : new.homeward.plans ≡ left_of old.homeward.plans
+      ++ plans_put (fates_in old.plan old.homeward) old.pointer.0 old.homeward.put (length (again_events reached) + (length fresh + length (answer_events sent)))
+  pub put : new.homeward.put ≡ old.homeward.put + (length (again_events reached) + (length fresh + length (answer_events sent)))
+  pub remoteward : (new.remoteward.plans ≡ left_of old.remoteward.plans) × (new.remoteward.put ≡ old.remoteward.put)
+  pub turns : new.turns ≡ old.turns + 1
+  pub same : new ≡ record old { remote = new.remote; homeward = new.homeward; remoteward = new.remoteward; turns = new.turns; beats = new.beats; last_beat = new.last_beat }
+
+-- a turn, after which the far side is sound
+pub record TurnsOnce {C : Type 0} (session : C → SessionValue) (old : Fields) (before : Post (Item C)) (new : Fields) (after : Post (Item C)) : Type 0 where
+  pub moved : Moved own_part (acts session) Turned old before new after
+  pub keeps : Keeps new

@@ -1,0 +1,53 @@
+-- What a far side does in one call: the events that it makes of its part, and what becomes of what it keeps beside it.
+use Rattle.std.specs.Prelude.{ℕ, ◌≡◌, List, [], ◌∷◌, Option}
+use Rattle.std.specs.List.{AllByRecursion}
+use Rattle.ring_net.specs.Deeds.{Deed, Replay, TakesNone}
+use Rattle.ring_net.specs.Posts.{actor_of, Wrote}
+use Rattle.ring_net.specs.declared.post.Post.{Post}
+use Rattle.graft_steps.specs.declared.item.Item.{Item}
+use Rattle.session_value.specs.Sessions.{SessionValue}
+use Rattle.graft_model.specs.Setups.{Setup}
+use Rattle.graft_model.specs.Parts.{FarPart}
+use Rattle.graft_model.specs.FarRows.{FarTaken, FarSent}
+use Rattle.graft_model.specs.Codes.{far_code}
+use Rattle.graft_model.specs.Steps.{FarEvent, Send, far_row}
+use Rattle.graft_runs.specs.Makes.{HasCode}
+use Rattle.graft_actors.specs.Acts.{acts}
+use Rattle.graft_actors.specs.Emissions.{IsCareful, Tally, counted}
+use Rattle.far_side.specs.Parts.{far_part, own_part}
+use Rattle.far_side.specs.declared.fields.Fields.{Fields}
+
+-- ---- events of a part, one after another
+
+abbrev pub CarefulFar : FarPart → FarEvent → Type 0
+CarefulFar part (Send from len) = IsCareful part.end from len
+CarefulFar part event = Unit {0}
+
+abbrev pub far_tally : FarPart → FarEvent → Tally → Tally
+far_tally part (Send from len) t = counted part.end from len t
+far_tally part event t = t
+
+-- The events lead from one part to another, each by its row; each segment that is sent is an old slice, a new one or an owed answer; and the
+-- tally counts them.
+abbrev pub FarRound : Setup → ℕ → FarPart → Tally → List FarEvent → FarPart → Tally → Type 0
+FarRound setup p before t [] after u = (after ≡ before) × (u ≡ t)
+FarRound setup p before t (event ∷ events) after u =
+    (taken : Option FarTaken) × (sent : List FarSent) × (mid : FarPart) × far_row setup p event before taken sent mid × CarefulFar before event
+    × FarRound setup p mid (far_tally before event t) events after u
+
+-- the entries of what was done are those of these events
+abbrev pub AreOf : {I : Type 0} → List FarEvent → List (Deed I) → Type 0
+AreOf [] [] = Unit {0}
+AreOf (event ∷ events) (deed ∷ deeds) = HasCode (far_code event) deed.entry × AreOf events deeds
+AreOf events deeds = ⊥
+
+-- What a piece of a call does that takes no item: the events that it made and wrote.
+pub record Did {C : Type 0} (session : C → SessionValue) (old : Fields) (before : Post (Item C)) (t : Tally) (events : List FarEvent) (new : Fields) (after : Post (Item C)) (u : Tally) : Type 0 where
+  pub setup : new.known.setup ≡ old.known.setup
+  pub peering : new.peering ≡ old.peering
+  pub deeds : List (Deed (Item C))
+  pub wrote : Wrote before deeds after
+  pub none : AllByRecursion TakesNone deeds
+  pub coded : AreOf events deeds
+  pub replay : Replay (acts session) (actor_of before) (own_part old) deeds (own_part new)
+  pub round : FarRound old.known.setup old.peering.0 (far_part old) t events (far_part new) u

@@ -1,0 +1,126 @@
+//! What the remote sends in a turn, and what it says by its beat.
+
+ghost use Rattle.std.specs.Prelude.{ℕ, ◌≡◌, ◌<◌, ◌≤◌, ◌∷◌, [], length, IfOk, OnOk, IsTrue, ◌↔◌};
+ghost use Rattle.ring_net.specs.Posts.{SameEdges};
+ghost use Rattle.session_value.specs.Sessions.{SessionValue};
+ghost use Rattle.session_value.specs.Cases.{sending};
+ghost use Rattle.tcp_seq.specs.Placed.{placed};
+ghost use Rattle.bgp_types.specs.declared.message.Message.TheVariants.{KeepaliveMsg};
+ghost use Rattle.bgp_types.specs.Spelling.{spell};
+ghost use Rattle.far_side.specs.Remotes.{IsFrom};
+ghost use Rattle.far_side.specs.Notes.{WroteOne};
+ghost use Rattle.far_side.specs.Parts.{Keeps, ForEach};
+ghost use Rattle.far_side.specs.Passes.{put_in, SentAgain, SentFresh, SentAnswer, Beaten, IsDue};
+
+use crate::fields::Fields;
+use crate::note::note;
+use graft_edge::NoMemory;
+use graft_steps::Item;
+use ring_net::Post;
+use tcp_seq::Segment;
+
+/// The kinds of the events.
+const SEND: u16 = 18;
+
+const BEAT: u16 = 32;
+
+/// A KEEPALIVE as it is written (RFC 4271, section 4.4).
+const KEEPALIVE: [u8; 19] = [
+    255, 255, 255, 255, 255, 255, 255, 255, 255, 255, 255, 255, 255, 255, 255, 255, 0, 19, 4,
+];
+
+/// How many KEEPALIVEs are said by the beat at most.
+const MOST_BEATS: u32 = 27_594;
+
+/// Puts a segment of the remote that begins at a place into the link to home.
+fn send<C: Drop>(
+    far: &mut Fields,
+    from: u32,
+    segment: Segment,
+    post: &mut Post<Item<C>>,
+) -> Result<(), NoMemory>
+    requires keeps { Keeps far.old }
+    requires own { IsFrom far.old.remote segment }
+    ensures edges { SameEdges post.old post.new }
+    ensures sent { OnOk result (WroteOne post.old 18 from (length segment.bytes) 0 [] post.new × (far.new ≡ record far.old { homeward = put_in far.old.homeward far.old (placed far.old.remote.send_first far.old.remote.receive_first segment) })) }
+{
+    note(post, SEND, from, segment.bytes.len() as u32, 0)?;
+    far.homeward.put(segment, &far.plan, far.pointer)
+}
+
+/// The retransmission turn.
+pub(crate) fn send_again<C: Drop>(
+    far: &mut Fields,
+    post: &mut Post<Item<C>>,
+) -> Result<(), NoMemory>
+    requires { Keeps far.old }
+    ensures edges { SameEdges post.old post.new }
+    ensures sent { OnOk result (ForEach (λ (session : C → SessionValue). SentAgain session far.old post.old far.new post.new) far.new) }
+{
+    let from = far.remote.acked();
+    let Some(segment) = far.remote.again()? else {
+        return Ok(());
+    };
+    send(far, from, segment, post)
+}
+
+/// All new slices that there are and that the flight has room for.
+pub(crate) fn send_fresh<C: Drop>(
+    far: &mut Fields,
+    post: &mut Post<Item<C>>,
+) -> Result<(), NoMemory>
+    requires { Keeps far.old }
+    ensures edges { SameEdges post.old post.new }
+    ensures sent { OnOk result (ForEach (λ (session : C → SessionValue). SentFresh session far.old post.old far.new post.new) far.new) }
+{
+    loop {
+        let from = far.remote.emitted();
+        let Some(segment) = far.remote.next()? else {
+            return Ok(());
+        };
+        send(far, from, segment, post)?;
+    }
+}
+
+/// The answer that is owed.
+pub(crate) fn send_answer<C: Drop>(
+    far: &mut Fields,
+    post: &mut Post<Item<C>>,
+) -> Result<(), NoMemory>
+    requires { Keeps far.old }
+    ensures edges { SameEdges post.old post.new }
+    ensures sent { OnOk result (ForEach (λ (session : C → SessionValue). SentAnswer session far.old post.old far.new post.new) far.new) }
+{
+    let from = far.remote.emitted();
+    let Some(segment) = far.remote.answer() else {
+        return Ok(());
+    };
+    send(far, from, segment, post)
+}
+
+/// Whether a KEEPALIVE is to be said in this turn.
+fn is_due(far: &Fields) -> bool
+    ensures { IsTrue result ↔ IsDue far.now }
+{
+    far.beat > 0
+        && far.turns % far.beat == 0
+        && far.last_beat < far.turns
+        && far.beats < MOST_BEATS
+        && far.remote.has_room(KEEPALIVE.len())
+}
+
+/// Says a KEEPALIVE where it is time for one.
+pub(crate) fn beat<C: Drop>(far: &mut Fields, post: &mut Post<Item<C>>) -> Result<(), NoMemory>
+    requires { Keeps far.old }
+    ensures edges { SameEdges post.old post.new }
+    ensures beaten { OnOk result (ForEach (λ (session : C → SessionValue). Beaten session far.old post.old far.new post.new) far.new) }
+{
+    if !is_due(far) {
+        return Ok(());
+    }
+    note(post, BEAT, far.turns, 0, 0)?;
+    far.remote.say(&KEEPALIVE)?;
+    far.beats += 1;
+    far.last_beat = far.turns;
+    Ok(())
+}

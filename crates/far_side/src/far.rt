@@ -1,0 +1,158 @@
+//! The far side of a peering.
+
+ghost use Rattle.std.specs.Prelude.{◌≡◌, false};
+ghost use Rattle.far_side.specs.Parts.{Keeps};
+ghost use Rattle.far_side.specs.FieldProps.{Keeps-prop-if};
+
+use crate::config::FarConfig;
+use crate::fields::Fields;
+use crate::link::Link;
+use crate::remote::Remote;
+use crate::says::SayTable;
+use crate::{take, turn};
+use graft_actors::Known;
+use graft_edge::{NoMemory, RouterId};
+use graft_steps::{FarRest, Item};
+use ring_net::Post;
+use std::alloc::Global;
+use tcp_seq::Way;
+
+/// The far side of a peering: a scripted remote, and the link between it and the routers, which loses, repeats, holds back and
+/// strays segments by plan.
+#[derive(Drop)]
+pub struct Far {
+    fields: Fields,
+    // Whether memory ran out. From then on no call does anything.
+    has_failed: bool,
+    ghost sound: { has_failed ≡ false → Keeps fields } by { Keeps-prop-if has_failed fields },
+}
+
+impl Far {
+    ghost use Rattle.std.specs.Prelude.{ℕ, ◌≡◌, ◌≢◌, ◌+◌, ◌↔◌, Bool, false, [], length, IsTrue, OnOk, IfOk};
+    ghost use Rattle.ring_net.specs.Posts.{TookItem, Moved, SameEdges};
+    ghost use Rattle.tcp_seq.specs.Endpoint.{received_bytes};
+    ghost use Rattle.session_value.specs.Sessions.{SessionValue};
+    ghost use Rattle.graft_runs.specs.Actors.{FarSide, FarIs};
+    ghost use Rattle.graft_model.specs.First.{first_far};
+    ghost use Rattle.graft_model.specs.Setups.{Setup};
+    ghost use Rattle.graft_actors.specs.Acts.{acts};
+    ghost use Rattle.far_side.specs.Fars.{own, part_in, IsConfigOf, IsNew, took, turned};
+
+    /// The far side that begins with this configuration, in the laboratory that it is of: the remote has said its opening, and
+    /// nothing is on the link.
+    pub fn new(alloc: Global, known: Known, config: FarConfig) -> Result<Far, NoMemory>
+        requires { IsConfigOf known.setup config }
+        ensures { IfOk result (IsNew known.setup config) }
+    {
+        let FarConfig {
+            routers,
+            peerings,
+            peering,
+            pointer,
+            send_first,
+            receive_first,
+            opening,
+            says,
+            plan,
+            wide: _,
+            beat,
+        } = config;
+        Ok(Far {
+            fields: Fields {
+                known,
+                routers,
+                peerings,
+                peering,
+                says: SayTable::new(alloc, says)?,
+                plan,
+                beat,
+                remote: Remote::new(alloc, peering, send_first, receive_first, opening)?,
+                homeward: Link::new(alloc, Way::Home, peering, send_first, receive_first),
+                remoteward: Link::new(alloc, Way::Remote, peering, receive_first, send_first),
+                pointer,
+                followed: 0,
+                turns: 0,
+                beats: 0,
+                last_beat: 0,
+            },
+            has_failed: false,
+        })
+    }
+
+    /// Takes an item that the actor of number `from` sent. It notes one event, which takes the item, or an entry of kind 0 where it
+    /// drops it: an item that no far side takes from that actor; a segment of another peering, that goes to home, that has more than
+    /// 65,535 bytes, or whose numbers are of no place in a stream; and an order to say a step that isn't this remote's, or whose
+    /// bytes would take what was said past 1,048,576. Once memory ran out it answers `NoMemory` to every call.
+    pub fn take<C: Drop>(
+        &mut self,
+        from: usize,
+        item: Item<C>,
+        post: &mut Post<Item<C>>,
+    ) -> Result<(), NoMemory>
+        ensures took { OnOk result ((session : C → SessionValue) → TookItem own (acts session) took from item self.old post.old self.new post.new) }
+        ensures edges { SameEdges post.old post.new }
+    {
+        if self.has_failed {
+            return Err(NoMemory);
+        }
+        let taken = take::take(&mut self.fields, from, item, post);
+        self.has_failed = taken.is_err();
+        taken
+    }
+
+    /// Delivers from both links as the plan says, makes the retransmission turn, says a KEEPALIVE where it is time for one, sends all
+    /// new slices, and gives the answer that is owed.
+    pub fn turn<C: Drop>(&mut self, post: &mut Post<Item<C>>) -> Result<(), NoMemory>
+        ensures turned { OnOk result ((session : C → SessionValue) → Moved own (acts session) turned self.old post.old self.new post.new) }
+        ensures edges { SameEdges post.old post.new }
+    {
+        if self.has_failed {
+            return Err(NoMemory);
+        }
+        let turned = turn::turn(&mut self.fields, post);
+        self.has_failed = turned.is_err();
+        turned
+    }
+
+    /// Does nothing at a mark.
+    pub fn between<C: Drop>(&mut self, _post: &mut Post<Item<C>>) -> Result<bool, NoMemory>
+        ensures nothing { IfOk result (λ made. made ≡ false) }
+        ensures same { (self.new ≡ self.old) × (_post.new ≡ _post.old) }
+    {
+        Ok(false)
+    }
+
+    /// All that the remote said.
+    pub fn said(&self) -> &[u8]
+        ensures { result.now ≡ (part_in self.now).end.stream }
+    {
+        self.fields.remote.said()
+    }
+
+    /// All that the remote received in order.
+    pub fn received(&self) -> &[u8]
+        ensures { result.now ≡ received_bytes (part_in self.now).end }
+    {
+        self.fields.remote.received()
+    }
+
+    /// The router that the link points at.
+    pub fn pointer(&self) -> RouterId
+        ensures { result.0 ≡ (part_in self.now).pointer }
+    {
+        self.fields.pointer
+    }
+
+    /// What is left to do.
+    pub fn rest(&self) -> FarRest
+        ensures peering { FarSide result.peering.0 ≡ (own self.now).name }
+        ensures bag { result.bag ≡ length (part_in self.now).homeward + length (part_in self.now).remoteward }
+        ensures unacked { IsTrue result.unacked ↔ ((part_in self.now).end.acked ≢ length (part_in self.now).end.stream) }
+    {
+        FarRest {
+            peering: self.fields.peering,
+            bag: self.fields.homeward.len() + self.fields.remoteward.len(),
+            unacked: self.fields.remote.acked() as usize != self.fields.remote.said().len(),
+        }
+    }
+}

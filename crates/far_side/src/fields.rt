@@ -1,0 +1,33 @@
+//! A far side's fields.
+
+use crate::link::Link;
+use crate::remote::Remote;
+use crate::says::SayTable;
+use graft_actors::Known;
+use graft_edge::{PeeringId, RouterId};
+use link_bag::Plan;
+
+/// The fields of a far side.
+#[derive(Drop)]
+pub struct Fields {
+    /// The laboratory, which only proofs read.
+    pub(crate) known: Known,
+    pub(crate) routers: u32,
+    pub(crate) peerings: u32,
+    pub(crate) peering: PeeringId,
+    pub(crate) says: SayTable,
+    pub(crate) plan: Plan,
+    /// After so many turns a KEEPALIVE is said again; 0 where none is.
+    pub(crate) beat: u32,
+    pub(crate) remote: Remote,
+    pub(crate) homeward: Link,
+    pub(crate) remoteward: Link,
+    /// The router that the link points at, and the graft by which it was last pointed.
+    pub(crate) pointer: RouterId,
+    pub(crate) followed: u32,
+    /// How many turns were made.
+    pub(crate) turns: u32,
+    /// How many KEEPALIVEs were said by the beat, and the turn of the last one.
+    pub(crate) beats: u32,
+    pub(crate) last_beat: u32,
+}

@@ -1,0 +1,19 @@
+//! A far side: a scripted remote behind a link that loses, repeats, holds back and strays segments by plan.
+#![tactic(auto)]
+
+mod config;
+mod emit;
+mod far;
+mod fields;
+mod home;
+mod link;
+mod note;
+mod reach;
+mod remote;
+mod says;
+mod take;
+mod turn;
+
+pub use config::FarConfig;
+pub use far::Far;
+pub use says::{Say, Says};

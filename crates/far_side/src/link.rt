@@ -1,0 +1,229 @@
+//! A link one way: the segments that it holds, and what the plan does to each of them.
+
+ghost use Rattle.std.specs.Prelude.{ℕ, ◌≡◌, ◌<◌, ◌+◌, ◌++◌, ◌∷◌, [], true, false, length, Some, IfOk, OnOk, slice_get, slice_set};
+ghost use Rattle.link_bag.specs.Planned.{fate_in};
+ghost use Rattle.tcp_seq.specs.Placed.{placed};
+ghost use Rattle.graft_model.specs.FarRows.{without};
+
+use graft_edge::{NoMemory, PeeringId, RouterId};
+use link_bag::{Bag, Fate, Plan};
+use std::alloc::Global;
+use std::marker::Model;
+use tcp_seq::{Segment, Seq, Way};
+
+/// What the plan does to a segment that is in a link.
+#[derive(Clone, Copy, Debug, PartialEq, Eq)]
+pub struct InLink {
+    pub fate: Fate,
+    /// How many turns of the far side have passed since its first delivery was due.
+    pub turns: u32,
+    /// The router that the link pointed at when it was put.
+    pub pointed: RouterId,
+}
+
+/// What happens to a segment in one turn.
+#[derive(Clone, Copy, Debug, PartialEq, Eq)]
+pub enum Act {
+    /// Nothing: it is held back.
+    Stays,
+    /// It is delivered, and kept in the link where it is to be delivered again.
+    Delivered { keep: bool },
+    /// A late copy goes to the router that the link pointed at when it was put.
+    Copied,
+    /// It is lost.
+    Lost,
+}
+
+impl InLink {
+    ghost use Rattle.std.specs.Prelude.{◌≡◌, IfSome};
+    ghost use Rattle.far_side.specs.Links.{act_in, older as older_lem};
+
+    /// What happens to it now.
+    pub fn act(&self) -> Act
+        ensures { result ≡ act_in self.now }
+    {
+        match self.fate {
+            Fate::Pass => Act::Delivered { keep: false },
+            Fate::Lose => Act::Lost,
+            Fate::Repeat { after } => repeated(after, self.turns, Act::Delivered { keep: false }),
+            Fate::Hold { after } => held(after, self.turns),
+            Fate::Stray { after } => repeated(after, self.turns, Act::Copied),
+        }
+    }
+
+    /// The same one turn later. There is none after 2^32 - 1 turns.
+    fn older(&self) -> Option<InLink>
+        ensures { IfSome result (λ older. older ≡ older_lem self.now) }
+    {
+        let turns = self.turns.checked_add(1)?;
+        Some(InLink {
+            fate: self.fate,
+            turns,
+            pointed: self.pointed,
+        })
+    }
+}
+
+ghost use Rattle.std.specs.Prelude.{nat_le, if◌then◌else◌, ◌==◌};
+
+/// What happens to a segment that is delivered at once, and then once more.
+fn repeated(after: u32, turns: u32, last: Act) -> Act
+    ensures { result ≡ (if nat_le after turns then last else if turns == 0 then Act.Delivered true else Act.Stays) }
+{
+    if after <= turns {
+        last
+    } else if turns == 0 {
+        Act::Delivered { keep: true }
+    } else {
+        Act::Stays
+    }
+}
+
+/// What happens to a segment that is held back.
+fn held(after: u32, turns: u32) -> Act
+    ensures { result ≡ (if nat_le after turns then Act.Delivered false else Act.Stays) }
+{
+    if turns >= after {
+        Act::Delivered { keep: false }
+    } else {
+        Act::Stays
+    }
+}
+
+/// The segments on their way to one side of a peering, in the order in which they were put, with what the plan does to
+/// each. Contracts see the segments by their places in the streams.
+#[derive(Drop)]
+pub struct Link {
+    way: Way,
+    peering: PeeringId,
+    seq_first: Seq,
+    ack_first: Seq,
+    bag: Bag,
+    plans: Vec<InLink>,
+    put: u32,
+}
+
+impl Model for Link {
+    ghost use Rattle.far_side.specs.Links.{LinkValue};
+
+    ghost Value = { LinkValue };
+
+    ghost use Rattle.far_side.specs.LinkInner.{link_of, Keeps};
+
+    ghost view = { link_of };
+
+    ghost invariant = { Keeps };
+}
+
+impl Link {
+    ghost use Rattle.std.specs.Prelude.{ℕ, ◌≡◌, ◌<◌, ◌+◌, ◌^◌, ◌++◌, ◌∷◌, [], false, length, Some, IfOk, OnOk, IfSome, slice_get};
+    ghost use Rattle.far_side.specs.declared.link.InLink.{InLink};
+    ghost use Rattle.far_side.specs.Links.{IsOn, put_now, older};
+
+    /// An empty link. Its segments carry the stream whose first byte has the number `seq_first`, and acknowledge the one
+    /// whose first byte has the number `ack_first`.
+    pub fn new(alloc: Global, way: Way, peering: PeeringId, seq_first: Seq, ack_first: Seq) -> Link
+        ensures { result ≡ record {
+          way = way;
+          peering = peering.0;
+          seq_first = seq_first.0;
+          ack_first = ack_first.0;
+          segments = [];
+          plans = [];
+          put = 0;
+        } }
+    {
+        Link {
+            way,
+            peering,
+            seq_first,
+            ack_first,
+            bag: Bag::new(alloc),
+            plans: Vec::new(alloc),
+            put: 0,
+        }
+    }
+
+    /// How many segments there are, fewer than 2^32.
+    pub fn len(&self) -> usize
+        ensures segments { result ≡ length self.now.segments }
+        ensures plans { result ≡ length self.now.plans }
+        ensures few { result < 2 ^ 32 }
+    {
+        self.bag.len()
+    }
+
+    /// Puts a segment behind the others, while the link points at this router. Segments are counted from 1, and the plan
+    /// says by that number what becomes of it. At 2^32 of them it answers `NoMemory`: no memory holds the entries of the journal that
+    /// are behind them.
+    pub fn put(&mut self, segment: Segment, plan: &Plan, pointed: RouterId) -> Result<(), NoMemory>
+        requires { IsOn self.old segment }
+        ensures { OnOk result (self.new ≡ record self.old {
+          segments = self.old.segments ++ placed self.old.seq_first self.old.ack_first segment ∷ [];
+          plans = self.old.plans ++ put_now (fate_in plan.now (record { 0 = self.old.peering }) self.old.way (self.old.put + 1)) pointed.0 ∷ [];
+          put = self.old.put + 1;
+        }) }
+    {
+        let Some(number) = self.put.checked_add(1) else {
+            return Err(NoMemory);
+        };
+        if self.bag.len() >= u32::MAX as usize {
+            return Err(NoMemory);
+        }
+        let fate = plan.fate(self.peering, self.way, number);
+        self.plans.push(InLink {
+            fate,
+            turns: 0,
+            pointed,
+        })?;
+        let Ok(()) = self.bag.put(segment) else {
+            self.plans.pop();
+            return Err(NoMemory);
+        };
+        self.put = number;
+        Ok(())
+    }
+
+    /// What the plan does to the segment at a place, which is below the number of segments.
+    pub fn plan(&self, place: usize) -> InLink
+        requires { place < length self.now.plans }
+        ensures { slice_get self.now.plans place ≡ Some result }
+    {
+        self.plans[place]
+    }
+
+    /// The segment at a place, which is below the number of segments, stays for another turn. After 2^32 - 1 turns it
+    /// answers `NoMemory`.
+    pub fn keep(&mut self, place: usize) -> Result<(), NoMemory>
+        requires { place < length self.old.plans }
+        ensures { OnOk result ((x : InLink) → slice_get self.old.plans place ≡ Some x → self.new ≡ record self.old { plans = slice_set self.old.plans place (older x) }) }
+    {
+        let plan = self.plans[place];
+        let Some(older) = plan.older() else {
+            return Err(NoMemory);
+        };
+        self.plans[place] = older;
+        Ok(())
+    }
+
+    /// A copy of the segment at a place, which is below the number of segments.
+    pub fn deliver(&mut self, place: usize) -> Result<Segment, NoMemory>
+        requires { place < length self.old.plans }
+        ensures copy { IfOk result (λ g. slice_get self.old.segments place ≡ Some (placed self.old.seq_first self.old.ack_first g)) }
+        ensures own { IfOk result (λ g. IsOn self.old g) }
+        ensures kept { self.new ≡ self.old }
+    {
+        self.bag.deliver(place)
+    }
+
+    /// Takes out the segment at a place, which is below the number of segments.
+    pub fn remove(&mut self, place: usize) -> Segment
+        requires { place < length self.old.plans }
+        ensures segment { slice_get self.old.segments place ≡ Some (placed self.old.seq_first self.old.ack_first result) }
+        ensures own { IsOn self.old result }
+        ensures others { self.new ≡ record self.old { segments = without place self.old.segments; plans = without place self.old.plans } }
+    {
+        self.plans.remove(place);
+        self.bag.remove(place)
+    }
+}

@@ -1,0 +1,193 @@
+//! The remote: what it says, and its end of the connection.
+
+ghost use Rattle.std.specs.Prelude.{◌≡◌, ◌<◌, ◌≤◌, ◌+◌, ◌^◌, ◌↔◌, ◌⊎◌, ◌++◌, length, false, IsTrue, IsNone, IfNone, IfOk, OnOk, MatchBool};
+ghost use Rattle.tcp_seq.specs.Endpoint.{EmitsNext, EmitsAgain, EmitsAnswer, TakesSegment, fresh_endpoint, next_length, again_length, received_bytes};
+ghost use Rattle.tcp_seq.specs.Placed.{placed};
+ghost use Rattle.session_value.specs.Cases.{sending};
+ghost use Rattle.graft_actors.specs.Emissions.{reach_of};
+ghost use Rattle.far_side.specs.Remotes.{IsFor, IsSound, EmitsOf};
+
+use graft_edge::{ByteQueue, NoMemory, Octets, PeeringId};
+use std::alloc::Global;
+use std::marker::Model;
+use tcp_end::End;
+use tcp_seq::{Segment, Seq, Way};
+
+/// How many bytes a remote says at most.
+const MOST_SAID: usize = 1_048_576;
+
+/// How many bytes a segment has at most.
+const MOST_BYTES: usize = 65_535;
+
+/// A scripted remote: all bytes that it said, and its end of the connection, from which it reads nothing. Contracts see
+/// its endpoint over whole numbers.
+#[derive(Drop)]
+pub struct Remote {
+    said: ByteQueue,
+    end: End,
+    // The numbers of the first byte that it sends and of the first that it receives.
+    send_first: Seq,
+    receive_first: Seq,
+}
+
+impl Model for Remote {
+    ghost use Rattle.far_side.specs.Remotes.{RemoteValue, remote_code};
+
+    ghost Value = { RemoteValue };
+
+    ghost coded = { remote_code };
+
+    ghost use Rattle.far_side.specs.RemoteInner.{remote_of, Keeps};
+
+    ghost view = { remote_of };
+
+    ghost invariant = { Keeps };
+}
+
+impl Remote {
+    /// A remote of this peering that has said its opening, of at most 1,048,576 bytes. The numbers are those of the first
+    /// byte that it sends and of the first that it receives.
+    pub fn new(
+        alloc: Global,
+        peering: PeeringId,
+        send_first: Seq,
+        receive_first: Seq,
+        opening: Octets,
+    ) -> Result<Remote, NoMemory>
+        requires { length opening ≤ 2 ^ 20 }
+        ensures { IfOk result (λ remote. remote ≡ record {
+          end = record fresh_endpoint { stream = opening };
+          at_turn = 0;
+          peering = peering.0;
+          send_first = send_first.0;
+          receive_first = receive_first.0;
+        }) }
+    {
+        let mut end = End::new(alloc, Way::Home, peering, send_first, receive_first)?;
+        match end.send(opening.as_slice()) {
+            Ok(()) => Ok(Remote {
+                said: ByteQueue::from_octets(opening),
+                end,
+                send_first,
+                receive_first,
+            }),
+            Err(_) => Err(NoMemory),
+        }
+    }
+
+    /// Whether it may say so many bytes more.
+    pub fn has_room(&self, len: usize) -> bool
+        ensures { IsTrue result ↔ (length self.now.end.stream + len ≤ 2 ^ 20) }
+    {
+        len <= MOST_SAID && self.said.len() <= MOST_SAID - len
+    }
+
+    /// Says bytes, for which there is room.
+    pub fn say(&mut self, bytes: &[u8]) -> Result<(), NoMemory>
+        requires { length self.old.end.stream + length bytes.now ≤ 2 ^ 20 }
+        ensures { OnOk result (self.new ≡ record self.old { end = sending bytes.now self.old.end }) }
+    {
+        let len = self.said.len();
+        self.said.extend(bytes)?;
+        match self.end.send(bytes) {
+            Ok(()) => Ok(()),
+            Err(_) => {
+                self.said.truncate(len);
+                Err(NoMemory)
+            }
+        }
+    }
+
+    /// Whether a segment is for it: of its peering, sent to it, with at most 65,535 bytes, and with numbers of places in
+    /// streams.
+    pub fn is_for(&self, segment: &Segment) -> bool
+        ensures { MatchBool result (IsFor self.now segment.now) (¬ IsFor self.now segment.now) }
+    {
+        segment.peering == self.end.peering()
+            && segment.way == Way::Remote
+            && segment.bytes.len() <= MOST_BYTES
+            && segment.is_in_streams(self.receive_first, self.send_first)
+    }
+
+    /// A segment for it arrives.
+    pub fn arrive(&mut self, segment: &Segment) -> Result<(), NoMemory>
+        requires { IsFor self.old segment.now }
+        ensures arrives { OnOk result (TakesSegment self.old.end (placed self.old.receive_first self.old.send_first segment.now) self.new.end) }
+        ensures same { OnOk result (self.new ≡ record self.old { end = self.new.end }) }
+    {
+        self.arrive_numbered(segment, segment.seq.0, segment.ack.0)
+    }
+
+    /// A segment of these numbers arrives, which are of 32 bits.
+    fn arrive_numbered(&mut self, segment: &Segment, seq: u32, ack: u32) -> Result<(), NoMemory>
+        requires own { IsFor self.old segment.now }
+        requires seq { seq ≡ segment.now.seq.0 }
+        requires ack { ack ≡ segment.now.ack.0 }
+        ensures arrives { OnOk result (TakesSegment self.old.end (placed self.old.receive_first self.old.send_first segment.now) self.new.end) }
+        ensures same { OnOk result (self.new ≡ record self.old { end = self.new.end }) }
+    {
+        let _ = (seq, ack);
+        self.end.arrive(segment)?;
+        Ok(())
+    }
+
+    /// The retransmission turn of its end: the first outstanding slice again, unless some of it was acknowledged since the
+    /// last turn.
+    pub fn again(&mut self) -> Result<Option<Segment>, NoMemory>
+        ensures none { IfOk result (λ answer. IsNone answer ↔ ((again_length self.old.end ≡ 0) ⊎ (self.old.at_turn < self.old.end.acked))) }
+        ensures emits { IfOk result (λ answer. EmitsOf EmitsAgain self.old answer self.new.end) }
+        ensures same { OnOk result (self.new ≡ record self.old { end = self.new.end; at_turn = self.old.end.acked }) }
+        ensures sound { IsSound self.old.end }
+    {
+        self.end.turn()
+    }
+
+    /// The next slice that was never emitted.
+    pub fn next(&mut self) -> Result<Option<Segment>, NoMemory>
+        ensures none { IfOk result (λ answer. IsNone answer ↔ (next_length self.old.end ≡ 0)) }
+        ensures sound { IsSound self.old.end }
+        ensures all { IfOk result (λ answer. IfNone answer (self.old.end.emitted ≡ reach_of self.old.end)) }
+        ensures emits { IfOk result (λ answer. EmitsOf EmitsNext self.old answer self.new.end) }
+        ensures same { OnOk result (self.new ≡ record self.old { end = self.new.end }) }
+    {
+        self.end.next_segment()
+    }
+
+    /// The answer that is owed.
+    pub fn answer(&mut self) -> Option<Segment>
+        ensures none { IsNone result ↔ (self.old.end.owed ≡ false) }
+        ensures sound { IsSound self.old.end }
+        ensures emits { EmitsOf EmitsAnswer self.old result self.new.end }
+        ensures same { self.new ≡ record self.old { end = self.new.end } }
+    {
+        self.end.answer()
+    }
+
+    /// The place that it emits next.
+    pub fn emitted(&self) -> u32
+        ensures { result ≡ self.now.end.emitted }
+    {
+        self.end.emitted()
+    }
+
+    /// How many bytes of what it said were acknowledged.
+    pub fn acked(&self) -> u32
+        ensures { result ≡ self.now.end.acked }
+    {
+        self.end.acked()
+    }
+
+    /// All that it said.
+    pub fn said(&self) -> &[u8]
+        ensures { result.now ≡ self.now.end.stream }
+    {
+        self.said.as_slice()
+    }
+
+    /// All that it received in order.
+    pub fn received(&self) -> &[u8]
+        ensures { result.now ≡ received_bytes self.now.end }
+    {
+        self.end.ready()
+    }
+}

@@ -1,0 +1,47 @@
+//! What the steps of a script have a remote say.
+
+use graft_edge::{Items, NoMemory, Octets};
+use std::alloc::Global;
+use std::collections::HashMap;
+
+/// The bytes that a step has a remote say. The step is its place among all steps of the script, from 0.
+#[derive(Debug, Drop)]
+pub struct Say {
+    pub step: u32,
+    pub bytes: Octets,
+}
+
+/// A list of steps with their bytes, in ascending order of the steps.
+pub type Says = Items<Say>;
+
+/// The bytes by their steps. A look-up takes the same time however many steps there are.
+#[derive(Drop)]
+pub struct SayTable {
+    bytes: HashMap<u32, Octets>,
+}
+
+impl SayTable {
+    ghost use Rattle.std.specs.Prelude.{ℕ, ◌≡◌, IfOk};
+    ghost use Rattle.std.specs.Option.{option_copied};
+    ghost use Rattle.far_side.specs.Says.{bytes_of, bytes_at};
+
+    /// The table of a list. Where a step stands in it twice, its first place counts.
+    pub fn new(alloc: Global, says: Says) -> Result<SayTable, NoMemory>
+        ensures { IfOk result (λ table. (step : ℕ) → bytes_at table step ≡ bytes_of says step) }
+    {
+        let mut left = says.into_vec();
+        let mut table = HashMap::new(alloc);
+        while let Some(say) = left.pop() {
+            let Say { step, bytes } = say;
+            table.insert(step, bytes)?;
+        }
+        Ok(SayTable { bytes: table })
+    }
+
+    /// The bytes of a step, if it has the remote say any.
+    pub fn get(&self, step: u32) -> Option<&Octets>
+        ensures { option_copied result ≡ bytes_at self.now step }
+    {
+        self.bytes.get(&step)
+    }
+}

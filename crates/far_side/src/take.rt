@@ -1,0 +1,129 @@
+//! What a far side takes.
+
+ghost use Rattle.std.specs.Prelude.{ℕ, OnOk};
+ghost use Rattle.ring_net.specs.Posts.{SameEdges, TookItem};
+ghost use Rattle.graft_steps.specs.declared.item.Item.TheVariants as items;
+ghost use Rattle.session_value.specs.Sessions.{SessionValue};
+ghost use Rattle.graft_actors.specs.Acts.{acts};
+ghost use Rattle.far_side.specs.Parts.{Keeps, ForEach};
+ghost use Rattle.far_side.specs.Takes.{TakesIt, IsOther};
+
+use crate::fields::Fields;
+use crate::note::note;
+use graft_edge::{NoMemory, RouterId};
+use graft_steps::Item;
+use ring_net::Post;
+use tcp_seq::Segment;
+
+/// The kinds of the events, and that of an item which is dropped.
+const DROPPED: u16 = 0;
+
+const SAY: u16 = 17;
+
+const TAKE: u16 = 19;
+
+const POINT: u16 = 23;
+
+/// Takes a segment of a router into the link to the remote. It drops one that isn't a router's or isn't for this remote.
+fn take_segment<C: Drop>(
+    far: &mut Fields,
+    from: usize,
+    segment: Segment,
+    post: &mut Post<Item<C>>,
+) -> Result<(), NoMemory>
+    requires { Keeps far.old }
+    ensures edges { SameEdges post.old post.new }
+    ensures took { OnOk result (ForEach (λ (session : C → SessionValue). TakesIt session from (items.Seg segment) far.old post.old far.new post.new) far.new) }
+{
+    if from >= far.routers as usize {
+        return note(post, DROPPED, 0, 0, 0);
+    }
+    if !far.remote.is_for(&segment) {
+        return note(post, DROPPED, 0, 0, 0);
+    }
+    note(post, TAKE, from as u32, 0, 0)?;
+    far.remoteward.put(segment, &far.plan, far.pointer)
+}
+
+/// Takes the word of a router that a session landed there, and follows it where it is of a later graft than the last that
+/// was followed.
+fn take_word<C: Drop>(
+    far: &mut Fields,
+    from: usize,
+    graft: u32,
+    post: &mut Post<Item<C>>,
+) -> Result<(), NoMemory>
+    requires { Keeps far.old }
+    ensures edges { SameEdges post.old post.new }
+    ensures took { OnOk result (ForEach (λ (session : C → SessionValue). TakesIt session from (items.PointAt graft) far.old post.old far.new post.new) far.new) }
+{
+    if from >= far.routers as usize {
+        return note(post, DROPPED, 0, 0, 0);
+    }
+    note(post, POINT, from as u32, 0, 0)?;
+    if far.followed >= graft {
+        return Ok(());
+    }
+    far.pointer = RouterId(from as u8);
+    far.followed = graft;
+    Ok(())
+}
+
+/// Takes the order of the operator to say the bytes of a step. It drops one that isn't the operator's, that is of no step of
+/// this remote, or for whose bytes there is no room.
+fn take_order<C: Drop>(
+    far: &mut Fields,
+    from: usize,
+    step: u32,
+    post: &mut Post<Item<C>>,
+) -> Result<(), NoMemory>
+    requires { Keeps far.old }
+    ensures edges { SameEdges post.old post.new }
+    ensures took { OnOk result (ForEach (λ (session : C → SessionValue). TakesIt session from (items.SayOrder step) far.old post.old far.new post.new) far.new) }
+{
+    if from != far.routers as usize + far.peerings as usize {
+        return note(post, DROPPED, 0, 0, 0);
+    }
+    let Some(bytes) = far.says.get(step) else {
+        return note(post, DROPPED, 0, 0, 0);
+    };
+    if !far.remote.has_room(bytes.len()) {
+        return note(post, DROPPED, 0, 0, 0);
+    }
+    note(post, SAY, step, 0, 0)?;
+    far.remote.say(bytes.as_slice())
+}
+
+/// Drops an item that no far side takes.
+fn drop_other<C: Drop>(
+    far: &mut Fields,
+    from: usize,
+    item: Item<C>,
+    post: &mut Post<Item<C>>,
+) -> Result<(), NoMemory>
+    requires keeps { Keeps far.old }
+    requires other { IsOther item }
+    ensures edges { SameEdges post.old post.new }
+    ensures took { OnOk result (ForEach (λ (session : C → SessionValue). TakesIt session from item far.old post.old far.new post.new) far.new) }
+{
+    note(post, DROPPED, 0, 0, 0)
+}
+
+/// Takes an item of the actor of this number.
+pub(crate) fn take<C: Drop>(
+    far: &mut Fields,
+    from: usize,
+    item: Item<C>,
+    post: &mut Post<Item<C>>,
+) -> Result<(), NoMemory>
+    requires { Keeps far.old }
+    ensures edges { SameEdges post.old post.new }
+    ensures took { OnOk result (ForEach (λ (session : C → SessionValue). TakesIt session from item far.old post.old far.new post.new) far.new) }
+{
+    match item {
+        Item::Seg(segment) => take_segment(far, from, segment, post),
+        Item::PointAt { graft } => take_word(far, from, graft, post),
+        Item::SayOrder { step } => take_order(far, from, step, post),
+        other => drop_other(far, from, other, post),
+    }
+}

@@ -1,0 +1,169 @@
+-- Each router has of a peering the entries that it is to have.
+use Rattle.std.proofs.Common.{◌≡◌, ◌≢◌, ◌==◌, ℕ, true, false, List, [], ◌∷◌, ◌++◌, Option, refl, sym, ap, ◌∙◌, subst, arith, ◌⊎◌, inl, inr}
+use Rattle.std.specs.Prelude.{option_map, unwrap_or}
+use Rattle.std.proofs.lemmas.Bool.{cases_eq}
+use Rattle.std.proofs.lemmas.Bool.Decides.{nat_tests}
+use Rattle.std.specs.FinMap as map
+use Rattle.bgp_types.specs.declared.attrs.Attrs.{Attrs}
+use Rattle.bgp_types.specs.declared.message.Message.{Message}
+use Rattle.bgp_types.specs.declared.message.Update.{Update}
+use Rattle.bgp_types.specs.declared.message.OpenMsg as open_type
+use Rattle.bgp_types.specs.Prefixes.{PrefixValue}
+use Rattle.bgp_types.specs.Tables.{prefix_cmp}
+use Rattle.bgp_story.specs.declared.line.Line.{Line}
+use Rattle.bgp_story.specs.declared.line.Line.TheVariants.{Put, Got, Tick}
+use Rattle.bgp_story.specs.Legal.{Peering, got_open}
+use Rattle.session_value.specs.declared.config.SessionConfig.{SessionConfig}
+use Rattle.session_value.specs.Cases.{PutsUpdate}
+use Rattle.session_value.specs.Sessions.{SessionValue, peering_of, begun}
+use Rattle.route_policy.specs.Candidates.{imported}
+use Rattle.graft_model.specs.Decisions.{entry_of, remote_identifier, session_route}
+use Rattle.graft_model.specs.Parts.{Order, Live, Entries, Entry, World}
+use Rattle.graft_model.specs.RouterRows.{BringsIn}
+use Rattle.graft_model.specs.Setups.{Setup, rules_for}
+use Rattle.graft_laws.specs.Keeps.{Keeps}
+use Rattle.graft_laws.specs.Life.{Change, Rests, Begins, Admits, Refuses, Freezes, Leaves, Lands, TurnsBack, Returns, Clears, NotesRefusal, NotesSuccess, Puts, Emits, Arrives, Gets, Ticks, Strays, IsToSay, FarActs, SameEntries, Enters}
+use Rattle.graft_laws.specs.Phases.{Ordered, Stored, Halted, Moving, Landed, Returning, Declined, Cleared, Phase, Idle, Busy, place_by, InBounds}
+use Rattle.graft_laws.specs.Tables.{has_entries, is_late, Entered}
+
+-- ---- what a session brings in
+
+-- The OPEN that was got stays as something is put.
+open_stays : (p : Peering) (lines : List Line) (m : Message) → got_open p (lines ++ Put m ∷ []) ≡ got_open p lines
+open_stays p [] m = refl
+open_stays p (Put _ ∷ lines) m = open_stays p lines m
+open_stays p (Tick _ ∷ lines) m = open_stays p lines m
+open_stays p (Got _ ∷ lines) m = refl
+
+-- two sessions that bring in the same
+record BringSame (s t : SessionValue) : Type 0 where
+  config : t.config ≡ s.config
+  heard : t.heard ≡ s.heard
+  got : got_open (peering_of t.config) t.story ≡ got_open (peering_of s.config) s.story
+
+-- what a session brings in, by its parts
+abbrev parts_bring : Setup → ℕ → SessionConfig → Option open_type.OpenMsg → map.FinMap prefix_cmp Attrs → PrefixValue → Option Entry
+parts_bring setup r config got heard x =
+    let identifier : ℕ = unwrap_or (option_map (λ (o : open_type.OpenMsg). o.identifier) got) 0 in
+    option_map
+    (λ route. record { route = route; identifier = identifier; address = config.remote_address })
+    (imported setup.home_as x (record {
+      peering = config.peering;
+      remote_as = config.remote_as;
+      identifier = identifier;
+      address = config.remote_address;
+      import_rules = rules_for setup r config.import;
+      heard = map.get heard x;
+    }) (map.get heard x))
+
+same_entry : (setup : Setup) (r : ℕ) (s t : SessionValue) (x : PrefixValue) → BringSame s t → entry_of setup r t x ≡ entry_of setup r s x
+same_entry setup r s t x same =
+    ap (λ (c : SessionConfig). parts_bring setup r c (got_open (peering_of t.config) t.story) t.heard x) same.config
+    ∙ ap (λ (o : Option open_type.OpenMsg). parts_bring setup r s.config o t.heard x) same.got
+    ∙ ap (λ (h : map.FinMap prefix_cmp Attrs). parts_bring setup r s.config (got_open (peering_of s.config) s.story) h x) same.heard
+
+puts_same : (s t : SessionValue) (u : Update) → PutsUpdate s u t → BringSame s t
+puts_same s t u puts = record {
+  config = ap (λ (v : SessionValue). v.config) puts.effect;
+  heard = ap (λ (v : SessionValue). v.heard) puts.effect;
+  got = ap (λ (v : SessionValue). got_open (peering_of v.config) v.story) puts.effect ∙ open_stays (peering_of s.config) s.story _;
+}
+
+-- ---- where a session is live
+
+live_has : (phase : Phase) (s : SessionValue) (o : Option Order) (r : ℕ) → place_by phase s r ≡ Live s o → (has_entries phase r ≡ true) × ((n : ℕ) → n ≢ r → has_entries phase n ≡ false)
+live_has (Idle q) s o r e = (grind (arith, nat_tests), λ n other. grind (arith, nat_tests))
+live_has (Busy q k t Ordered) s o r e = (grind (arith, nat_tests), λ n other. grind (arith, nat_tests))
+live_has (Busy q k t Stored) s o r e = (grind (arith, nat_tests), λ n other. grind (arith, nat_tests))
+live_has (Busy q k t Halted) s o r e = absurd (grind (arith, nat_tests))
+live_has (Busy q k t Moving) s o r e = absurd (grind (arith, nat_tests))
+live_has (Busy q k t Landed) s o r e = (grind (arith, nat_tests), λ n other. grind (arith, nat_tests))
+live_has (Busy q k t (Returning refusal)) s o r e = absurd (grind (arith, nat_tests))
+live_has (Busy q k t (Declined refusal)) s o r e = (grind (arith, nat_tests), λ n other. grind (arith, nat_tests))
+live_has (Busy q k t Cleared) s o r e = (grind (arith, nat_tests), λ n other. grind (arith, nat_tests))
+
+-- ---- changes
+
+module _ (setup : Setup) (w v : World) (p : ℕ) where
+  entries_in : World → ℕ → Entries
+  entries_in u r = (u.router r).entries p
+
+  -- the entries and the session stay, and the phase changes nothing for them
+  stays : (phase next : Phase) (s t : SessionValue) → ((r : ℕ) → has_entries next r ≡ has_entries phase r) → ((r : ℕ) → is_late next r ≡ false → is_late phase r ≡ false)
+      → BringSame s t → SameEntries p w v → Entered setup w p phase s → Entered setup v p next t
+  stays phase next s t has late same entries is = record {
+    here = λ r there x. ap (λ (es : Entries). map.get es x) (entries.same r) ∙ is.here r (sym (has r) ∙ there) x ∙ sym (same_entry setup r s t x same);
+    elsewhere = λ r none early. entries.same r ∙ is.elsewhere r (sym (has r) ∙ none) (late r early);
+  }
+
+  rests : (phase : Phase) (s : SessionValue) → SameEntries p w v → Entered setup w p phase s → Entered setup v p phase s
+  rests phase s entries is = stays phase phase s s (λ r. refl) (λ r e. e) (record { config = refl; heard = refl; got = refl }) entries is
+
+  moves : (phase next : Phase) (s : SessionValue) → ((r : ℕ) → has_entries next r ≡ has_entries phase r) → ((r : ℕ) → is_late next r ≡ false → is_late phase r ≡ false)
+      → SameEntries p w v → Entered setup w p phase s → Entered setup v p next s
+  moves phase next s has late entries is = stays phase next s s has late (record { config = refl; heard = refl; got = refl }) entries is
+
+  -- a live session changes by itself
+  follows : (phase : Phase) (s next : SessionValue) (o : Option Order) (r : ℕ) → place_by phase s r ≡ Live s o → Enters setup p r next w v → Entered setup w p phase s → Entered setup v p phase next
+  follows phase s next o r live enters is =
+      let l = live_has phase s o r live in
+      record {
+        here = λ n there. by_number n there (cases_eq n r);
+        elsewhere = λ n none early. enters.others n (λ e. let t : has_entries phase n ≡ true = ap (has_entries phase) e ∙ l.0 in let f : true ≡ false = sym t ∙ none in absurd cc) ∙ is.elsewhere n none early;
+      }
+    where
+      by_number : (n : ℕ) → has_entries phase n ≡ true → (n ≡ r) ⊎ (n ≢ r) → BringsIn setup n next ((v.router n).entries p)
+      by_number n there (inl e) = subst (λ (m : ℕ). BringsIn setup m next ((v.router m).entries p)) (sym e) enters.here
+      by_number n there (inr other) = let f : true ≡ false = sym there ∙ (live_has phase s o r live).1 n other in absurd cc
+
+  changes : (phase next : Phase) (s t : SessionValue) → InBounds setup phase → Change setup w v p phase s next t → Entered setup w p phase s → Entered setup v p next t
+  changes phase _ s _ bounds (Rests line entries) is = rests phase s entries is
+  changes _ _ s _ bounds (Begins {q = q} {k = k} {t = t} line entries) is = moves (Idle q) (Busy q k t Ordered) s (λ r. refl) (λ r e. refl) entries is
+  changes _ _ s _ bounds (Admits {q = q} {k = k} {t = t} line entries) is = moves (Busy q k t Ordered) (Busy q k t Stored) s (λ r. refl) (λ r e. refl) entries is
+  changes _ _ s _ bounds (Refuses {q = q} {k = k} {t = t} {refusal = refusal} cause line entries) is = moves (Busy q k t Stored) (Busy q k t (Declined refusal)) s (λ r. refl) (λ r e. refl) entries is
+  changes _ _ s _ bounds (Freezes {q = q} {k = k} {t = t} cause line entries) is = moves (Busy q k t Stored) (Busy q k t Halted) s (λ r. refl) (λ r e. refl) entries is
+  changes _ _ s _ bounds (Leaves {q = q} {k = k} {t = t} line entries) is = moves (Busy q k t Halted) (Busy q k t Moving) s (λ r. refl) (λ r e. refl) entries is
+  changes _ _ s _ bounds (Lands {q = q} {k = k} {t = t} admitted line enters) is = record {
+    here = λ r there x. let e : r ≡ t = grind (arith, nat_tests) in subst (λ (m : ℕ). map.get ((v.router m).entries p) x ≡ entry_of setup m s x) (sym e) (enters.here x);
+    elsewhere = λ r none early.
+        let other : r ≢ t = grind (arith, nat_tests) in
+        let old : (r == q) ≡ false = early in
+        enters.others r other ∙ is.elsewhere r old refl;
+  }
+  changes _ _ s _ bounds (TurnsBack {q = q} {k = k} {t = t} {refusal = refusal} cause line entries) is = moves (Busy q k t Moving) (Busy q k t (Returning refusal)) s (λ r. refl) (λ r e. refl) entries is
+  changes _ _ s _ bounds (Returns {q = q} {k = k} {t = t} {refusal = refusal} line entries) is = moves (Busy q k t (Returning refusal)) (Busy q k t (Declined refusal)) s (λ r. refl) (λ r e. refl) entries is
+  changes _ _ s _ bounds (Clears {q = q} {k = k} {t = t} line drops) is = record {
+    here = λ r there x.
+        let e : r ≡ t = grind (arith, nat_tests) in
+        let other : r ≢ q = λ f. bounds.2 (sym e ∙ f) in
+        ap (λ (es : Entries). map.get es x) (drops.others r other) ∙ is.here r there x;
+    elsewhere = λ r none early. by_number r none (cases_eq r q);
+  }
+    where
+      by_number : (r : ℕ) → has_entries (Busy q k t Cleared) r ≡ false → (r ≡ q) ⊎ (r ≢ q) → (v.router r).entries p ≡ map.empty
+      by_number r none (inl e) = ap (λ (m : ℕ). (v.router m).entries p) e ∙ drops.here
+      by_number r none (inr other) = drops.others r other ∙ is.elsewhere r none (let f : (r == q) ≡ false = grind (arith, nat_tests) in f)
+  changes _ _ s _ bounds (NotesRefusal {q = q} {k = k} {t = t} {refusal = refusal} line entries) is = moves (Busy q k t (Declined refusal)) (Idle q) s (λ r. refl) (λ r e. refl) entries is
+  changes _ _ s _ bounds (NotesSuccess {q = q} {k = k} {t = t} line entries) is = moves (Busy q k t Cleared) (Idle t) s (λ r. refl) (λ r e. refl) entries is
+  changes phase _ s next bounds (Puts r order update live puts line entries) is = stays phase phase s next (λ n. refl) (λ n e. e) (puts_same s next update puts) entries is
+  changes phase _ s _ bounds (Emits r order from len segment end live emits line entries) is = stays phase phase s (record s { end = end }) (λ n. refl) (λ n e. e) (record { config = refl; heard = refl; got = refl }) entries is
+  changes phase _ s _ bounds (Arrives r order segment end live arrives line entries) is = stays phase phase s (record s { end = end }) (λ n. refl) (λ n e. e) (record { config = refl; heard = refl; got = refl }) entries is
+  changes phase _ s next bounds (Gets r order bytes live gets line enters) is = follows phase s next order r live enters is
+  changes phase _ s next bounds (Ticks r order round live passes line enters) is = follows phase s next order r live enters is
+  changes phase _ s _ bounds (Strays r segment line entries) is = rests phase s entries is
+  changes phase _ s _ bounds (IsToSay step line entries) is = rests phase s entries is
+  changes phase _ s _ bounds (FarActs event taken sent part row moved entries) is = rests phase s entries is
+
+-- a session that has just begun brings nothing in
+nothing_yet : (setup : Setup) (r : ℕ) (config : SessionConfig) → BringsIn setup r (begun config) map.empty
+nothing_yet setup r config x =
+    map.get-empty prefix_cmp x
+    ∙ sym (ap (λ o. option_map
+    (λ route. record { route = route; identifier = remote_identifier (begun config); address = config.remote_address })
+    (imported setup.home_as x (session_route setup r (begun config) x) o)) (map.get-empty prefix_cmp x))
+
+pub keeps_entered : (setup : Setup) → Keeps setup (Entered setup)
+keeps_entered setup = record {
+  first = λ p config is. record { here = λ r there. nothing_yet setup r config; elsewhere = λ r none early. refl };
+  step = λ before after p phase next s t reached below stands stands' change is. changes setup before after p phase next s t stands.bounds change is;
+}

@@ -1,0 +1,4 @@
+pub mod NoFlaws
+pub mod Strays
+pub mod TextFinds
+pub mod Walks

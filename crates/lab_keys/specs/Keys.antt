@@ -1,0 +1,67 @@
+-- Keys of tables: which of them a table has to have, which it may have, and of what kind their values are.
+use Rattle.std.specs.Prelude.{ℕ, ◌+◌, Bool, true, false, not, List, [], ◌∷◌, ◌++◌, map, length, Option, Some, None, if◌then◌else◌, codes}
+use Rattle.std.specs.Option.{option_or}
+use Rattle.toml.specs.Data.{Data, Members, no_members, member, get_member}
+use Rattle.lab_keys.specs.declared.flaw.Flaw.{Flaw}
+use Rattle.lab_keys.specs.declared.flaw.Flaw.TheVariants.{Shape}
+use Rattle.lab_keys.specs.declared.key.Kind.{Kind}
+use Rattle.lab_keys.specs.declared.key.Counts.{Counts}
+use Rattle.lab_keys.specs.declared.table_at.TableAt.{TableAt}
+use Rattle.lab_keys.specs.Places.{Place, place, member_of}
+use Rattle.lab_keys.specs.Kinds.{first_of, each_from, flaw_if, is_one_of, kind_flaw, array_flaw, table_flaw}
+use Rattle.lab_keys.specs.KeyRows.{KeyRow}
+
+-- ---- rows of a table of keys
+
+abbrev pub required : List ℕ → Kind → KeyRow
+required name kind = record { name = name; needed = true; kind = kind; counts = None }
+
+abbrev pub optional : List ℕ → Kind → KeyRow
+optional name kind = record { name = name; needed = false; kind = kind; counts = None }
+
+-- an array of low to high values of a kind
+abbrev pub required_array : List ℕ → (low high : ℕ) → Kind → KeyRow
+required_array name low high kind = record { name = name; needed = true; kind = kind; counts = Some (record { low = low; high = high }) }
+
+abbrev pub optional_array : List ℕ → (low high : ℕ) → Kind → KeyRow
+optional_array name low high kind = record { name = name; needed = false; kind = kind; counts = Some (record { low = low; high = high }) }
+
+abbrev pub names_of : List KeyRow → List (List ℕ)
+names_of keys = map (λ key. key.name) keys
+
+-- ---- the flaws of a table
+
+abbrev pub value_flaw : Option Counts → Kind → Place → Data → Option Flaw
+value_flaw None kind at d = kind_flaw kind at d
+value_flaw (Some counts) kind at d = array_flaw at counts.low counts.high (λ i. kind_flaw kind (member_of at i)) d
+
+-- what is missing is a wrong shape where it is required
+abbrev pub present : Place → Bool → (Data → Option Flaw) → Option Data → Option Flaw
+present at needed flaw None = flaw_if needed (Shape at)
+present at needed flaw (Some d) = flaw d
+
+abbrev pub key_flaw : TableAt → Members → KeyRow → Option Flaw
+key_flaw at t key = present (place at key.name) key.needed (value_flaw key.counts key.kind (place at key.name)) (get_member key.name t)
+
+-- the first flaw of the keys, in their order
+abbrev pub keys_flaw : TableAt → List KeyRow → Members → Option Flaw
+keys_flaw at keys t = first_of (map (key_flaw at t) keys)
+
+-- an array of low to high tables
+abbrev pub tables_flaw : TableAt → List ℕ → Bool → (low high : ℕ) → (ℕ → Members → Option Flaw) → Members → Option Flaw
+tables_flaw at key needed low high flaw t =
+    present (place at key) needed (array_flaw (place at key) low high (λ i. table_flaw (member_of (place at key) i) (flaw i))) (get_member key t)
+
+-- ---- keys that aren't known
+
+-- the first key that isn't known; a table's keys stand in the order of their bytes
+abbrev pub stray_in : List (List ℕ) → Members → Option (List ℕ)
+stray_in known no_members = None
+stray_in known (member key d ms) = if is_one_of known key then stray_in known ms else Some key
+
+abbrev pub stray_at : TableAt → Option (List ℕ) → Option Flaw
+stray_at at None = None
+stray_at at (Some key) = Some (Shape (place at key))
+
+abbrev pub stray_flaw : TableAt → List (List ℕ) → Members → Option Flaw
+stray_flaw at known t = stray_at at (stray_in known t)

@@ -1,0 +1,107 @@
+-- What may stand at a key: the kinds of values, and the first flaw of a value that isn't of its kind.
+use Rattle.std.specs.Prelude.{ℕ, ◌+◌, ◌/◌, ◌==◌, pos, negsuc, nat_lt, nat_le, Bool, true, false, ◌&&◌, ◌||◌, not, List, [], ◌∷◌, length, Option, Some, None, is_some, if◌then◌else◌, codes}
+use Rattle.std.specs.Option.{option_or}
+use Rattle.std.specs.List.{list_any}
+use Rattle.std.specs.Str.{bytes_eq}
+use Rattle.toml.specs.Data.{Data, string, integer, boolean, array, table, Items, no_items, item, Members}
+use Rattle.lab_keys.specs.declared.flaw.Flaw.{Flaw}
+use Rattle.lab_keys.specs.declared.flaw.Flaw.TheVariants.{Shape, Limit}
+use Rattle.lab_keys.specs.declared.key.Kind.{Kind}
+use Rattle.lab_keys.specs.declared.key.Kind.TheVariants.{Number, HoldTime, Name, Host, Address, Prefix, Flag, Word, Hex, Misplaced}
+use Rattle.lab_keys.specs.declared.key.Words.{Words}
+use Rattle.lab_keys.specs.declared.key.Words.TheVariants.{Origins, Ways, FaultKinds, StepKinds}
+use Rattle.lab_keys.specs.Places.{Place, member_of}
+use Rattle.lab_keys.specs.Texts.{is_name, address_in, host_in, prefix_in, is_hex}
+
+-- ---- the first of several flaws
+
+abbrev pub first_of : {E : Type 0} → List (Option E) → Option E
+first_of [] = None
+first_of (flaw ∷ flaws) = option_or flaw (first_of flaws)
+
+-- the first flaw of things that stand one after another, the first of them at place i
+abbrev pub each_from : {A E : Type 0} → (ℕ → A → Option E) → ℕ → List A → Option E
+each_from flaw i [] = None
+each_from flaw i (x ∷ xs) = option_or (flaw i x) (each_from flaw (i + 1) xs)
+
+-- a flaw where a test says so
+abbrev pub flaw_if : Bool → Flaw → Option Flaw
+flaw_if test flaw = if test then Some flaw else None
+
+-- a number or a count beyond its limits
+abbrev pub beyond : Place → (low high n : ℕ) → Option Flaw
+beyond at low high n = flaw_if (nat_lt n low || nat_lt high n) (Limit at n)
+
+-- ---- kinds of values
+
+abbrev pub words_of : Words → List (List ℕ)
+words_of Origins = codes "igp" ∷ codes "egp" ∷ codes "incomplete" ∷ []
+words_of Ways = codes "home" ∷ codes "remote" ∷ []
+words_of FaultKinds = codes "lose" ∷ codes "repeat" ∷ codes "hold" ∷ codes "stray" ∷ []
+words_of StepKinds = codes "announce" ∷ codes "withdraw" ∷ codes "raw" ∷ codes "graft" ∷ codes "settle" ∷ codes "evacuate" ∷ []
+
+abbrev pub is_one_of : List (List ℕ) → List ℕ → Bool
+is_one_of words text = list_any (λ word. bytes_eq text word) words
+
+-- a number from low to high; a negative one is told as 0
+abbrev pub number_flaw : Place → (low high : ℕ) → Data → Option Flaw
+number_flaw at low high (integer (pos n)) = beyond at low high n
+number_flaw at low high (integer (negsuc n)) = Some (Limit at 0)
+number_flaw at low high _ = Some (Shape at)
+
+-- a hold time in seconds: 0, or 3 to 65535 (RFC 4271, section 4.2)
+abbrev pub hold_time_flaw : Place → Data → Option Flaw
+hold_time_flaw at (integer (pos n)) = flaw_if (n == 1 || n == 2 || nat_lt 65535 n) (Limit at n)
+hold_time_flaw at (integer (negsuc n)) = Some (Limit at 0)
+hold_time_flaw at _ = Some (Shape at)
+
+-- a text of a form
+abbrev pub text_flaw : Place → (List ℕ → Bool) → Data → Option Flaw
+text_flaw at is_formed (string text) = flaw_if (not (is_formed text)) (Shape at)
+text_flaw at is_formed _ = Some (Shape at)
+
+abbrev pub flag_flaw : Place → Data → Option Flaw
+flag_flaw at (boolean b) = None
+flag_flaw at _ = Some (Shape at)
+
+-- from low to high octets in hexadecimal
+abbrev pub hex_flaw : Place → (low high : ℕ) → Data → Option Flaw
+hex_flaw at low high (string text) = if is_hex text then beyond at low high (length text / 2) else Some (Shape at)
+hex_flaw at low high _ = Some (Shape at)
+
+-- whether a text has the form of a kind of texts
+abbrev pub is_formed : Kind → List ℕ → Bool
+is_formed Name text = is_name text
+is_formed Host text = is_some (host_in text)
+is_formed Address text = is_some (address_in text)
+is_formed Prefix text = is_some (prefix_in text)
+is_formed (Word words) text = is_one_of (words_of words) text
+is_formed _ text = false
+
+-- the first flaw of a value of a kind
+abbrev pub kind_flaw : Kind → Place → Data → Option Flaw
+kind_flaw (Number low high) at d = number_flaw at low high d
+kind_flaw HoldTime at d = hold_time_flaw at d
+kind_flaw Flag at d = flag_flaw at d
+kind_flaw (Hex low high) at d = hex_flaw at low high d
+kind_flaw Misplaced at d = Some (Shape at)
+kind_flaw kind at d = text_flaw at (is_formed kind) d
+
+-- ---- arrays
+
+abbrev pub list_of : Items → List Data
+list_of no_items = []
+list_of (item d ds) = d ∷ list_of ds
+
+-- its count is tested before its members
+abbrev pub counted : Place → (low high : ℕ) → (ℕ → Data → Option Flaw) → List Data → Option Flaw
+counted at low high flaw ds = option_or (beyond at low high (length ds)) (each_from flaw 0 ds)
+
+abbrev pub array_flaw : Place → (low high : ℕ) → (ℕ → Data → Option Flaw) → Data → Option Flaw
+array_flaw at low high flaw (array items) = counted at low high flaw (list_of items)
+array_flaw at low high flaw _ = Some (Shape at)
+
+-- a table, or a wrong shape
+abbrev pub table_flaw : Place → (Members → Option Flaw) → Data → Option Flaw
+table_flaw at flaw (table t) = flaw t
+table_flaw at flaw _ = Some (Shape at)

@@ -1,0 +1,6 @@
+pub mod Places
+pub mod Texts
+pub mod Kinds
+pub mod KeyRows
+pub mod Keys
+pub mod Values

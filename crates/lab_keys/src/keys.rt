@@ -1,0 +1,121 @@
+//! The flaws of tables.
+
+ghost use Rattle.std.specs.Prelude.{◌≡◌, ℕ, List, Option, Some, None, map, option_map, length};
+ghost use Rattle.toml.specs.Data.{get_member};
+ghost use Rattle.toml.specs.View.{view, table_view};
+ghost use Rattle.lab_keys.specs.Places.{place, member_of};
+ghost use Rattle.lab_keys.specs.Kinds.{first_of, kind_flaw as kind_flaw_lem, counted};
+ghost use Rattle.lab_keys.specs.Keys.{value_flaw as value_flaw_lem, key_flaw as key_flaw_lem, keys_flaw as keys_flaw_lem, stray_in as stray_in_lem, stray_flaw as stray_flaw_lem};
+
+use crate::flaw::Flaw;
+use crate::key::{Counts, Key, Kind};
+use crate::kinds::{beyond, flaw_if, kind_flaw, members_flaw};
+use crate::spot::Spot;
+use crate::table_at::TableAt;
+use toml::{Table, Value};
+
+/// The value at a key.
+pub fn value_at<'a>(table: &'a Table, key: &str) -> Option<&'a Value>
+    ensures { option_map (λ v. view v.now) result ≡ get_member key.now (table_view table.now) }
+{
+    table.get(key)
+}
+
+/// The first flaw of an array, whose count is tested before its members.
+fn array_flaw<'a>(
+    counts: Counts,
+    kind: Kind,
+    at: TableAt,
+    key: &'a str,
+    values: &[Value],
+) -> Option<Flaw<'a>>
+    ensures { result ≡ counted (place at key.now) counts.low counts.high (λ i. kind_flaw_lem kind (member_of (place at key.now) i)) (map view values.now) }
+{
+    let count = values.len() as u64;
+    if let Some(flaw) = beyond(
+        Spot::of(at, key),
+        counts.low as u64,
+        counts.high as u64,
+        count,
+    ) {
+        return Some(flaw);
+    }
+    members_flaw(kind, at, key, values)
+}
+
+/// The first flaw of a value of a kind, or of an array of such values.
+fn value_flaw<'a>(
+    counts: Option<Counts>,
+    kind: Kind,
+    at: TableAt,
+    key: &'a str,
+    value: &Value,
+) -> Option<Flaw<'a>>
+    ensures { result ≡ value_flaw_lem counts kind (place at key.now) (view value.now) }
+{
+    let Some(counts) = counts else {
+        return kind_flaw(kind, Spot::of(at, key), value);
+    };
+    let Some(array) = value.as_array() else {
+        return Some(Flaw::Shape(Spot::of(at, key)));
+    };
+    array_flaw(counts, kind, at, key, array.as_slice())
+}
+
+/// The first flaw at a key of a table.
+fn key_flaw<'a>(at: TableAt, key: &Key, table: &Table) -> Option<Flaw<'a>>
+    ensures { result ≡ key_flaw_lem at (table_view table.now) key.now }
+{
+    let name = key.name();
+    let Some(value) = value_at(table, name) else {
+        return flaw_if(key.is_needed(), Flaw::Shape(Spot::of(at, name)));
+    };
+    value_flaw(key.counts(), key.kind(), at, name, value)
+}
+
+/// The first flaw of the keys of a table, in the order of these keys.
+pub fn keys_flaw<'a>(at: TableAt, keys: &[Key], table: &Table) -> Option<Flaw<'a>>
+    ensures { result ≡ keys_flaw_lem at keys.now (table_view table.now) }
+{
+    for key in keys {
+        if let Some(flaw) = key_flaw(at, key, table) {
+            return Some(flaw);
+        }
+    }
+    None
+}
+
+/// Whether a key is one of those that are known.
+fn is_known(key: &str, known: &[&str]) -> bool
+    ensures { result ≡ list_any (λ k. bytes_eq key.now k.now) known.now }
+{
+    known.iter().any(|k| key == *k)
+}
+
+/// The first key of a table that isn't known, in the order of bytes.
+fn first_stray<'a>(known: &[&str], table: &'a Table) -> Option<&'a String>
+    ensures { option_map (λ k. k.now) result ≡ find (λ k. not (list_any (λ w. bytes_eq (string_bytes k) w.now) known.now)) (keys table.now) }
+{
+    table.keys().find(|key| !is_known(key.as_str(), known))
+}
+
+/// The text of that key.
+fn stray_in<'a>(known: &[&str], table: &'a Table) -> Option<&'a str>
+    ensures { option_map (λ key. key.now) result ≡ stray_in_lem (map (λ k. k.now) known.now) (table_view table.now) }
+{
+    let key = first_stray(known, table)?;
+    Some(key.as_str())
+}
+
+/// The flaw of a key that isn't known.
+pub fn stray_flaw<'a>(at: TableAt, known: &[&str], table: &'a Table) -> Option<Flaw<'a>>
+    ensures { result ≡ stray_flaw_lem at (map (λ k. k.now) known.now) (table_view table.now) }
+{
+    let key = stray_in(known, table)?;
+    Some(Flaw::Shape(Spot::of(at, key)))
+}
+
+ghost use Rattle.std.specs.Prelude.{not, string_bytes};
+ghost use Rattle.std.specs.List.{list_any, find};
+ghost use Rattle.std.specs.Str.{bytes_eq};
+ghost use Rattle.std.specs.BTreeMap.{keys};

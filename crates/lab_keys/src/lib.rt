@@ -1,0 +1,32 @@
+//! The keys of an input in TOML: of what kind the value at each key is, the first flaw of a table's
+//! values, and the values themselves.
+#![tactic(auto)]
+
+mod arrays;
+mod flaw;
+mod key;
+mod keys;
+mod kinds;
+mod paths;
+mod readers;
+mod spot;
+mod table_at;
+mod tables;
+mod texts;
+mod values;
+
+pub use arrays::{addresses_at, items_at, numbers_at, prefixes_at};
+pub use flaw::Flaw;
+pub use key::{Counts, Key, Kind, Words};
+pub use keys::{keys_flaw, stray_flaw, value_at};
+pub use kinds::{beyond, flaw_if};
+pub use paths::path_of;
+pub use readers::{TableReader, tables_in, values_at};
+pub use spot::Spot;
+pub use table_at::TableAt;
+pub use tables::{ArrayAt, TableKind, tables_flaw};
+pub use texts::{address_in, host_in, is_hex, is_name, prefix_in};
+pub use values::{
+    address_or, flag_or, has, maybe_number, maybe_prefix, maybe_text, number_or, octets_at,
+    short_or, small_or, text_at,
+};

@@ -1,0 +1,56 @@
+//! Where a value stands.
+
+ghost use Rattle.std.specs.Prelude.{◌≡◌};
+ghost use Rattle.lab_keys.specs.Places.{place as place_lem, member_of as member_of_lem};
+
+use crate::table_at::TableAt;
+use std::marker::Model;
+
+/// A key of a table of an input, and a place in the array at that key.
+#[derive(Debug, Drop)]
+pub struct Spot<'a> {
+    table: TableAt,
+    key: &'a str,
+    member: Option<usize>,
+}
+
+impl<'a> Model for Spot<'a> {
+    ghost use Rattle.lab_keys.specs.Places.{Place};
+
+    ghost Value = { Place };
+
+    ghost view = { λ s. record { table = s.table; key = s.key.now; member = s.member } };
+}
+
+impl<'a> Spot<'a> {
+    /// The place of a key of a table.
+    pub fn of(table: TableAt, key: &'a str) -> Spot<'a>
+        ensures { result ≡ place_lem table key.now }
+    {
+        Spot {
+            table,
+            key,
+            member: None,
+        }
+    }
+
+    /// The place of a member of the array there.
+    pub fn member(self, i: usize) -> Spot<'a>
+        ensures { result ≡ member_of_lem self.entry i }
+    {
+        Spot {
+            table: self.table,
+            key: self.key,
+            member: Some(i),
+        }
+    }
+
+    /// The table, the key, and the place in the array.
+    pub fn into_parts(self) -> (TableAt, &'a str, Option<usize>)
+        ensures table { result.0 ≡ self.entry.table }
+        ensures key { result.1.now ≡ self.entry.key }
+        ensures member { result.2 ≡ self.entry.member }
+    {
+        (self.table, self.key, self.member)
+    }
+}

@@ -1,0 +1,64 @@
+-- The tables of an input: the first flaw of a document, and its value.
+use Rattle.std.specs.Prelude.{ℕ, Bool, true, false, List, [], ◌∷◌, map, Option, codes}
+use Rattle.toml.specs.Data.{Members}
+use Rattle.lab_keys.specs.declared.flaw.Flaw.{Flaw}
+use Rattle.lab_keys.specs.declared.key.Kind.TheVariants.{Number, Address}
+use Rattle.lab_keys.specs.declared.table_at.TableAt.TheVariants.{Top}
+use Rattle.lab_keys.specs.KeyRows.{KeyRow}
+use Rattle.lab_keys.specs.Kinds.{first_of}
+use Rattle.lab_keys.specs.Keys.{required, optional_array, keys_flaw, tables_flaw, stray_flaw}
+use Rattle.lab_keys.specs.Values.{number_or, tables_at, addresses_at, items_at}
+use Rattle.lab_tables.specs.declared.input.LabInput.{LabInput}
+use Rattle.lab_tables.specs.declared.input.PeeringInput.{PeeringInput}
+use Rattle.lab_tables.specs.declared.input.RouterInput.{RouterInput}
+use Rattle.lab_tables.specs.Routers.{router_flaw, router_of}
+use Rattle.lab_tables.specs.Peerings.{cost_flaw, cost_of, peering_flaw, peering_of, fault_flaw, fault_of}
+use Rattle.lab_tables.specs.Scripts.{step_flaw, step_of}
+
+-- ---- shapes and limits of all tables, in the order of the input
+
+abbrev pub home_keys : List KeyRow
+home_keys = required (codes "home_as") (Number 1 4294967295) ∷ []
+
+abbrev pub trace_keys : List KeyRow
+trace_keys = optional_array (codes "trace") 0 64 Address ∷ []
+
+abbrev pub top_names : List (List ℕ)
+top_names = codes "home_as" ∷ codes "router" ∷ codes "cost" ∷ codes "peering" ∷ codes "fault" ∷ codes "step" ∷ codes "trace" ∷ []
+
+abbrev pub shaped : Members → Option Flaw
+shaped doc = first_of (
+    keys_flaw Top home_keys doc
+    ∷ stray_flaw Top top_names doc
+    ∷ tables_flaw Top (codes "router") true 1 8 router_flaw doc
+    ∷ tables_flaw Top (codes "cost") false 0 56 cost_flaw doc
+    ∷ tables_flaw Top (codes "peering") false 0 32 (peering_flaw doc) doc
+    ∷ tables_flaw Top (codes "fault") false 0 1024 fault_flaw doc
+    ∷ tables_flaw Top (codes "step") false 0 4096 (step_flaw (items_at (codes "step") doc)) doc
+    ∷ keys_flaw Top trace_keys doc
+    ∷ [])
+
+-- ---- the value of a document, with defaults filled in, and names of routers and peerings resolved
+
+abbrev pub routers_of : Members → List RouterInput
+routers_of doc = map router_of (tables_at (codes "router") doc)
+
+abbrev pub router_names_of : Members → List (List ℕ)
+router_names_of doc = map (λ r. r.name) (routers_of doc)
+
+abbrev pub peerings_of : Members → List PeeringInput
+peerings_of doc = map (peering_of doc (router_names_of doc)) (tables_at (codes "peering") doc)
+
+abbrev pub peering_names_of : Members → List (List ℕ)
+peering_names_of doc = map (λ p. p.name) (peerings_of doc)
+
+abbrev pub lab_of : Members → LabInput
+lab_of doc = record {
+  home_as = number_or 32 0 (codes "home_as") doc;
+  routers = routers_of doc;
+  costs = map (cost_of (router_names_of doc)) (tables_at (codes "cost") doc);
+  peerings = peerings_of doc;
+  faults = map (fault_of (peering_names_of doc)) (tables_at (codes "fault") doc);
+  steps = map (step_of (router_names_of doc) (peerings_of doc)) (tables_at (codes "step") doc);
+  trace = addresses_at (codes "trace") doc;
+}

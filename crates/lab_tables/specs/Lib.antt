@@ -1,0 +1,5 @@
+pub mod Meanings
+pub mod Routers
+pub mod Peerings
+pub mod Scripts
+pub mod Documents

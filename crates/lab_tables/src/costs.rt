@@ -1,0 +1,165 @@
+//! Costs between routers, and planned faults.
+
+ghost use Rattle.std.specs.Prelude.{◌≡◌, IfOk, List, ℕ, map};
+ghost use Rattle.toml.specs.View.{table_view};
+ghost use Rattle.lab_keys.specs.Keys.{keys_flaw as keys_flaw_lem};
+ghost use Rattle.lab_tables.specs.Peerings.{cost_flaw as cost_flaw_lem, cost_of as cost_of_lem, fault_keys as fault_keys_lem, after_keys as after_keys_lem, fault_flaw as fault_flaw_lem, fault_of as fault_of_lem};
+
+use crate::input::CostInput;
+use crate::places::Places;
+use crate::words::{fault_kind_of, way_of};
+use bgp_types::{NoMemory, PeeringId, RouterId};
+use lab_keys::{
+    Flaw, Key, Kind, Spot, TableAt, TableKind, TableReader, Words, flaw_if, keys_flaw, number_or,
+    stray_flaw, text_at,
+};
+use link_bag::Fault;
+use std::alloc::Global;
+use toml::Table;
+
+/// The first flaw of the cost at a place.
+fn cost_flaw<'a>(i: usize, table: &'a Table) -> Option<Flaw<'a>>
+    ensures { result ≡ cost_flaw_lem i (table_view table.now) }
+{
+    let at = TableAt::Cost(i);
+    let ends = [
+        Key::required("from", Kind::Name),
+        Key::required("to", Kind::Name),
+    ];
+    if let Some(flaw) = keys_flaw(at, &ends, table) {
+        return Some(flaw);
+    }
+    if text_at("to", table) == text_at("from", table) {
+        return Some(Flaw::Shape(Spot::of(at, "to")));
+    }
+    let rest = [Key::required(
+        "cost",
+        Kind::Number {
+            low: 0,
+            high: 65535,
+        },
+    )];
+    if let Some(flaw) = keys_flaw(at, &rest, table) {
+        return Some(flaw);
+    }
+    stray_flaw(at, &["from", "to", "cost"], table)
+}
+
+/// The costs of an input.
+#[derive(Drop)]
+pub(crate) struct CostTables;
+
+impl TableKind for CostTables {
+    ghost flaw_of = { λ _. cost_flaw_lem };
+
+    fn flaw<'a>(&self, i: usize, table: &'a Table) -> Option<Flaw<'a>> {
+        cost_flaw(i, table)
+    }
+}
+
+/// Tables that are costs between these routers.
+#[derive(Drop)]
+pub(crate) struct CostReader<'p> {
+    pub routers: &'p Places,
+}
+
+impl<'p> TableReader<CostInput> for CostReader<'p> {
+    ghost value_of = { λ r. cost_of_lem r.routers.now };
+
+    fn value(&self, _alloc: Global, table: &Table) -> Result<CostInput, NoMemory> {
+        Ok(CostInput {
+            from: RouterId(self.routers.number_of(text_at("from", table))),
+            to: RouterId(self.routers.number_of(text_at("to", table))),
+            cost: number_or(0, "cost", table),
+        })
+    }
+}
+
+/// The first flaw of the keys of a planned fault up to its kind.
+fn fault_keys_flaw<'a>(at: TableAt, table: &Table) -> Option<Flaw<'a>>
+    ensures { result ≡ keys_flaw_lem at fault_keys_lem (table_view table.now) }
+{
+    let keys = [
+        Key::required("peering", Kind::Name),
+        Key::required("way", Kind::Word(Words::Ways)),
+        Key::required(
+            "segment",
+            Kind::Number {
+                low: 1,
+                high: 1_000_000,
+            },
+        ),
+        Key::required("kind", Kind::Word(Words::FaultKinds)),
+    ];
+    keys_flaw(at, &keys, table)
+}
+
+/// The key `after`: a lost segment has no later time.
+fn after_key(is_lost: bool) -> Key
+    ensures { result ∷ [] ≡ after_keys_lem is_lost }
+{
+    if is_lost {
+        Key::optional("after", Kind::Misplaced)
+    } else {
+        Key::required("after", Kind::Number { low: 1, high: 6 })
+    }
+}
+
+/// The first flaw of the planned fault at a place.
+fn fault_flaw<'a>(i: usize, table: &'a Table) -> Option<Flaw<'a>>
+    ensures { result ≡ fault_flaw_lem i (table_view table.now) }
+{
+    let at = TableAt::Fault(i);
+    if let Some(flaw) = fault_keys_flaw(at, table) {
+        return Some(flaw);
+    }
+    let kind = text_at("kind", table);
+    if kind == "stray" && text_at("way", table) == "remote" {
+        return Some(Flaw::Shape(Spot::of(at, "kind")));
+    }
+    if let Some(flaw) = keys_flaw(at, &[after_key(kind == "lose")], table) {
+        return Some(flaw);
+    }
+    stray_flaw(at, &["peering", "way", "segment", "kind", "after"], table)
+}
+
+/// The planned faults of an input.
+#[derive(Drop)]
+pub(crate) struct FaultTables;
+
+impl TableKind for FaultTables {
+    ghost flaw_of = { λ _. fault_flaw_lem };
+
+    fn flaw<'a>(&self, i: usize, table: &'a Table) -> Option<Flaw<'a>> {
+        fault_flaw(i, table)
+    }
+}
+
+/// The planned fault that a table is.
+pub fn fault_of(peerings: &Places, table: &Table) -> Fault
+    ensures { result ≡ fault_of_lem peerings.now (table_view table.now) }
+{
+    Fault {
+        peering: PeeringId(peerings.number_of(text_at("peering", table))),
+        way: way_of(text_at("way", table)),
+        segment: number_or(0, "segment", table),
+        kind: fault_kind_of(text_at("kind", table)),
+        after: number_or(0, "after", table),
+    }
+}
+
+/// Tables that are planned faults of these peerings.
+#[derive(Drop)]
+pub(crate) struct FaultReader<'p> {
+    pub peerings: &'p Places,
+}
+
+impl<'p> TableReader<Fault> for FaultReader<'p> {
+    ghost value_of = { λ r. fault_of_lem r.peerings.now };
+
+    fn value(&self, _alloc: Global, table: &Table) -> Result<Fault, NoMemory> {
+        Ok(fault_of(self.peerings, table))
+    }
+}
+
+ghost use Rattle.std.specs.Prelude.{◌∷◌, []};

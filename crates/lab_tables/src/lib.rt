@@ -1,0 +1,30 @@
+//! The tables of an input in TOML: their keys, the first flaw of a document, and its value.
+#![tactic(auto)]
+
+mod costs;
+mod input;
+mod labs;
+mod once;
+mod opening;
+mod peerings;
+mod places;
+mod routers;
+mod rules;
+mod said;
+mod scripts;
+mod shapes;
+mod steps;
+mod words;
+
+pub use costs::fault_of;
+pub use input::{
+    CostInput, CostInputs, Faults, LabInput, Numbers, PeeringInput, PeeringInputs, PolicyInput,
+    PolicyInputs, RouterInput, RouterInputs, Step, Steps,
+};
+pub use labs::{lab_of, peering_names, router_names};
+pub use once::each_once;
+pub use opening::default_opening;
+pub use places::Places;
+pub use scripts::word_at;
+pub use shapes::shaped;
+pub use words::StepWord;

@@ -1,0 +1,31 @@
+//! Prefixes, each once.
+
+ghost use Rattle.std.specs.Prelude.{◌≡◌, ◌++◌, ◌∷◌, [], IfOk, OnOk, if◌then◌else◌};
+ghost use Rattle.bgp_types.specs.Prefixes.{once_after};
+
+use bgp_types::{NoMemory, Prefix, PrefixList};
+use std::alloc::Global;
+use std::collections::HashSet;
+
+/// Adds a prefix at the end, where a test says so.
+fn push_if(list: &mut PrefixList, test: bool, prefix: Prefix) -> Result<(), NoMemory>
+    ensures { OnOk result (list.new ≡ (if test then list.old ++ prefix ∷ [] else list.old)) }
+{
+    if test {
+        list.push(prefix)?;
+    }
+    Ok(())
+}
+
+/// The prefixes of a list, each once, at its first place.
+pub fn each_once(alloc: Global, prefixes: &[Prefix]) -> Result<PrefixList, NoMemory>
+    ensures { IfOk result (λ once. once ≡ once_after [] prefixes.now) }
+{
+    let mut once = PrefixList::new(alloc);
+    let mut seen = HashSet::new(alloc);
+    for prefix in prefixes {
+        let is_new = seen.insert(*prefix)?;
+        push_if(&mut once, is_new, *prefix)?;
+    }
+    Ok(once)
+}

@@ -1,0 +1,69 @@
+//! Names by their places in a list.
+
+ghost use Rattle.std.specs.Prelude.{◌≡◌, IfOk};
+ghost use Rattle.std.specs.List.{list_any, position};
+ghost use Rattle.std.specs.Str.{bytes_eq};
+ghost use Rattle.lab_tables.specs.Meanings.{number_of as number_of_lem};
+
+use bgp_types::{Items, Name, NoMemory};
+use std::marker::Model;
+
+/// Names, which stand for their places in the list.
+#[derive(Drop)]
+pub struct Places {
+    names: Items<Name>,
+}
+
+impl Model for Places {
+    ghost use Rattle.std.specs.Prelude.{ℕ, List, length, ◌<◌};
+
+    ghost Value = { List (List ℕ) };
+
+    ghost view = { λ p. p.names };
+
+    ghost invariant = { λ p. length p.names < 256 };
+}
+
+/// Whether a text is this name.
+fn is_name_of(text: &str, name: &Name) -> bool
+    ensures { result ≡ bytes_eq text.now name.now }
+{
+    text == name.as_str()
+}
+
+/// The place of the first of these names that is a text.
+fn place_in(text: &str, names: &[Name]) -> Option<usize>
+    ensures { result ≡ position (bytes_eq text.now) names.now }
+{
+    names.iter().position(|name| is_name_of(text, name))
+}
+
+impl Places {
+    /// The places of these names. More than 255 of them, which no input has that meets the rules, are
+    /// refused as if memory ran out.
+    pub fn of(names: Items<Name>) -> Result<Places, NoMemory>
+        ensures { IfOk result (λ places. places ≡ names) }
+    {
+        if names.len() > 255 {
+            return Err(NoMemory);
+        }
+        Ok(Places { names })
+    }
+
+    /// Whether there is this name.
+    pub fn has(&self, text: &str) -> bool
+        ensures { result ≡ list_any (bytes_eq text.now) self.now }
+    {
+        self.names.iter().any(|name| is_name_of(text, name))
+    }
+
+    /// The place of a name, or 0 where there is no such name.
+    pub fn number_of(&self, text: &str) -> u8
+        ensures { result ≡ number_of_lem self.now text.now }
+    {
+        match place_in(text, &self.names) {
+            Some(place) => place as u8,
+            None => 0,
+        }
+    }
+}

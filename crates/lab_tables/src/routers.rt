@@ -1,0 +1,85 @@
+//! Routers.
+
+ghost use Rattle.std.specs.Prelude.{◌≡◌, IfOk};
+ghost use Rattle.toml.specs.View.{table_view};
+ghost use Rattle.lab_keys.specs.Keys.{keys_flaw as keys_flaw_lem};
+ghost use Rattle.lab_tables.specs.Routers.{router_keys as router_keys_lem, router_flaw as router_flaw_lem, router_of as router_of_lem};
+
+use crate::input::RouterInput;
+use crate::rules::{PolicyReader, PolicyTables};
+use bgp_types::{Name, NoMemory};
+use lab_keys::{
+    ArrayAt, Flaw, Key, Kind, TableAt, TableKind, TableReader, address_or, flag_or, keys_flaw,
+    number_or, prefixes_at, stray_flaw, tables_flaw, text_at, values_at,
+};
+use std::alloc::Global;
+use toml::Table;
+
+/// The first flaw of the keys of a router.
+fn router_keys_flaw<'a>(at: TableAt, table: &Table) -> Option<Flaw<'a>>
+    ensures { result ≡ keys_flaw_lem at router_keys_lem (table_view table.now) }
+{
+    let keys = [
+        Key::required("name", Kind::Name),
+        Key::required("id", Kind::Host),
+        Key::required("sessions", Kind::Number { low: 0, high: 32 }),
+        Key::optional("by_bytes", Kind::Flag),
+        Key::optional_array("networks", 0, 256, Kind::Prefix),
+    ];
+    keys_flaw(at, &keys, table)
+}
+
+/// The first flaw of the router at a place.
+fn router_flaw<'a>(i: usize, table: &'a Table) -> Option<Flaw<'a>>
+    ensures { result ≡ router_flaw_lem i (table_view table.now) }
+{
+    let at = TableAt::Router(i);
+    if let Some(flaw) = router_keys_flaw(at, table) {
+        return Some(flaw);
+    }
+    let array = ArrayAt {
+        table: at,
+        needed: false,
+        low: 0,
+        high: 16,
+    };
+    if let Some(flaw) = tables_flaw(&PolicyTables { router: i }, array, "policy", table) {
+        return Some(flaw);
+    }
+    let known = ["name", "id", "sessions", "by_bytes", "networks", "policy"];
+    stray_flaw(at, &known, table)
+}
+
+/// The router that a table is.
+fn router_of(alloc: Global, table: &Table) -> Result<RouterInput, NoMemory>
+    ensures { IfOk result (λ router. router ≡ router_of_lem (table_view table.now)) }
+{
+    Ok(RouterInput {
+        name: Name::from_text(alloc, text_at("name", table))?,
+        id: address_or(0, "id", table),
+        sessions: number_or(0, "sessions", table),
+        by_bytes: flag_or(false, "by_bytes", table),
+        networks: prefixes_at(alloc, "networks", table)?,
+        policies: values_at(&PolicyReader, alloc, "policy", table)?,
+    })
+}
+
+/// The routers of an input.
+#[derive(Drop)]
+pub(crate) struct RouterTables;
+
+impl TableKind for RouterTables {
+    ghost flaw_of = { λ _. router_flaw_lem };
+
+    fn flaw<'a>(&self, i: usize, table: &'a Table) -> Option<Flaw<'a>> {
+        router_flaw(i, table)
+    }
+}
+
+impl TableReader<RouterInput> for RouterTables {
+    ghost value_of = { λ _. router_of_lem };
+
+    fn value(&self, alloc: Global, table: &Table) -> Result<RouterInput, NoMemory> {
+        router_of(alloc, table)
+    }
+}

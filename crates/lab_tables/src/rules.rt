@@ -1,0 +1,189 @@
+//! Policies and their rules.
+
+ghost use Rattle.std.specs.Prelude.{◌≡◌, IfOk, option_map};
+ghost use Rattle.toml.specs.View.{table_view};
+ghost use Rattle.lab_keys.specs.Keys.{keys_flaw as keys_flaw_lem};
+ghost use Rattle.lab_keys.specs.Values.{has as has_lem};
+ghost use Rattle.lab_tables.specs.Routers.{length_kind as length_kind_lem, rule_keys as rule_keys_lem, rule_flaw as rule_flaw_lem, range_of as range_of_lem, rule_of as rule_of_lem, policy_keys as policy_keys_lem, policy_flaw as policy_flaw_lem, policy_of as policy_of_lem};
+
+use crate::input::PolicyInput;
+use crate::words::origin_at;
+use bgp_types::{Name, NoMemory, Prefix};
+use lab_keys::{
+    ArrayAt, Flaw, Key, Kind, TableAt, TableKind, TableReader, Words, flag_or, has, keys_flaw,
+    maybe_number, maybe_prefix, small_or, stray_flaw, tables_flaw, text_at, values_at,
+};
+use route_policy::{PrefixRange, Rule};
+use std::alloc::Global;
+use toml::Table;
+
+/// The kind of a rule's lengths: they may be given where a prefix is.
+fn length_kind(ranged: bool) -> Kind
+    ensures { result ≡ length_kind_lem ranged }
+{
+    if ranged {
+        Kind::Number { low: 0, high: 32 }
+    } else {
+        Kind::Misplaced
+    }
+}
+
+/// The first flaw of the keys of a rule.
+fn rule_keys_flaw<'a>(at: TableAt, table: &Table) -> Option<Flaw<'a>>
+    ensures { result ≡ keys_flaw_lem at (rule_keys_lem (has_lem (codes "prefix") (table_view table.now))) (table_view table.now) }
+{
+    let ranged = has("prefix", table);
+    let any = Kind::Number {
+        low: 0,
+        high: u32::MAX,
+    };
+    let keys = [
+        Key::optional("prefix", Kind::Prefix),
+        Key::optional("ge", length_kind(ranged)),
+        Key::optional("le", length_kind(ranged)),
+        Key::optional(
+            "has_as",
+            Kind::Number {
+                low: 1,
+                high: u32::MAX,
+            },
+        ),
+        Key::optional("origin", Kind::Word(Words::Origins)),
+        Key::optional("deny", Kind::Flag),
+        Key::optional("pref", any),
+        Key::optional("med", any),
+        Key::optional("prepend", Kind::Number { low: 0, high: 8 }),
+    ];
+    keys_flaw(at, &keys, table)
+}
+
+/// The first flaw of the rule at these places.
+fn rule_flaw<'a>(i: usize, j: usize, k: usize, table: &'a Table) -> Option<Flaw<'a>>
+    ensures { result ≡ rule_flaw_lem i j k (table_view table.now) }
+{
+    let at = TableAt::Rule(i, j, k);
+    if let Some(flaw) = rule_keys_flaw(at, table) {
+        return Some(flaw);
+    }
+    let known = [
+        "prefix", "ge", "le", "has_as", "origin", "deny", "pref", "med", "prepend",
+    ];
+    stray_flaw(at, &known, table)
+}
+
+/// The range of a rule that has a prefix.
+fn range_of(prefix: Prefix, table: &Table) -> PrefixRange
+    ensures { result ≡ range_of_lem (table_view table.now) prefix }
+{
+    let longest = if has("ge", table) { 32 } else { prefix.len() };
+    PrefixRange {
+        prefix,
+        ge: small_or(prefix.len(), "ge", table),
+        le: small_or(longest, "le", table),
+    }
+}
+
+/// The rule that a table is.
+fn rule_of(table: &Table) -> Rule
+    ensures { result ≡ rule_of_lem (table_view table.now) }
+{
+    Rule {
+        within: maybe_prefix("prefix", table).map(|prefix| range_of(prefix, table)),
+        has_as: maybe_number("has_as", table),
+        origin: origin_at("origin", table),
+        deny: flag_or(false, "deny", table),
+        pref: maybe_number("pref", table),
+        med: maybe_number("med", table),
+        prepend: small_or(0, "prepend", table),
+    }
+}
+
+/// The rules of a policy of a router, by their places.
+#[derive(Drop)]
+struct RuleTables {
+    router: usize,
+    policy: usize,
+}
+
+impl TableKind for RuleTables {
+    ghost flaw_of = { λ k. rule_flaw_lem k.router k.policy };
+
+    fn flaw<'a>(&self, i: usize, table: &'a Table) -> Option<Flaw<'a>> {
+        rule_flaw(self.router, self.policy, i, table)
+    }
+}
+
+/// Tables that are rules.
+#[derive(Drop)]
+struct RuleReader;
+
+impl TableReader<Rule> for RuleReader {
+    ghost value_of = { λ _ t. rule_of_lem t };
+
+    fn value(&self, _alloc: Global, table: &Table) -> Result<Rule, NoMemory> {
+        Ok(rule_of(table))
+    }
+}
+
+/// The first flaw of the policy at these places.
+fn policy_flaw<'a>(i: usize, j: usize, table: &'a Table) -> Option<Flaw<'a>>
+    ensures { result ≡ policy_flaw_lem i j (table_view table.now) }
+{
+    let at = TableAt::Policy(i, j);
+    let keys = [Key::required("name", Kind::Name)];
+    if let Some(flaw) = keys_flaw(at, &keys, table) {
+        return Some(flaw);
+    }
+    let array = ArrayAt {
+        table: at,
+        needed: false,
+        low: 0,
+        high: 64,
+    };
+    let rules = RuleTables {
+        router: i,
+        policy: j,
+    };
+    if let Some(flaw) = tables_flaw(&rules, array, "rule", table) {
+        return Some(flaw);
+    }
+    stray_flaw(at, &["name", "rule"], table)
+}
+
+/// The policy that a table is.
+fn policy_of(alloc: Global, table: &Table) -> Result<PolicyInput, NoMemory>
+    ensures { IfOk result (λ policy. policy ≡ policy_of_lem (table_view table.now)) }
+{
+    Ok(PolicyInput {
+        name: Name::from_text(alloc, text_at("name", table))?,
+        rules: values_at(&RuleReader, alloc, "rule", table)?,
+    })
+}
+
+/// The policies of a router, by its place.
+#[derive(Drop)]
+pub(crate) struct PolicyTables {
+    pub router: usize,
+}
+
+impl TableKind for PolicyTables {
+    ghost flaw_of = { λ k. policy_flaw_lem k.router };
+
+    fn flaw<'a>(&self, i: usize, table: &'a Table) -> Option<Flaw<'a>> {
+        policy_flaw(self.router, i, table)
+    }
+}
+
+/// Tables that are policies.
+#[derive(Drop)]
+pub(crate) struct PolicyReader;
+
+impl TableReader<PolicyInput> for PolicyReader {
+    ghost value_of = { λ _ t. policy_of_lem t };
+
+    fn value(&self, alloc: Global, table: &Table) -> Result<PolicyInput, NoMemory> {
+        policy_of(alloc, table)
+    }
+}
+
+ghost use Rattle.std.specs.Prelude.{codes};

@@ -1,0 +1,291 @@
+//! The flaws of steps.
+
+ghost use Rattle.std.specs.Prelude.{◌≡◌, codes, map};
+ghost use Rattle.std.specs.List.{list_any, take_while};
+ghost use Rattle.toml.specs.View.{view, table_view};
+ghost use Rattle.lab_keys.specs.declared.table_at.TableAt.TheVariants.{Top};
+ghost use Rattle.lab_keys.specs.Places.{place, member_of};
+ghost use Rattle.lab_keys.specs.Kinds.{each_from, table_flaw};
+ghost use Rattle.lab_keys.specs.Keys.{keys_flaw as keys_flaw_lem, tables_flaw as tables_flaw_lem};
+ghost use Rattle.lab_keys.specs.Values.{items_at as items_at_lem};
+ghost use Rattle.lab_tables.specs.Scripts.{word_at as word_at_lem, is_word, is_settle, is_evacuate, evacuates as evacuates_lem, group_from, is_crowded as is_crowded_lem, keys_of as keys_of_lem, least_flaw as least_flaw_lem, worded_flaw as worded_flaw_lem, grouped_flaw as grouped_flaw_lem, step_flaw as step_flaw_lem};
+
+use crate::words::{StepWord, step_word_of};
+use lab_keys::{
+    Flaw, Key, Kind, Spot, TableAt, Words, beyond, flaw_if, keys_flaw, number_or, stray_flaw,
+    text_at, value_at,
+};
+use toml::{Table, Value};
+
+/// What a step does.
+pub fn word_at(table: &Table) -> StepWord
+    ensures { result ≡ word_at_lem (table_view table.now) }
+{
+    step_word_of(text_at("do", table))
+}
+
+/// Whether what stands in the array of steps ends a group.
+fn ends_group(step: &Value) -> bool
+    ensures { result ≡ is_word is_settle (view step.now) }
+{
+    let Some(table) = step.as_table() else {
+        return false;
+    };
+    match word_at(table) {
+        StepWord::Settles => true,
+        _ => false,
+    }
+}
+
+/// Whether what stands in the array of steps evacuates a router.
+fn evacuates(step: &Value) -> bool
+    ensures { result ≡ is_word is_evacuate (view step.now) }
+{
+    let Some(table) = step.as_table() else {
+        return false;
+    };
+    match word_at(table) {
+        StepWord::Evacuates => true,
+        _ => false,
+    }
+}
+
+/// Whether some step evacuates a router, up to the next one that ends a group.
+fn evacuates_in(steps: &[Value]) -> bool
+    ensures { result ≡ list_any (λ v. is_word is_evacuate (view v)) (take_while (λ v. not (is_word is_settle (view v))) steps.now) }
+{
+    steps
+        .iter()
+        .take_while(|step| !ends_group(step))
+        .any(|step| evacuates(step))
+}
+
+/// Whether a step may not stand in its group, where a step evacuates before it, or anywhere in the group.
+fn is_crowded(before: bool, whole: bool, word: StepWord) -> bool
+    ensures { result ≡ is_crowded_lem before whole word }
+{
+    match word {
+        StepWord::Grafts => whole,
+        StepWord::Evacuates => before,
+        _ => false,
+    }
+}
+
+fn announce_flaw<'a>(at: TableAt, table: &Table) -> Option<Flaw<'a>>
+    ensures { result ≡ keys_flaw_lem at announce_keys (table_view table.now) }
+{
+    let as_number = Kind::Number {
+        low: 1,
+        high: u32::MAX,
+    };
+    let keys = [
+        Key::required("peering", Kind::Name),
+        Key::required_array("prefixes", 1, 200, Kind::Prefix),
+        Key::optional_array("path", 0, 64, as_number),
+        Key::optional("origin", Kind::Word(Words::Origins)),
+        Key::optional(
+            "med",
+            Kind::Number {
+                low: 0,
+                high: u32::MAX,
+            },
+        ),
+        Key::optional("next_hop", Kind::Host),
+    ];
+    keys_flaw(at, &keys, table)
+}
+
+fn withdraw_flaw<'a>(at: TableAt, table: &Table) -> Option<Flaw<'a>>
+    ensures { result ≡ keys_flaw_lem at withdraw_keys (table_view table.now) }
+{
+    let keys = [
+        Key::required("peering", Kind::Name),
+        Key::required_array("prefixes", 1, 200, Kind::Prefix),
+    ];
+    keys_flaw(at, &keys, table)
+}
+
+fn raw_flaw<'a>(at: TableAt, table: &Table) -> Option<Flaw<'a>>
+    ensures { result ≡ keys_flaw_lem at raw_keys (table_view table.now) }
+{
+    let keys = [
+        Key::required("peering", Kind::Name),
+        Key::required("hex", Kind::Hex { low: 1, high: 4096 }),
+    ];
+    keys_flaw(at, &keys, table)
+}
+
+fn graft_flaw<'a>(at: TableAt, table: &Table) -> Option<Flaw<'a>>
+    ensures { result ≡ keys_flaw_lem at graft_keys (table_view table.now) }
+{
+    let keys = [
+        Key::required("peering", Kind::Name),
+        Key::required("to", Kind::Name),
+    ];
+    keys_flaw(at, &keys, table)
+}
+
+fn settle_flaw<'a>(at: TableAt, table: &Table) -> Option<Flaw<'a>>
+    ensures { result ≡ keys_flaw_lem at settle_keys (table_view table.now) }
+{
+    let keys = [
+        Key::optional(
+            "rounds",
+            Kind::Number {
+                low: 1,
+                high: 16384,
+            },
+        ),
+        Key::optional("least", Kind::Number { low: 0, high: 1024 }),
+    ];
+    keys_flaw(at, &keys, table)
+}
+
+fn evacuate_flaw<'a>(at: TableAt, table: &Table) -> Option<Flaw<'a>>
+    ensures { result ≡ keys_flaw_lem at evacuate_keys (table_view table.now) }
+{
+    keys_flaw(at, &[Key::required("router", Kind::Name)], table)
+}
+
+/// The first flaw of the keys of a step, by its word.
+fn word_keys_flaw<'a>(word: StepWord, at: TableAt, table: &Table) -> Option<Flaw<'a>>
+    ensures { result ≡ keys_flaw_lem at (keys_of_lem word) (table_view table.now) }
+{
+    match word {
+        StepWord::Announces => announce_flaw(at, table),
+        StepWord::Withdraws => withdraw_flaw(at, table),
+        StepWord::SaysRaw => raw_flaw(at, table),
+        StepWord::Grafts => graft_flaw(at, table),
+        StepWord::Settles => settle_flaw(at, table),
+        _ => evacuate_flaw(at, table),
+    }
+}
+
+/// A least number of rounds above the greatest one.
+fn least_flaw<'a>(word: StepWord, i: usize, table: &Table) -> Option<Flaw<'a>>
+    ensures { result ≡ least_flaw_lem word i (table_view table.now) }
+{
+    let StepWord::Settles = word else {
+        return None;
+    };
+    let least = number_or(0, "least", table);
+    let spot = Spot::of(TableAt::Step(i), "least");
+    flaw_if(
+        number_or(least, "rounds", table) < least,
+        Flaw::Limit(spot, least as u64),
+    )
+}
+
+/// The flaw of a key that isn't known for a step of this word.
+fn word_stray<'a>(word: StepWord, at: TableAt, table: &'a Table) -> Option<Flaw<'a>>
+    ensures { result ≡ stray_flaw_lem at (codes "do" ∷ names_of (keys_of_lem word)) (table_view table.now) }
+{
+    match word {
+        StepWord::Announces => {
+            let known = [
+                "do", "peering", "prefixes", "path", "origin", "med", "next_hop",
+            ];
+            stray_flaw(at, &known, table)
+        }
+        StepWord::Withdraws => stray_flaw(at, &["do", "peering", "prefixes"], table),
+        StepWord::SaysRaw => stray_flaw(at, &["do", "peering", "hex"], table),
+        StepWord::Grafts => stray_flaw(at, &["do", "peering", "to"], table),
+        StepWord::Settles => stray_flaw(at, &["do", "rounds", "least"], table),
+        _ => stray_flaw(at, &["do", "router"], table),
+    }
+}
+
+/// The first flaw of a step behind its word.
+fn worded_flaw<'a>(word: StepWord, i: usize, table: &'a Table) -> Option<Flaw<'a>>
+    ensures { result ≡ worded_flaw_lem word i (table_view table.now) }
+{
+    let at = TableAt::Step(i);
+    if let Some(flaw) = word_keys_flaw(word, at, table) {
+        return Some(flaw);
+    }
+    if let Some(flaw) = least_flaw(word, i, table) {
+        return Some(flaw);
+    }
+    word_stray(word, at, table)
+}
+
+/// The first flaw of the step at a place, where a step evacuates before it in its group, or anywhere in it.
+fn grouped_flaw<'a>(before: bool, whole: bool, i: usize, table: &'a Table) -> Option<Flaw<'a>>
+    ensures { result ≡ grouped_flaw_lem before whole i (table_view table.now) }
+{
+    let at = TableAt::Step(i);
+    let keys = [Key::required("do", Kind::Word(Words::StepKinds))];
+    if let Some(flaw) = keys_flaw(at, &keys, table) {
+        return Some(flaw);
+    }
+    let word = word_at(table);
+    if is_crowded(before, whole, word) {
+        return Some(Flaw::Shape(Spot::of(at, "do")));
+    }
+    worded_flaw(word, i, table)
+}
+
+/// The first flaw of what stands in the array of steps.
+fn item_flaw<'a>(before: bool, whole: bool, i: usize, step: &'a Value) -> Option<Flaw<'a>>
+    ensures { result ≡ table_flaw (member_of (place Top (codes "step")) i) (grouped_flaw_lem before whole i) (view step.now) }
+{
+    let Some(table) = step.as_table() else {
+        return Some(Flaw::Shape(Spot::of(TableAt::Top, "step").member(i)));
+    };
+    grouped_flaw(before, whole, i, table)
+}
+
+/// Whether a step evacuates before the next one in its group, where one does before this one.
+fn before_next(before: bool, step: &Value) -> bool
+    ensures { result ≡ (if is_word is_settle (view step.now) then false else (is_word is_evacuate (view step.now) || before)) }
+{
+    if ends_group(step) {
+        return false;
+    }
+    evacuates(step) || before
+}
+
+/// Whether a step evacuates in the group of the next one, where one does in the group of this one.
+fn whole_next(whole: bool, step: &Value, further: &[Value]) -> bool
+    ensures { result ≡ (if is_word is_settle (view step.now) then list_any (λ v. is_word is_evacuate (view v)) (take_while (λ v. not (is_word is_settle (view v))) further.now) else whole) }
+{
+    if ends_group(step) {
+        return evacuates_in(further);
+    }
+    whole
+}
+
+/// The first flaw of the values of the array of steps.
+fn items_flaw<'a>(steps: &'a [Value]) -> Option<Flaw<'a>>
+    ensures { result ≡ each_from (λ i. table_flaw (member_of (place Top (codes "step")) i) (step_flaw_lem (map view steps.now) i)) 0 (map view steps.now) }
+{
+    let mut before = false;
+    let mut whole = evacuates_in(steps);
+    for (i, step) in steps.iter().enumerate() {
+        if let Some(flaw) = item_flaw(before, whole, i, step) {
+            return Some(flaw);
+        }
+        before = before_next(before, step);
+        whole = whole_next(whole, step, &steps[i + 1..]);
+    }
+    None
+}
+
+/// The first flaw of the steps of an input.
+pub(crate) fn steps_flaw<'a>(doc: &'a Table) -> Option<Flaw<'a>>
+    ensures { result ≡ tables_flaw_lem Top (codes "step") false 0 4096 (step_flaw_lem (items_at_lem (codes "step") (table_view doc.now))) (table_view doc.now) }
+{
+    let value = value_at(doc, "step")?;
+    let Some(array) = value.as_array() else {
+        return Some(Flaw::Shape(Spot::of(TableAt::Top, "step")));
+    };
+    let steps = array.as_slice();
+    if let Some(flaw) = beyond(Spot::of(TableAt::Top, "step"), 0, 4096, steps.len() as u64) {
+        return Some(flaw);
+    }
+    items_flaw(steps)
+}
+
+ghost use Rattle.std.specs.Prelude.{◌∷◌, ◌||◌, false, not, if◌then◌else◌};
+ghost use Rattle.lab_keys.specs.Keys.{stray_flaw as stray_flaw_lem, names_of};
+ghost use Rattle.lab_tables.specs.Scripts.{announce_keys, withdraw_keys, raw_keys, graft_keys, settle_keys, evacuate_keys};

@@ -1,0 +1,27 @@
+//! What the definitions say of a worked route.
+
+ghost use Rattle.std.specs.Prelude.{◌≡◌, true, false, [], ◌∷◌, Some, None, map, IsSome};
+ghost use Rattle.route_policy.specs.Candidates.{imported, candidates};
+ghost use Rattle.route_policy.specs.Telling.{tell_in, tell_out};
+ghost use Rattle.route_policy.specs.Worked.{worked_prefix, attrs_heard, raising_session, raised_route, telling_router, interior_best, three_sources, two_ranks, raising_side, silent_side, best_of_size, attrs_told, attrs_told_plainly};
+
+/// A route that is heard: what the import policy makes of it, that a path with the home AS brings nothing in, and the
+/// order and the ranks of the candidates.
+pub fn worked_candidates()
+    ensures raised { imported 65000 worked_prefix raising_session raising_session.heard ≡ Some raised_route }
+    ensures looped { imported 65001 worked_prefix raising_session raising_session.heard ≡ None }
+    ensures order { map (λ c. c.0.from) (candidates 65000 worked_prefix true (raising_session ∷ []) (telling_router ∷ [])) ≡ three_sources }
+    ensures ranks { map (λ c. c.1) (candidates 65000 worked_prefix false (raising_session ∷ []) (telling_router ∷ [])) ≡ two_ranks }
+{}
+
+/// A best route that is told on a session, or isn't: where it came from there, where the policy denies it, where its UPDATE
+/// has more than 4,096 octets, and to another router where yet another told it.
+pub fn worked_telling()
+    ensures told { tell_out 65000 raising_side worked_prefix (Some (best_of_size 1)) ≡ Some attrs_told }
+    ensures plainly { tell_out 65000 (record raising_side { export_rules = None }) worked_prefix (Some (best_of_size 1)) ≡ Some attrs_told_plainly }
+    ensures longest { IsSome (tell_out 65000 raising_side worked_prefix (Some (best_of_size 4029))) }
+    ensures too_long { tell_out 65000 raising_side worked_prefix (Some (best_of_size 4030)) ≡ None }
+    ensures back { tell_out 65000 (record raising_side { peering = raising_session.peering }) worked_prefix (Some (best_of_size 1)) ≡ None }
+    ensures denied { tell_out 65000 silent_side worked_prefix (Some (best_of_size 1)) ≡ None }
+    ensures inside { tell_in (Some interior_best) ≡ None }
+{}
