@@ -1,0 +1,12 @@
+pub mod Equality
+pub mod Tables
+pub mod Sorted
+pub mod Numbered
+pub mod Candidates
+pub mod Marks
+pub mod Kept
+pub mod RankSets
+pub mod OwnRanks
+pub mod Drops
+pub mod Whole
+pub mod Decided

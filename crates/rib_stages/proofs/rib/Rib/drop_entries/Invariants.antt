@@ -1,0 +1,10 @@
+use Rattle.std.specs.FinMap as map
+use Rattle.rib_stages.specs.Values.{rib_of, table_at}
+use Rattle.rib_stages.specs.Steps.{DropsEntries}
+use Rattle.rib_stages.proofs.rib.Rib.drop_entries.Given as goal
+
+abbrev pub invariant-loop-prefix : goal.invariant-loop-prefix
+invariant-loop-prefix l = DropsEntries (rib_of l.initial.self) l.n (rib_of l.self)
+
+abbrev pub decreases-loop-prefix : goal.decreases-loop-prefix
+decreases-loop-prefix l = map.len (table_at l.self.entries l.n)

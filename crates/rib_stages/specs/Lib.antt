@@ -1,0 +1,4 @@
+pub mod Values
+pub mod Choosing
+pub mod Steps
+pub mod Ranks

@@ -1,0 +1,90 @@
+//! Tables of routes, one for each number of a peering or a router.
+
+ghost use Rattle.std.specs.Prelude.{◌≡◌, ◌≤◌, IfOk, OnOk, option_copied, replicate};
+ghost use Rattle.std.specs.FinMap as map;
+ghost use Rattle.bgp_types.specs.Tables.{first_above};
+ghost use Rattle.session_value.specs.Points.{at};
+ghost use Rattle.rib_stages.specs.Values.{contents_of, tables_of, room_at};
+
+use bgp_types::{NoMemory, Prefix, SpareTable, Table};
+use prefix_trie::TrieTable;
+use std::alloc::Global;
+use std::marker::Model;
+
+/// How many numbers an octet has.
+const COUNT: u32 = 256;
+
+/// A table for each number that an octet can have.
+#[derive(Drop)]
+pub(crate) struct Sources<V> {
+    tables: Vec<TrieTable<V>>,
+}
+
+impl<V> Model for Sources<V> {
+    ghost use Rattle.std.specs.Prelude.{◌≡◌, List, length};
+    ghost use Rattle.std.specs.Coded.{coded_list};
+    ghost use Rattle.prefix_trie.specs.Table.{TableValue, coded_table};
+
+    ghost Value = { List (TableValue V) };
+
+    ghost coded = { coded_list (coded_table V.code) };
+
+    ghost view = { λ s. s.tables.items };
+
+    ghost invariant = { λ s. length s.tables.items ≡ 256 };
+}
+
+impl<V: Drop> Sources<V> {
+    /// Tables without a prefix.
+    pub fn new(alloc: Global) -> Result<Sources<V>, NoMemory>
+        ensures { IfOk result (λ s. contents_of s ≡ replicate 256 map.empty) }
+    {
+        let mut tables = Vec::new(alloc);
+        for _n in 0..COUNT {
+            tables.push(TrieTable::new(alloc))?;
+        }
+        Ok(Sources { tables })
+    }
+
+    /// The value of a prefix in a table.
+    pub fn get(&self, n: u8, prefix: Prefix) -> Option<&V>
+        ensures { option_copied result ≡ map.get (tables_of self.now n) prefix }
+    {
+        let table = &self.tables[usize::from(n)];
+        table.get(prefix)
+    }
+
+    /// The least prefix of a table that is above another, or the least of all.
+    pub fn next_after(&self, n: u8, after: Option<Prefix>) -> Option<Prefix>
+        ensures { result ≡ first_above after (map.keys (tables_of self.now n)) }
+    {
+        let table = &self.tables[usize::from(n)];
+        table.next_after(after)
+    }
+
+    /// Takes memory for one further prefix in a table.
+    pub fn reserve(&mut self, n: u8) -> Result<(), NoMemory>
+        ensures contents { tables_of self.new ≡ tables_of self.old }
+        ensures room { OnOk result (1 ≤ room_at self.new n) }
+    {
+        let table = &mut self.tables[usize::from(n)];
+        table.reserve(1)
+    }
+
+    /// Gives a prefix a value in a table that has memory for one further prefix.
+    pub fn set_reserved(&mut self, n: u8, prefix: Prefix, value: V)
+        requires { 1 ≤ room_at self.old n }
+        ensures { tables_of self.new ≡ at (tables_of self.old) n (map.insert (tables_of self.old n) prefix value) }
+    {
+        let table = &mut self.tables[usize::from(n)];
+        table.set_reserved(prefix, value);
+    }
+
+    /// Takes a prefix out of a table.
+    pub fn remove(&mut self, n: u8, prefix: Prefix)
+        ensures { tables_of self.new ≡ at (tables_of self.old) n (map.remove (tables_of self.old n) prefix) }
+    {
+        let table = &mut self.tables[usize::from(n)];
+        table.remove(prefix);
+    }
+}
