@@ -1,0 +1,3 @@
+pub mod Firsts
+mod Actors
+mod Worlds

@@ -1,0 +1,93 @@
+-- What is left to do for an actor, of each part of the world.
+use Rattle.std.specs.Prelude.{ℕ, ◌≡◌, ◌≢◌, ◌⊎◌, ◌++◌, List, [], length, Option, Some, None, true, false, slice_get}
+use Rattle.bgp_types.specs.Prefixes.{PrefixValue}
+use Rattle.bgp_types.specs.declared.message.SessionState.TheVariants.{Closed}
+use Rattle.bgp_story.specs.Legal.{IsGot}
+use Rattle.tcp_seq.specs.Endpoint.{Endpoint}
+use Rattle.session_value.specs.Sessions.{SessionValue, state, unread}
+use Rattle.session_value.specs.Sets.{Prefixes, has}
+use Rattle.graft_steps.specs.declared.rest.Pending.{Pending}
+use Rattle.graft_steps.specs.declared.rest.Pending.TheVariants.{Script, Graft, Bag, Stream, Dirty, DueIn, DueOut}
+use Rattle.graft_model.specs.Setups.{Setup, ScriptStep, MoveStep, SettleStep, group_of, graft_number}
+use Rattle.graft_model.specs.Parts.{Place, Vacant, Live, Frozen, Shadow, RouterPart, FarPart, OperatorPart}
+
+-- ---- a router
+
+-- some prefix is in the set
+abbrev pub HasSome : Prefixes → Type 0
+HasSome prefixes = (prefix : PrefixValue) × (has prefixes prefix ≡ true)
+
+-- the graft that is at a place: stored with the session there, or for which that is frozen, or in which it left
+abbrev pub graft_at : Place → Option ℕ
+graft_at Vacant = None
+graft_at (Live session None) = None
+graft_at (Live session (Some order)) = Some order.graft
+graft_at (Frozen session order) = Some order.graft
+graft_at (Shadow graft) = Some graft
+
+-- bytes that an endpoint is to send aren't all acknowledged
+abbrev pub IsUnacked : Endpoint → Type 0
+IsUnacked end = end.acked ≢ length end.stream
+
+-- A session isn't closed, and a whole message or a faulty header stands at the front of its unread bytes.
+pub record HasUnread (session : SessionValue) : Type 0 where
+  pub unclosed : state session ≢ Closed
+  pub front : List ℕ
+  pub rest : List ℕ
+  pub is : unread session ≡ front ++ rest
+  pub got : IsGot front
+
+-- of a session that is held at a place, live or frozen, something is unacknowledged or unread
+abbrev pub HasStream : Place → Type 0
+HasStream Vacant = ⊥
+HasStream (Live session order) = IsUnacked session.end ⊎ HasUnread session
+HasStream (Frozen session order) = IsUnacked session.end ⊎ HasUnread session
+HasStream (Shadow graft) = ⊥
+
+-- a graft is at one of the places
+abbrev pub HasGraft : RouterPart → ℕ → Type 0
+HasGraft part k = (p : ℕ) × (graft_at (part.places p) ≡ Some k)
+
+abbrev pub LeftAtRouter : ℕ → RouterPart → Pending → Type 0
+LeftAtRouter r part (Graft k) = HasGraft part k
+LeftAtRouter r part (Stream p) = HasStream (part.places p.0)
+LeftAtRouter r part (Dirty s) = (s.0 ≡ r) × HasSome part.dirty
+LeftAtRouter r part (DueIn s q) = (s.0 ≡ r) × HasSome (part.due_in q.0)
+LeftAtRouter r part (DueOut p) = HasSome (part.due_out p.0)
+LeftAtRouter r part other = ⊥
+
+-- ---- a far side
+
+abbrev pub LeftAtFar : ℕ → FarPart → Pending → Type 0
+LeftAtFar p part (Bag q) = (q.0 ≡ p) × (part.homeward ++ part.remoteward ≢ [])
+LeftAtFar p part (Stream q) = (q.0 ≡ p) × IsUnacked part.end
+LeftAtFar p part other = ⊥
+
+-- ---- the operator
+
+-- A step of the group that is at work wasn't issued.
+pub record IsUnissued (setup : Setup) (part : OperatorPart) (n : ℕ) : Type 0 where
+  pub step : ScriptStep
+  pub is : slice_get setup.steps n ≡ Some step
+  pub ordered : step ≢ SettleStep
+  pub group : group_of setup n ≡ part.group
+  pub unissued : part.issued n ≡ false
+
+abbrev pub HasUnissued : Setup → OperatorPart → Type 0
+HasUnissued setup part = (n : ℕ) × IsUnissued setup part n
+
+-- A graft of the group that is at work was ordered and has no outcome.
+pub record IsOpen (setup : Setup) (part : OperatorPart) (k : ℕ) : Type 0 where
+  pub step : ℕ
+  pub peering : ℕ
+  pub target : ℕ
+  pub is : slice_get setup.steps step ≡ Some (MoveStep peering target)
+  pub group : group_of setup step ≡ part.group
+  pub issued : part.issued step ≡ true
+  pub number : graft_number setup step ≡ k
+  pub unended : part.outcome k ≡ None
+
+abbrev pub LeftToOperator : Setup → OperatorPart → Pending → Type 0
+LeftToOperator setup part Script = HasUnissued setup part
+LeftToOperator setup part (Graft k) = IsOpen setup part k
+LeftToOperator setup part other = ⊥
