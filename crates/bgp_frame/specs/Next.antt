@@ -1,16 +1,17 @@
--- What a framer answers, by the bytes that it holds.
+-- What stands at the front of bytes, and what a framer answers by the bytes that it holds.
 use Rattle.std.specs.Prelude.{◌≡◌, ℕ, ◌≤◌, List, length, take, drop, Option, Some, None, Result, Ok, Err, Bool, nat_le, ◌||◌, ◌&&◌, is_some}
 use Rattle.bgp_types.specs.declared.fault.HeaderFault.{HeaderFault}
 use Rattle.bgp_types.specs.Header.{header_fault, kind_in, frame_at}
 use Rattle.bgp_frame.specs.declared.framer.Frame.{Frame}
+use Rattle.bgp_frame.specs.declared.front.FrontFrame.{FrontFrame}
 use Rattle.bgp_frame.specs.declared.framer.FrameStop.{FrameStop}
 use Rattle.bgp_frame.specs.declared.framer.FrameStop.TheVariants as stops
 
--- the bytes begin with a whole message of this length, with none, or with a faulty header
-abbrev pub begins : Result (Option ℕ) HeaderFault → List ℕ → Type 0
-begins (Ok None) bytes = (frame_at bytes ≡ None) × (19 ≤ length bytes → header_fault bytes ≡ None)
-begins (Ok (Some len)) bytes = (frame_at bytes ≡ Some (take len bytes, drop len bytes)) × (19 ≤ length bytes) × (len ≤ length bytes) × (header_fault bytes ≡ None)
-begins (Err fault) bytes = (19 ≤ length bytes) × (header_fault bytes ≡ Some fault)
+-- The bytes begin with no whole message and no faulty header, with a whole message of this type and length, or with a faulty header.
+abbrev pub Begins : Result (Option FrontFrame) HeaderFault → List ℕ → Type 0
+Begins (Ok None) bytes = (frame_at bytes ≡ None) × (19 ≤ length bytes → header_fault bytes ≡ None)
+Begins (Ok (Some front)) bytes = (frame_at bytes ≡ Some (take front.len bytes, drop front.len bytes)) × (front.kind ≡ kind_in bytes) × (19 ≤ front.len) × (front.len ≤ length bytes) × (header_fault bytes ≡ None)
+Begins (Err fault) bytes = (19 ≤ length bytes) × (header_fault bytes ≡ Some fault)
 
 -- a whole message or a faulty header
 abbrev pub has_next : List ℕ → Bool

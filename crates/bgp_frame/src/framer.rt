@@ -2,9 +2,10 @@
 
 ghost use Rattle.std.specs.Prelude.{◌≡◌, ◌++◌, [], Some, IfOk, IfSome, OnOk, OnErr};
 ghost use Rattle.bgp_types.specs.Header.{frame_at};
-ghost use Rattle.bgp_frame.specs.Next.{Next, has_next, begins};
+ghost use Rattle.bgp_frame.specs.Next.{Next, has_next};
 
-use bgp_types::{HEADER, HeaderFault, NoMemory, Octets, header_fault, header_len};
+use crate::front::first_frame;
+use bgp_types::{HeaderFault, NoMemory, Octets};
 use graft_edge::ByteQueue;
 use std::alloc::Global;
 use std::marker::Model;
@@ -52,24 +53,6 @@ impl Model for Framer {
     ghost view = { λ framer. framer.held };
 }
 
-/// The length of the message at the front, where it is whole.
-#[tactic(auto, unfolding(bgp_types::specs::Header::frame_at))]
-fn whole_at(octets: &[u8]) -> Result<Option<usize>, HeaderFault>
-    ensures { begins result octets.now }
-{
-    if octets.len() < HEADER {
-        return Ok(None);
-    }
-    if let Some(fault) = header_fault(octets) {
-        return Err(fault);
-    }
-    let len = usize::from(header_len(octets));
-    if octets.len() < len {
-        return Ok(None);
-    }
-    Ok(Some(len))
-}
-
 impl Framer {
     /// Holds no bytes.
     pub fn new(alloc: Global) -> Framer
@@ -93,26 +76,27 @@ impl Framer {
     pub fn waits(&self) -> bool
         ensures { result ≡ has_next self.now }
     {
-        !matches!(whole_at(self.held.as_slice()), Ok(None))
+        !matches!(first_frame(self.held.as_slice()), Ok(None))
     }
 
     /// Gives the next message, where it is whole; none where fewer octets are held than a header
     /// has, or than a sound header says. A faulty header is answered from then on. After it, and
     /// after `NoMemory`, the same bytes are held.
-    #[tactic(auto, using(crate::proofs::StreamLaws::front_is_whole))]
     pub fn next(&mut self) -> Result<Option<Frame>, FrameStop>
         ensures answer { Next result self.old self.new }
         ensures whole { IfOk result (λ frame. IfSome frame (λ f. frame_at f.bytes ≡ Some (f.bytes, []))) }
     {
         let octets = self.held.as_slice();
-        let len = match whole_at(octets) {
+        let front = match first_frame(octets) {
             Err(fault) => return Err(FrameStop::Header(fault)),
             Ok(None) => return Ok(None),
-            Ok(Some(len)) => len,
+            Ok(Some(front)) => front,
         };
-        let kind = octets[18];
-        let bytes = Octets::from_slice(self.held.allocator(), &octets[..len])?;
-        self.held.drop_front(len);
-        Ok(Some(Frame { kind, bytes }))
+        let bytes = Octets::from_slice(self.held.allocator(), &octets[..front.len])?;
+        self.held.drop_front(front.len);
+        Ok(Some(Frame {
+            kind: front.kind,
+            bytes,
+        }))
     }
 }

@@ -2,8 +2,10 @@
 #![tactic(auto)]
 
 mod framer;
+mod front;
 mod laws;
 
 pub use bgp_types::HeaderFault;
 pub use framer::{Frame, FrameStop, Framer};
+pub use front::{FrontFrame, first_frame};
 pub use laws::{any_pieces, fault_stays};

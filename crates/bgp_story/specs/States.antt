@@ -1,6 +1,6 @@
 -- What a story's lines tell of its state, without a look into what was got: a line changes it where it
 -- ends a case of a legal story.
-use Rattle.std.specs.Prelude.{◌≡◌, ℕ, ◌==◌, length, List, ◌++◌, Bool, ◌&&◌, nat_le, is_none, fold, if◌then◌else◌}
+use Rattle.std.specs.Prelude.{◌≡◌, ℕ, ◌==◌, length, List, [], ◌∷◌, ◌++◌, Option, Some, None, Bool, ◌&&◌, nat_le, is_none, fold, if◌then◌else◌}
 use Rattle.bgp_types.specs.declared.message.Message.{Message}
 use Rattle.bgp_types.specs.declared.message.Message.TheVariants.{OpenMsg, UpdateMsg, NoticeMsg, KeepaliveMsg}
 use Rattle.bgp_types.specs.declared.message.SessionState.{SessionState}
@@ -45,6 +45,11 @@ after state (Tick _) = state
 
 abbrev pub state_of : List Line → SessionState
 state_of lines = fold after OpenSent lines
+
+-- the line of a message that is put in answer, where there is one
+abbrev pub answered : Option Message → List Line
+answered None = []
+answered (Some message) = Put message ∷ []
 
 -- The lines begin an allowed story, with a remote of this AS.
 pub record Begins (remote_as : ℕ) (lines : List Line) : Type 0 where

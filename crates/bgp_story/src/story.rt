@@ -3,7 +3,7 @@
 ghost use Rattle.std.specs.Prelude.{◌≡◌, ◌++◌, ◌∷◌, [], IfOk, IfErr, OnOk, OnErr};
 ghost use Rattle.bgp_types.specs.declared.message.Message.TheVariants as messages;
 ghost use Rattle.bgp_story.specs.Legal.{IsPeering};
-ghost use Rattle.bgp_story.specs.States.{Begins, state_of, after_put as after_put_lem, after_got as after_got_lem};
+ghost use Rattle.bgp_story.specs.States.{Begins, state_of, answered, after as after_lem, after_put as after_put_lem, after_got as after_got_lem};
 ghost use Rattle.bgp_story.specs.declared.line.Line.TheVariants.{Put, Got, Tick};
 
 use crate::header::{KEEPALIVE, NOTIFICATION, is_type};
@@ -68,6 +68,34 @@ fn add(lines: &mut Vec<Line>, line: Line) -> Result<(), Line>
     }
 }
 
+/// Adds a line and the message that is put in answer to it. If memory runs out, nothing changes.
+fn add_both(lines: &mut Vec<Line>, line: Line, answer: Message) -> Result<(), NoMemory>
+    ensures ok { OnOk result (lines.new.items ≡ lines.old.items ++ line ∷ Put answer ∷ []) }
+    ensures err { OnErr result (lines.new.items ≡ lines.old.items) }
+{
+    if add(lines, line).is_err() {
+        return Err(NoMemory);
+    }
+    match add(lines, Line::Put(answer)) {
+        Ok(()) => Ok(()),
+        Err(_) => {
+            let _line = lines.pop();
+            Err(NoMemory)
+        }
+    }
+}
+
+/// The state after a line was added.
+fn after(state: SessionState, line: &Line) -> SessionState
+    ensures { result ≡ after_lem state line.now }
+{
+    match line {
+        Line::Put(message) => after_put(state, message),
+        Line::Got(octets) => after_got(state, octets),
+        Line::Tick(_) => state,
+    }
+}
+
 impl Story {
     /// The story that begins with this OPEN, of a session with a remote of this AS. The OPEN is one that
     /// a home side puts, with its hold time, its identifier and its AS in range, and the remote's AS is
@@ -83,6 +111,22 @@ impl Story {
             remote_as,
             state: SessionState::OpenSent,
         })
+    }
+
+    /// Adds a line after which the session has this state.
+    fn add_line(&mut self, line: Line, state: SessionState) -> Result<(), NoMemory>
+        requires begins { Begins self.old.remote_as (self.old.lines ++ line ∷ []) }
+        requires state { state ≡ state_of (self.old.lines ++ line ∷ []) }
+        ensures ok { OnOk result (self.new ≡ record self.old { lines = self.old.lines ++ line ∷ [] }) }
+        ensures err { OnErr result (self.new ≡ self.old) }
+    {
+        match add(&mut self.lines, line) {
+            Ok(()) => {
+                self.state = state;
+                Ok(())
+            }
+            Err(_) => Err(NoMemory),
+        }
     }
 
     /// Adds a message that is put, where the lines with it begin a legal story. If memory runs out, it
@@ -134,6 +178,23 @@ impl Story {
             Ok(()) => Ok(()),
             Err(_) => Err(NoMemory),
         }
+    }
+
+    /// Adds a line and, where there is one, the message that is put in answer to it, where the lines with
+    /// both begin a legal story. If memory runs out, nothing changes; there is no other failure.
+    pub fn add(&mut self, line: Line, answer: Option<Message>) -> Result<(), NoMemory>
+        requires { Begins self.old.remote_as (self.old.lines ++ line ∷ answered answer) }
+        ensures ok { OnOk result (self.new ≡ record self.old { lines = self.old.lines ++ line ∷ answered answer }) }
+        ensures err { OnErr result (self.new ≡ self.old) }
+    {
+        let state = after(self.state, &line);
+        let Some(answer) = answer else {
+            return self.add_line(line, state);
+        };
+        let state = after_put(state, &answer);
+        add_both(&mut self.lines, line, answer)?;
+        self.state = state;
+        Ok(())
     }
 
     /// The state of the session.

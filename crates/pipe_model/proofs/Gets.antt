@@ -15,7 +15,7 @@ use Rattle.bgp_types.specs.Tables.{prefix_cmp}
 use Rattle.bgp_story.specs.declared.line.Line.{Line}
 use Rattle.bgp_story.specs.declared.line.Line.TheVariants.{Got}
 use Rattle.bgp_story.specs.Legal.{Legal, Peering, Allowed, expected_next, reply_to}
-use Rattle.bgp_story.specs.Readings.{Routes, IsLegal, put_bytes, got_bytes, heard, told, hear, tell, apply_if, update_in, unless_closed}
+use Rattle.bgp_story.specs.Readings.{Routes, ChangesTold, IsLegal, put_bytes, got_bytes, heard, told, hear, tell, apply_if, update_in, unless_closed}
 use Rattle.bgp_story.specs.States.{state_of}
 use Rattle.bgp_story.proofs.Grows.{put_grows, got_grows, told_grows, heard_grows, none_told, none_heard}
 use Rattle.bgp_story.proofs.Shapes.{allowed_of}
@@ -28,75 +28,9 @@ use Rattle.pipe_model.specs.Worlds.{Session, World}
 use Rattle.pipe_model.specs.Decisions.{brought, to_tell}
 use Rattle.pipe_model.specs.Rows.{GetsRow, due_then}
 use Rattle.pipe_model.proofs.Tables.{has_none, no_best}
-use Rattle.pipe_model.proofs.Replies.{no_update, answer_gets, answer_tells, answer_hears, while_unclosed, established_from, confirmed_from, same_update}
-use Rattle.pipe_model.proofs.Keeping.{Early, Keeps, same_session, unread_is, front_longer}
-
--- a state is closed or not
-by_closed : {A : Type 0} (state : SessionState) → (state ≡ Closed → A) → (state ≢ Closed → A) → A
-by_closed OpenSent f g = g (λ e. absurd cc)
-by_closed OpenConfirm f g = g (λ e. absurd cc)
-by_closed Established f g = g (λ e. absurd cc)
-by_closed Closed f g = f refl
-
--- ---- one message, of a session whose story is legal
-
-module _ (p : Peering) (lines : List Line) (bytes : List ℕ) (answer : List Line) (next : SessionState)
-    (legal : IsLegal p lines (state_of lines))
-    (open_yet : state_of lines ≢ Closed)
-    (got : Rattle.bgp_story.specs.Legal.IsGot bytes)
-    (reply : reply_to (message_of (expected_next p lines (state_of lines)) bytes) ≡ (answer, next)) where
-  abbrev pub said : Result Message Notice
-  said = message_of (expected_next p lines (state_of lines)) bytes
-
-  abbrev pub more : List Line
-  more = Got bytes ∷ answer
-
-  answer_is : answer ≡ (reply_to said).0
-  answer_is = ap (λ (x : List Line × SessionState). x.0) (sym reply)
-
-  legal_next : IsLegal p (lines ++ more) next
-  legal_next = Legal.got lines (state_of lines) bytes answer next (lines ++ more) legal open_yet got reply refl
-
-  pub state_next : state_of (lines ++ more) ≡ next
-  state_next = state_is p (lines ++ more) next (allowed_of p (lines ++ more) next legal_next)
-
-  pub legal_then : IsLegal p (lines ++ more) (state_of (lines ++ more))
-  legal_then = subst (λ (x : SessionState). IsLegal p (lines ++ more) x) (sym state_next) legal_next
-
-  pub got_then : got_bytes (lines ++ more) ≡ got_bytes lines ++ bytes
-  got_then =
-      got_grows lines more
-      ∙ ap (λ (x : List ℕ). got_bytes lines ++ (bytes ++ x)) (ap got_bytes answer_is ∙ answer_gets said)
-      ∙ ap (λ (x : List ℕ). got_bytes lines ++ x) (append-nil bytes)
-
-  pub put_then : AreFirst (put_bytes p lines) (put_bytes p (lines ++ more))
-  put_then = record { rest = _; is = put_grows p lines more (state_of lines) (allowed_of p lines (state_of lines) legal) }
-
-  abbrev pub later : Expected
-  later = expected_next p (lines ++ more) Established
-
-  heard_unclosed : next ≢ Closed → heard p (lines ++ more) ≡ apply_if (heard p lines) (update_in said)
-  heard_unclosed c =
-      heard_grows p lines more (state_of lines) refl (allowed_of p lines (state_of lines) legal) open_yet (λ e. c (sym state_next ∙ e))
-      ∙ (ap (λ (x : List Line). fold (hear later) (hear later (heard p lines) (Got bytes)) x) answer_is
-      ∙ (answer_hears later said (hear later (heard p lines) (Got bytes))
-      ∙ ap (apply_if (heard p lines)) (same_update p lines more (state_of lines) bytes answer next (allowed_of p lines (state_of lines) legal) reply c)))
-
-  told_unclosed : next ≢ Closed → told (lines ++ more) ≡ told lines
-  told_unclosed c =
-      told_grows lines more open_yet (λ e. c (sym state_next ∙ e))
-      ∙ (ap (λ (x : List Line). fold tell (told lines) x) answer_is
-      ∙ answer_tells said (told lines))
-
-  pub heard_then : heard p (lines ++ more) ≡ unless_closed next (apply_if (heard p lines) (update_in said))
-  heard_then = by_closed next
-      (λ e. none_heard p (lines ++ more) (state_next ∙ e) ∙ sym (ap (λ (x : SessionState). unless_closed x (apply_if (heard p lines) (update_in said))) e))
-      (λ c. heard_unclosed c ∙ sym (while_unclosed next _ c))
-
-  pub told_then : told (lines ++ more) ≡ unless_closed next (told lines)
-  told_then = by_closed next
-      (λ e. none_told (lines ++ more) (state_next ∙ e) ∙ sym (ap (λ (x : SessionState). unless_closed x (told lines)) e))
-      (λ c. told_unclosed c ∙ sym (while_unclosed next _ c))
+use Rattle.session_value.proofs.Gets.{state_next, legal_then, got_then, put_then, heard_then, told_then}
+use Rattle.session_value.proofs.Replies.{no_update, while_unclosed, established_from, confirmed_from}
+use Rattle.pipe_model.proofs.Keeping.{Early, Keeps, same_session, unread_is, front_trans, front_longer}
 
 -- ---- the event
 
@@ -110,8 +44,11 @@ module _ (pipe : Pipe) (w v : World) (row : GetsRow pipe w v) (k : Keeps pipe w 
   abbrev pub before : SessionState
   before = state_of s.story
 
+  allowed : Allowed (session_of pipe) s.story (state_of s.story)
+  allowed = allowed_of (session_of pipe) s.story (state_of s.story) k.legal
+
   then_is : state_of after.story ≡ row.next
-  then_is = state_next (session_of pipe) s.story row.bytes row.answer row.next k.legal row.unclosed row.got row.reply
+  then_is = state_next (session_of pipe) s.story row.bytes row.answer row.next row.unclosed row.got row.reply allowed
 
   arrived_is : AreFirst (got_bytes after.story) s.arrived
   arrived_is = record {
@@ -119,19 +56,19 @@ module _ (pipe : Pipe) (w v : World) (row : GetsRow pipe w v) (k : Keeps pipe w 
     is = unread_is k
         ∙ (ap (λ (x : List ℕ). got_bytes s.story ++ x) row.front
         ∙ (sym (append_assoc (got_bytes s.story) row.bytes row.rest)
-        ∙ ap (λ (x : List ℕ). x ++ row.rest) (sym (got_then (session_of pipe) s.story row.bytes row.answer row.next k.legal row.unclosed row.got row.reply))));
+        ∙ ap (λ (x : List ℕ). x ++ row.rest) (sym (got_then (session_of pipe) s.story row.bytes row.answer row.next row.unclosed row.got row.reply allowed))));
   }
 
   heard_is : row.heard ≡ heard (session_of pipe) after.story
   heard_is =
       row.hears
       ∙ (ap (λ (x : Routes). unless_closed row.next (apply_if x (update_in (message_of (expected_next (session_of pipe) s.story before) row.bytes)))) k.heard
-      ∙ sym (heard_then (session_of pipe) s.story row.bytes row.answer row.next k.legal row.unclosed row.got row.reply))
+      ∙ sym (heard_then (session_of pipe) s.story row.bytes row.answer row.next row.unclosed row.got row.reply allowed))
 
   told_is : after.told ≡ told after.story
   told_is =
       ap (unless_closed row.next) k.told
-      ∙ sym (told_then (session_of pipe) s.story row.bytes row.answer row.next k.legal row.unclosed row.got row.reply)
+      ∙ sym (told_then (session_of pipe) s.story row.bytes row.answer row.next row.unclosed row.got row.reply allowed)
 
   -- what was told before it was established is nothing
   due_from : (state next : SessionState) → before ≡ state → row.next ≡ next → next ≡ Established → (p : PrefixValue) → has (due_then state next w.best w.due) p ≡ false → map.get s.told p ≡ to_tell pipe w p
@@ -213,10 +150,10 @@ module _ (pipe : Pipe) (w v : World) (row : GetsRow pipe w v) (k : Keeps pipe w 
   gets_keeps = subst (λ (x : World). Keeps pipe x after) (sym row.effect) (record {
     held = refl;
     pointer = k.pointer;
-    legal = legal_then (session_of pipe) s.story row.bytes row.answer row.next k.legal row.unclosed row.got row.reply;
+    legal = legal_then (session_of pipe) s.story row.bytes row.answer row.next row.unclosed row.got row.reply allowed ChangesTold k.legal;
     arrived = k.arrived;
     got = arrived_is;
-    received = Rattle.pipe_model.proofs.Keeping.front_trans k.received (put_then (session_of pipe) s.story row.bytes row.answer row.next k.legal row.unclosed row.got row.reply);
+    received = front_trans k.received (record { rest = _; is = put_then (session_of pipe) s.story row.bytes row.answer row.next row.unclosed row.got row.reply allowed });
     heard = heard_is;
     told = told_is;
     best = λ p clean. k.best p (row.marks.others p clean).0 ∙ ap (brought pipe) (sym (row.marks.others p clean).1);

@@ -1,6 +1,5 @@
 pub mod Tables
 pub mod Choices
-pub mod Replies
 pub mod Keeping
 pub mod Steps
 pub mod Gets

@@ -23,7 +23,7 @@ use Rattle.session_value.specs.Sets.{Prefixes, Marks}
 use Rattle.pipe_model.specs.declared.pipe.Pipe.{Pipe}
 use Rattle.pipe_model.specs.Pipes.{session_of}
 use Rattle.pipe_model.specs.Rows.{Gets, due_then}
-use Rattle.pipe_model.proofs.Gets.{state_next, got_then}
+use Rattle.session_value.proofs.Gets.{state_next, got_then}
 use Rattle.pipe_model.proofs.Keeping.{Keeps, drop_front}
 use Rattle.pipe_world.specs.declared.world.PipeWorld.{PipeWorld}
 use Rattle.pipe_world.specs.Views.{session_in, world_of, noted, reading, IsKept, AtFront, After}
@@ -117,14 +117,14 @@ got_went w bytes answer next heard dirty due f reply hears marks dues = went Get
       ∙ ap (λ (t : Bool). put_bytes (session_of w.pipe) w.story.lines ++ flat_map (put_in t) (Got bytes ∷ answer)) (not_wide w.pipe (w.story.lines ++ Got bytes ∷ answer)))
 
   got_is : got_bytes (w.story.lines ++ Got bytes ∷ answer) ≡ got_bytes w.story.lines ++ bytes
-  got_is = got_then (session_of w.pipe) w.story.lines bytes answer next keeps.legal f.unclosed f.got reply
+  got_is = got_then (session_of w.pipe) w.story.lines bytes answer next f.unclosed f.got reply (allowed_of (session_of w.pipe) w.story.lines (state_of w.story.lines) keeps.legal)
 
   read_is : w.read + length bytes ≡ length (got_bytes (w.story.lines ++ Got bytes ∷ answer))
   read_is = ap (λ (n : ℕ). n + length bytes) kept.read ∙ sym (ap length got_is ∙ length-append (got_bytes w.story.lines) bytes)
 
   unread_is : state_of (w.story.lines ++ Got bytes ∷ answer) ≢ Closed → w.framer ≡ drop (w.read + length bytes) (take w.arrived w.said)
   unread_is c =
-      let open_next : next ≢ Closed = λ e. c (state_next (session_of w.pipe) w.story.lines bytes answer next keeps.legal f.unclosed f.got reply ∙ e) in
+      let open_next : next ≢ Closed = λ e. c (state_next (session_of w.pipe) w.story.lines bytes answer next f.unclosed f.got reply (allowed_of (session_of w.pipe) w.story.lines (state_of w.story.lines) keeps.legal) ∙ e) in
       let front : drop w.read (take w.arrived w.said) ≡ bytes ++ f.rest = ap (λ (n : ℕ). drop n (take w.arrived w.said)) kept.read ∙ f.front in
       f.left (sound_unless_closed w bytes answer next reply open_next)
       ∙ sym (sym (drop-drop (length bytes) w.read (take w.arrived w.said)) ∙ (ap (drop (length bytes)) front ∙ drop_front bytes f.rest))

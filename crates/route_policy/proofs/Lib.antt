@@ -1,2 +1,3 @@
 pub mod PolicyLemmas
 pub mod Worked
+pub mod Tells

@@ -1,5 +1,5 @@
 -- The routes to one prefix between which a home router decides (RFC 4271, section 9.1.2).
-use Rattle.std.specs.Prelude.{ℕ, ◌-◌, ◌^◌, min, Bool, true, false, List, [], ◌∷◌, ◌++◌, Option, Some, None, unwrap_or, if◌then◌else◌}
+use Rattle.std.specs.Prelude.{ℕ, ◌-◌, ◌^◌, min, Bool, true, false, List, [], ◌∷◌, ◌++◌, Option, Some, None, option_map, unwrap_or, if◌then◌else◌}
 use Rattle.std.specs.List.{filter_map}
 use Rattle.graft_edge.specs.declared.ids.PeeringId.{PeeringId}
 use Rattle.graft_edge.specs.declared.ids.RouterId.{RouterId}
@@ -14,6 +14,7 @@ use Rattle.bgp_types.specs.Spelling.{origin_number}
 use Rattle.route_policy.specs.Rules.{holds_as}
 use Rattle.route_policy.specs.Policies.{policy}
 use Rattle.route_policy.specs.declared.best.Best.{Best}
+use Rattle.route_policy.specs.declared.entry.Entry.{Entry}
 use Rattle.route_policy.specs.declared.rule.Rule.{Rule}
 
 -- what a session, or the shadow of one that moved away, gives for a prefix: the identifier of the
@@ -92,6 +93,10 @@ abbrev pub session_candidate : ℕ → SessionRoute → Option Route → Option 
 session_candidate home_as session None = None
 session_candidate home_as session (Some route) =
     Some (record { from = Peering session.peering; route = route }, rank_of home_as true 0 session.identifier session.address route)
+
+-- what an entry of the peering of a number gives
+abbrev pub entry_candidate : ℕ → ℕ → Option Entry → Option Candidate
+entry_candidate home_as p entry = option_map (λ e. (record { from = Peering (record { 0 = p }); route = e.route }, rank_of home_as true 0 e.identifier e.address e.route)) entry
 
 -- a told route has the telling router's identifier for its identifier and its address
 abbrev pub router_candidate : ℕ → RouterRoute → Option Route → Option Candidate

@@ -8,12 +8,15 @@ use Rattle.bgp_types.specs.declared.attrs.RawAttr.{RawAttr}
 use Rattle.bgp_types.specs.declared.attrs.Route.{Route}
 use Rattle.bgp_types.specs.declared.message.Message.{Message}
 use Rattle.bgp_types.specs.declared.message.Message.TheVariants.{UpdateMsg}
+use Rattle.bgp_types.specs.declared.message.Update.{Update}
 use Rattle.bgp_types.specs.declared.rank.From.{From}
 use Rattle.bgp_types.specs.declared.rank.From.TheVariants.{Own, Peering, Router}
 use Rattle.route_policy.specs.Paths.{prepend}
 use Rattle.route_policy.specs.Policies.{policy}
 use Rattle.route_policy.specs.declared.best.Best.{Best}
 use Rattle.route_policy.specs.declared.rule.Rule.{Rule}
+use Rattle.route_policy.specs.declared.tell.OutView.{OutView}
+use Rattle.std.specs.Option.{option_copied}
 
 -- ---- to another home router: the best, where it is own or external
 
@@ -33,6 +36,10 @@ pub record OutSide : Type 0 where
   pub peering : PeeringId
   pub local_address : ℕ
   pub export_rules : Option (List Rule)
+
+-- the same of the code's value, which holds its policy by reference
+abbrev pub out_side : OutView → OutSide
+out_side view = record { peering = view.peering; local_address = view.local_address; export_rules = option_copied view.export }
 
 abbrev pub comes_from : From → PeeringId → Bool
 comes_from Own peering = false
@@ -60,9 +67,13 @@ without_med route = record route { attrs = record route.attrs { med = None } }
 abbrev pub exported : ℕ → OutSide → PrefixValue → Route → Option Route
 exported home_as out prefix route = policy (unwrap_or out.export_rules []) prefix home_as (without_med route)
 
+-- an UPDATE with these attributes, before a prefix is in it
+abbrev pub announcing : Attrs → Update
+announcing attrs = record { withdrawn = []; attrs = Some attrs; nlri = [] }
+
 -- the UPDATE that announces one prefix alone
 abbrev pub announcement : PrefixValue → Attrs → Message
-announcement prefix attrs = UpdateMsg (record { withdrawn = []; attrs = Some attrs; nlri = prefix ∷ [] })
+announcement prefix attrs = UpdateMsg (record (announcing attrs) { nlri = prefix ∷ [] })
 
 -- A message has at most 4,096 octets (sections 4 and 9.2), whether it is spelled narrow or wide (RFC 6793).
 abbrev pub is_too_long : PrefixValue → Attrs → Bool

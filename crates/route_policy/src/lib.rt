@@ -3,13 +3,17 @@
 #![tactic(auto)]
 
 mod best;
+mod entry;
 mod path;
 mod policy;
 mod rank;
 mod rule;
+mod tell;
 
 pub use best::Best;
+pub use entry::Entry;
 pub use path::prepend;
 pub use policy::Policy;
 pub use rank::{own_rank, router_rank, session_rank};
 pub use rule::{PrefixRange, Rule, Rules};
+pub use tell::{OutView, tell_in, tell_out};

@@ -4,5 +4,10 @@
 #![tactic(auto)]
 
 mod config;
+mod laws;
 
 pub use config::SessionConfig;
+pub use laws::{
+    a_begun_session_is_of_its_story, answers_have_room, own_messages_are_short,
+    sessions_stay_of_their_story, sessions_stay_tied, ties_say_what_was_received,
+};

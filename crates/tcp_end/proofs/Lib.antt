@@ -8,3 +8,4 @@ pub mod Steps
 pub mod Places
 pub mod Arrives
 pub mod Followed
+pub mod Wholes

@@ -5,4 +5,5 @@ pub mod Inner
 pub mod Receiving
 pub mod Arriving
 pub mod Standing
+pub mod Whole
 pub mod Ends

@@ -155,6 +155,15 @@ impl End {
         Ok(self.waiting.extend(bytes)?)
     }
 
+    /// Takes back the last `n` bytes of the stream, none of which was emitted, as if they had never been
+    /// sent.
+    pub fn take_back(&mut self, n: usize)
+        requires { n ≤ unsent self.old }
+        ensures { self.new ≡ record self.old { waiting = take (length self.old.waiting - n) self.old.waiting } }
+    {
+        self.waiting.truncate(self.waiting.len() - n);
+    }
+
     /// The segment with so many bytes from a place of the stream on.
     fn segment_at(&self, place: u32, len: u32) -> Result<Segment, NoMemory>
         requires from { self.now.acked ≤ place }

@@ -10,5 +10,5 @@ mod laws;
 
 pub use arrival::{Arrival, SendStop};
 pub use end::End;
-pub use laws::{calls_are_steps, received_are_first_bytes};
+pub use laws::{an_endpoint_is_its_state, calls_are_steps, received_are_first_bytes};
 pub use tcp_seq::{EndState, Piece, Pieces};

@@ -45,6 +45,12 @@ while_unclosed OpenConfirm routes o = refl
 while_unclosed Established routes o = refl
 while_unclosed Closed routes o = absurd (o refl)
 
+pub up_open : (state : SessionState) → is_up state ≡ true → state ≢ Closed
+up_open OpenSent e = λ f. cc
+up_open OpenConfirm e = λ f. cc
+up_open Established e = λ f. cc
+up_open Closed e = absurd cc
+
 -- ---- which message leads where
 
 only_update : (state : SessionState) → is_in_state state 2 ≡ true → state ≡ Established
@@ -53,7 +59,7 @@ only_update OpenConfirm e = absurd cc
 only_update Established e = refl
 only_update Closed e = absurd cc
 
-only_open : (state : SessionState) → is_in_state state 1 ≡ true → state ≡ OpenSent
+pub only_open : (state : SessionState) → is_in_state state 1 ≡ true → state ≡ OpenSent
 only_open OpenSent e = refl
 only_open OpenConfirm e = absurd cc
 only_open Established e = absurd cc

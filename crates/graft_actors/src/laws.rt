@@ -1,0 +1,93 @@
+//! What actors do, in the world, and which items are welcome, case by case.
+
+ghost use Rattle.std.specs.Prelude.{ℕ, ◌≡◌, ◌≢◌, ◌<◌, ◌≤◌, ◌+◌, ◌^◌, ◌↔◌, List, length, Option, Some, None, option_map, slice_get};
+ghost use Rattle.ring_net.specs.declared.entry.JournalEntry.{JournalEntry};
+ghost use Rattle.graft_edge.specs.declared.ids.PeeringId.{PeeringId};
+ghost use Rattle.graft_edge.specs.declared.ids.RouterId.{RouterId};
+ghost use Rattle.tcp_seq.specs.declared.segment.Segment.{Segment};
+ghost use Rattle.tcp_seq.specs.declared.segment.Way.TheVariants.{Home, Remote};
+ghost use Rattle.graft_steps.specs.declared.item.Item.{Item};
+ghost use Rattle.graft_steps.specs.declared.item.Item.TheVariants as items;
+ghost use Rattle.graft_steps.specs.declared.refusal.Outcome.{Outcome};
+ghost use Rattle.graft_steps.specs.declared.refusal.Refusal.{Refusal};
+ghost use Rattle.bgp_types.specs.Prefixes.{PrefixValue};
+ghost use Rattle.bgp_types.specs.declared.attrs.Route.{Route};
+ghost use Rattle.session_value.specs.Sessions.{SessionValue};
+ghost use Rattle.graft_model.specs.Setups.{Setup, SayStep, routers_in, peerings_in};
+ghost use Rattle.graft_model.specs.Parts.{RouterPart, FarPart, OperatorPart, Vacant, Live, Shadow};
+ghost use Rattle.graft_runs.specs.Actors.{RouterIs, FarIs, OperatorIs, Router, FarSide, Operator, actor_at};
+ghost use Rattle.graft_runs.specs.Makes.{makes};
+ghost use Rattle.graft_actors.specs.Items.{thing_of, IsSegmentOf};
+ghost use Rattle.graft_actors.specs.Acts.{OwnPart, IsWelcome, TakesWelcome, ActsAs, things};
+
+/// What an actor of this number does with an item that is welcome, or with none, is an event by its row in the model. The entry of a dropped item alone has kind 0.
+pub fn acts_are_events<C>()
+    ensures rows { (session : C → SessionValue) (n : ℕ) (before after : OwnPart) (entry : JournalEntry) (taken : Option (ℕ × Item C)) (sent : List (ℕ × Item C))
+        → actor_at before.setup n ≡ Some before.name → ActsAs session before entry taken sent after → TakesWelcome session before taken
+        → makes before.setup n before.part entry (option_map (λ x. (x.0, thing_of session before.setup x.1)) taken) (things session before.setup sent) after.part }
+    ensures dropped { (session : C → SessionValue) (before after : OwnPart) (entry : JournalEntry) (taken : Option (ℕ × Item C)) (sent : List (ℕ × Item C))
+        → ActsAs session before entry taken sent after → (entry.kind ≡ 0) ↔ (TakesWelcome session before taken → ⊥) }
+{}
+
+/// A router takes the segments of a far side that are of its peering; from the operator the order of a graft for a session that is live here, without
+/// a stored graft, to one of the routers; and from another router what it tells, a session of the laboratory's of which nothing is here, and a
+/// session that comes back, or word of a landing, where its shadow is here for that graft.
+pub fn routers_take_what_comes<C>()
+    ensures segment { (session : C → SessionValue) (setup : Setup) (r n : ℕ) (part : RouterPart) (g : Segment)
+        → IsWelcome session (record { setup = setup; name = Router r; part = RouterIs part }) n (items.Seg g)
+        ↔ ((p : ℕ) × (actor_at setup n ≡ Some (FarSide p)) × IsSegmentOf setup p Home g) }
+    ensures order { (session : C → SessionValue) (setup : Setup) (r n k : ℕ) (part : RouterPart) (peering : PeeringId) (target : RouterId)
+        → IsWelcome session (record { setup = setup; name = Router r; part = RouterIs part }) n (items.GraftOrder k peering target)
+        ↔ ((actor_at setup n ≡ Some Operator) × (target.0 < routers_in setup) × (s : SessionValue) × (part.places peering.0 ≡ Live s None)) }
+    ensures told { (session : C → SessionValue) (setup : Setup) (r n : ℕ) (part : RouterPart) (prefix : PrefixValue) (route : Option Route)
+        → IsWelcome session (record { setup = setup; name = Router r; part = RouterIs part }) n (items.Told prefix route)
+        ↔ ((q : ℕ) × (actor_at setup n ≡ Some (Router q))) }
+    ensures moved { (session : C → SessionValue) (setup : Setup) (r n k : ℕ) (part : RouterPart) (capsule : C)
+        → IsWelcome session (record { setup = setup; name = Router r; part = RouterIs part }) n (items.Moved k capsule)
+        ↔ (((q : ℕ) × (actor_at setup n ≡ Some (Router q))) × ((session capsule).config.peering.0 < peerings_in setup) × (part.places (session capsule).config.peering.0 ≡ Vacant)) }
+    ensures back { (session : C → SessionValue) (setup : Setup) (r n k : ℕ) (part : RouterPart) (capsule : C) (refusal : Refusal)
+        → IsWelcome session (record { setup = setup; name = Router r; part = RouterIs part }) n (items.Back k capsule refusal)
+        ↔ (((q : ℕ) × (actor_at setup n ≡ Some (Router q))) × (part.places (session capsule).config.peering.0 ≡ Shadow k)) }
+    ensures done { (session : C → SessionValue) (setup : Setup) (r n k : ℕ) (part : RouterPart) (peering : PeeringId)
+        → IsWelcome session (record { setup = setup; name = Router r; part = RouterIs part }) n (items.Done k peering)
+        ↔ (((q : ℕ) × (actor_at setup n ≡ Some (Router q))) × (part.places peering.0 ≡ Shadow k)) }
+    ensures no_pointing { (session : C → SessionValue) (setup : Setup) (r n k : ℕ) (part : RouterPart) → ¬ IsWelcome session (record { setup = setup; name = Router r; part = RouterIs part }) n (items.PointAt k) }
+    ensures no_report { (session : C → SessionValue) (setup : Setup) (r n k : ℕ) (part : RouterPart) (outcome : Outcome) → ¬ IsWelcome session (record { setup = setup; name = Router r; part = RouterIs part }) n (items.Report k outcome) }
+    ensures no_say { (session : C → SessionValue) (setup : Setup) (r n step : ℕ) (part : RouterPart) → ¬ IsWelcome session (record { setup = setup; name = Router r; part = RouterIs part }) n (items.SayOrder step) }
+{}
+
+/// A far side takes the segments of a router that are of its peering, and word of landings; and from the operator the order to say a step that is its remote's,
+/// where the stream has room.
+pub fn far_sides_take_what_comes<C>()
+    ensures segment { (session : C → SessionValue) (setup : Setup) (p n : ℕ) (part : FarPart) (g : Segment)
+        → IsWelcome session (record { setup = setup; name = FarSide p; part = FarIs part }) n (items.Seg g)
+        ↔ ((r : ℕ) × (actor_at setup n ≡ Some (Router r)) × IsSegmentOf setup p Remote g) }
+    ensures point { (session : C → SessionValue) (setup : Setup) (p n k : ℕ) (part : FarPart)
+        → IsWelcome session (record { setup = setup; name = FarSide p; part = FarIs part }) n (items.PointAt k) ↔ ((r : ℕ) × (actor_at setup n ≡ Some (Router r))) }
+    ensures say { (session : C → SessionValue) (setup : Setup) (p n step : ℕ) (part : FarPart)
+        → IsWelcome session (record { setup = setup; name = FarSide p; part = FarIs part }) n (items.SayOrder step)
+        ↔ ((actor_at setup n ≡ Some Operator) × (bytes : List ℕ) × (slice_get setup.steps step ≡ Some (SayStep p bytes)) × (length part.end.stream + length bytes ≤ 2 ^ 20)) }
+    ensures no_other { (session : C → SessionValue) (setup : Setup) (p n k : ℕ) (part : FarPart) (prefix : PrefixValue) (route : Option Route) (capsule : C) (refusal : Refusal) (peering : PeeringId) (target : RouterId) (outcome : Outcome)
+        → (¬ IsWelcome session (record { setup = setup; name = FarSide p; part = FarIs part }) n (items.Told prefix route))
+        × (¬ IsWelcome session (record { setup = setup; name = FarSide p; part = FarIs part }) n (items.Moved k capsule))
+        × (¬ IsWelcome session (record { setup = setup; name = FarSide p; part = FarIs part }) n (items.Back k capsule refusal))
+        × (¬ IsWelcome session (record { setup = setup; name = FarSide p; part = FarIs part }) n (items.Done k peering))
+        × (¬ IsWelcome session (record { setup = setup; name = FarSide p; part = FarIs part }) n (items.GraftOrder k peering target))
+        × (¬ IsWelcome session (record { setup = setup; name = FarSide p; part = FarIs part }) n (items.Report k outcome)) }
+{}
+
+/// The operator takes from a router the report of a graft that was ordered and has no outcome.
+pub fn the_operator_takes_what_comes<C>()
+    ensures report { (session : C → SessionValue) (setup : Setup) (n k : ℕ) (part : OperatorPart) (outcome : Outcome)
+        → IsWelcome session (record { setup = setup; name = Operator; part = OperatorIs part }) n (items.Report k outcome)
+        ↔ (((r : ℕ) × (actor_at setup n ≡ Some (Router r))) × (part.source k ≢ None) × (part.outcome k ≡ None)) }
+    ensures no_other { (session : C → SessionValue) (setup : Setup) (n k : ℕ) (part : OperatorPart) (g : Segment) (prefix : PrefixValue) (route : Option Route) (capsule : C) (refusal : Refusal) (peering : PeeringId) (target : RouterId)
+        → (¬ IsWelcome session (record { setup = setup; name = Operator; part = OperatorIs part }) n (items.Seg g))
+        × (¬ IsWelcome session (record { setup = setup; name = Operator; part = OperatorIs part }) n (items.PointAt k))
+        × (¬ IsWelcome session (record { setup = setup; name = Operator; part = OperatorIs part }) n (items.Told prefix route))
+        × (¬ IsWelcome session (record { setup = setup; name = Operator; part = OperatorIs part }) n (items.Moved k capsule))
+        × (¬ IsWelcome session (record { setup = setup; name = Operator; part = OperatorIs part }) n (items.Back k capsule refusal))
+        × (¬ IsWelcome session (record { setup = setup; name = Operator; part = OperatorIs part }) n (items.Done k peering))
+        × (¬ IsWelcome session (record { setup = setup; name = Operator; part = OperatorIs part }) n (items.GraftOrder k peering target))
+        × (¬ IsWelcome session (record { setup = setup; name = Operator; part = OperatorIs part }) n (items.SayOrder k)) }
+{}

@@ -1,0 +1,10 @@
+//! The actors of the program in the world of routers: what their items are there, who may send them to whom, which of them they take, and what an
+//! actor does with one that it can't take.
+#![tactic(auto)]
+
+mod laws;
+
+pub use laws::{
+    acts_are_events, far_sides_take_what_comes, routers_take_what_comes,
+    the_operator_takes_what_comes,
+};

@@ -1,0 +1,167 @@
+//! What a router tells of its best route (RFC 4271, sections 5.1, 9.1.3 and 9.2).
+
+ghost use Rattle.std.specs.Prelude.{◌≡◌, map, IfOk, None, Some, option_copied, if◌then◌else◌};
+ghost use Rattle.bgp_types.specs.declared.attrs.Attrs as attributes;
+ghost use Rattle.bgp_types.specs.declared.message.Message.TheVariants.{UpdateMsg};
+ghost use Rattle.bgp_types.specs.Lengths.{prefix_size};
+ghost use Rattle.route_policy.specs.Telling.{tell_in as tell_in_lem, tell_out as tell_out_lem, comes_from as comes_from_lem, out_side, exported, told_attrs as told_attrs_lem, made_partial, announcing as announcing_lem, is_too_long as is_too_long_lem};
+
+use crate::best::Best;
+use crate::path::prepend;
+use crate::policy::Policy;
+use bgp_types::{
+    Attrs, From, Items, Message, NoMemory, PeeringId, Prefix, RawAttrs, Route, TryCopy, Update,
+    message_len,
+};
+use std::alloc::Global;
+
+/// What telling on a session goes by.
+#[derive(Drop)]
+pub struct OutView<'a> {
+    pub peering: PeeringId,
+    /// The session's own address, which it tells as next hop.
+    pub local_address: u32,
+    /// The export policy; without one everything is told as it is.
+    pub export: Option<&'a Policy>,
+}
+
+/// The greatest number of octets in a message.
+const MESSAGE_LIMIT: usize = 4096;
+
+/// What another home router is told: a copy of the best route where that is the router's own or external,
+/// else that there is none.
+pub fn tell_in(best: Option<&Best>) -> Result<Option<Route>, NoMemory>
+    ensures { IfOk result (λ told. told ≡ tell_in_lem (option_copied best.entry)) }
+{
+    let Some(best) = best else {
+        return Ok(None);
+    };
+    match best.from {
+        From::Own | From::Peering(_) => Ok(Some(best.route.copy()?)),
+        From::Router(_) => Ok(None),
+    }
+}
+
+/// Whether a route comes from this peering.
+fn comes_from(from: From, peering: PeeringId) -> bool
+    ensures { result ≡ comes_from_lem from peering }
+{
+    match from {
+        From::Peering(other) => other.0 == peering.0,
+        From::Own | From::Router(_) => false,
+    }
+}
+
+/// What the export policy makes of a route. It is given the route without its MED, which isn't passed on from
+/// another AS (RFC 4271, section 5.1.4).
+fn export(
+    home_as: u32,
+    view: &OutView<'_>,
+    prefix: Prefix,
+    route: Route,
+) -> Result<Option<Route>, NoMemory>
+    ensures { IfOk result (λ answer. answer ≡ exported home_as (out_side view.now) prefix route) }
+{
+    let mut route = route;
+    route.attrs.med = None;
+    match view.export {
+        Some(policy) => policy.apply(prefix, route, home_as),
+        None => Ok(Some(route)),
+    }
+}
+
+/// Attributes of unknown types as they pass on, with Partial set (RFC 4271, section 5).
+fn all_partial(unknown: RawAttrs) -> RawAttrs
+    ensures { result ≡ map made_partial unknown }
+{
+    let mut unknown = unknown.into_vec();
+    for raw in unknown.iter_mut() {
+        raw.partial = true;
+    }
+    Items::from_vec(unknown)
+}
+
+/// The attributes that are told of a route as the export policy left it.
+fn told_attrs(home_as: u32, view: &OutView<'_>, route: Route) -> Result<Attrs, NoMemory>
+    ensures { IfOk result (λ attrs. attrs ≡ told_attrs_lem home_as (out_side view.now) route) }
+{
+    let mut attrs = route.attrs;
+    attrs.path = prepend(attrs.path, home_as)?;
+    attrs.next_hop = view.local_address;
+    attrs.unknown = all_partial(attrs.unknown);
+    Ok(attrs)
+}
+
+/// How many octets a prefix is written in.
+fn prefix_len(prefix: Prefix) -> usize
+    ensures { result ≡ prefix_size prefix }
+{
+    1 + usize::from(prefix.len()).div_ceil(8)
+}
+
+/// The UPDATE that has these attributes and no prefix.
+fn announcing(alloc: Global, attrs: Attrs) -> Message
+    ensures { result ≡ UpdateMsg (announcing_lem attrs) }
+{
+    Message::UpdateMsg(Update {
+        withdrawn: Items::new(alloc),
+        attrs: Some(attrs),
+        nlri: Items::new(alloc),
+    })
+}
+
+/// Whether an UPDATE without a prefix would have more than 4,096 octets with this one, in one of the widths of AS
+/// numbers.
+fn is_too_long(prefix: Prefix, bare: &Message) -> bool
+    ensures { (attrs : attributes.Attrs) → bare.now ≡ UpdateMsg (announcing_lem attrs) → result ≡ is_too_long_lem prefix attrs }
+{
+    let narrow = message_len(bare, false);
+    let wide = message_len(bare, true);
+    let room = MESSAGE_LIMIT - prefix_len(prefix);
+    narrow.max(wide) > room
+}
+
+/// The attributes of an UPDATE.
+fn attrs_of(message: Message) -> Option<Attrs>
+    ensures { (attrs : attributes.Attrs) → message ≡ UpdateMsg (announcing_lem attrs) → result ≡ Some attrs }
+{
+    match message {
+        Message::UpdateMsg(update) => update.attrs,
+        _ => None,
+    }
+}
+
+/// The attributes where the UPDATE that tells this one prefix has at most 4,096 octets in both widths of AS
+/// numbers, else none.
+fn where_it_fits(alloc: Global, prefix: Prefix, attrs: Attrs) -> Option<Attrs>
+    ensures { result ≡ (if is_too_long_lem prefix attrs then None else Some attrs) }
+{
+    let bare = announcing(alloc, attrs);
+    if is_too_long(prefix, &bare) {
+        return None;
+    }
+    attrs_of(bare)
+}
+
+/// What is told of a prefix on a session, made of one copy of the best route: nothing where there is none, where it
+/// came from this peering, where the export policy refuses it, or where its UPDATE would be longer than 4,096 octets.
+pub fn tell_out(
+    alloc: Global,
+    home_as: u32,
+    view: &OutView<'_>,
+    prefix: Prefix,
+    best: Option<&Best>,
+) -> Result<Option<Attrs>, NoMemory>
+    ensures { IfOk result (λ told. told ≡ tell_out_lem home_as (out_side view.now) prefix (option_copied best.entry)) }
+{
+    let Some(best) = best else {
+        return Ok(None);
+    };
+    if comes_from(best.from, view.peering) {
+        return Ok(None);
+    }
+    match export(home_as, view, prefix, best.route.copy()?)? {
+        Some(route) => Ok(where_it_fits(alloc, prefix, told_attrs(home_as, view, route)?)),
+        None => Ok(None),
+    }
+}

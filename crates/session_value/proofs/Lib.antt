@@ -1,0 +1,11 @@
+pub mod Replies
+pub mod Openings
+pub mod Gets
+pub mod Rounds
+pub mod Updates
+pub mod Rooms
+pub mod Ends
+pub mod Ties
+pub mod GotTies
+pub mod RoundTies
+pub mod PutTies

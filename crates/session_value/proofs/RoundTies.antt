@@ -1,0 +1,59 @@
+-- A round that passes keeps a session tied to its story.
+use Rattle.std.proofs.Common.{◌≡◌, ℕ, ◌+◌, ◌≤◌, List, [], ◌∷◌, ◌++◌, length, take, refl, sym, ap, ◌∙◌, subst, arith, ◌⊎◌, inl, inr, length-append}
+use Rattle.std.specs.Prelude.{◌≢◌, All}
+use Rattle.std.specs.FinMap as map
+use Rattle.bgp_types.specs.declared.message.Message.TheVariants.{OpenMsg, UpdateMsg}
+use Rattle.bgp_types.specs.declared.message.SessionState.{SessionState}
+use Rattle.bgp_types.specs.declared.message.SessionState.TheVariants.{OpenSent, OpenConfirm, Established, Closed}
+use Rattle.bgp_types.specs.declared.message.Update.{Update}
+use Rattle.bgp_types.specs.FirstFault.{message_of}
+use Rattle.bgp_types.specs.Spelling.{spell}
+use Rattle.bgp_story.specs.declared.line.Line.{Line}
+use Rattle.bgp_story.specs.declared.line.Line.TheVariants.{Put, Got, Tick}
+use Rattle.bgp_story.specs.Legal.{Legal, Peering, IsPeering, Allowed, expected_next, is_wide}
+use Rattle.bgp_story.specs.Readings.{Routes, ChangesTold, IsLegal, put_bytes, got_bytes, heard, told, apply, apply_if, update_in, unless_closed}
+use Rattle.bgp_story.specs.States.{state_of}
+use Rattle.tcp_seq.specs.Endpoint.{Bytes, Endpoint, PlacedSegment, bytes_in_order, received, received_bytes, EmitsSlice, EmitsEmpty, TakesSegment}
+use Rattle.tcp_seq.proofs.Arriving.{received_stays}
+use Rattle.session_value.specs.declared.config.SessionConfig.{SessionConfig}
+use Rattle.session_value.specs.Cases.{GetsFrame, PutsUpdate, PassesRound, Changes, put_by, sending, reading}
+use Rattle.session_value.specs.Fronts.{AreFirst}
+use Rattle.session_value.specs.Sessions.{SessionValue, peering_of, state, unread, begun}
+use Rattle.session_value.specs.Ties.{IsTied, IsOfStory, most_put}
+use Rattle.session_value.proofs.Ends.{read_more, read_within, first_stay, received_grows, front_length, front_rest}
+use Rattle.session_value.proofs.Gets as gets
+use Rattle.session_value.proofs.Rooms.{open_size, got_has_room, passed_has_room, most_any}
+use Rattle.session_value.proofs.Rounds as rounds
+use Rattle.session_value.proofs.Updates as updates
+
+module _ (before after : SessionValue) (round : ℕ) (g : PassesRound before round after) where
+  abbrev p : Peering
+  p = peering_of before.config
+
+  abbrev lines : List Line
+  lines = before.story ++ Tick round ∷ g.answer
+
+  then_is : IsTied before → state_of lines ≡ g.next
+  then_is tied = rounds.state_next p before.story round g.answer g.next g.up g.runs g.later g.reply tied.allowed
+
+  pub passes_tied : IsTied before → IsTied after
+  passes_tied tied = subst IsTied (sym g.effect) (record {
+    allowed = rounds.legal_then p before.story round g.answer g.next g.up g.runs g.later g.reply tied.allowed (λ _ _. Unit {0}) tied.allowed;
+    put = ap (λ (xs : List ℕ). xs ++ put_by before lines g.answer) tied.put
+        ∙ sym (rounds.put_then p before.story round g.answer g.next g.up g.runs g.later g.reply tied.allowed);
+    room = subst (λ (s : SessionState). length (before.end.stream ++ put_by before lines g.answer) ≤ most_put s) (sym (then_is tied))
+        (omega (arith, length-append before.end.stream (put_by before lines g.answer), passed_has_room before round g.answer g.next g.up g.room g.reply));
+    read = tied.read;
+    got = tied.got ∙ sym (rounds.got_then p before.story round g.answer g.next g.up g.runs g.later g.reply tied.allowed);
+  })
+
+  pub passes_of_story : IsOfStory before → IsOfStory after
+  passes_of_story is = record {
+    tied = passes_tied is.tied;
+    legal = subst (λ (s : SessionValue). IsLegal (peering_of s.config) s.story (state s)) (sym g.effect)
+        (rounds.legal_then p before.story round g.answer g.next g.up g.runs g.later g.reply is.tied.allowed ChangesTold is.legal);
+    heard = subst (λ (s : SessionValue). s.heard ≡ heard (peering_of s.config) s.story) (sym g.effect)
+        (ap (unless_closed g.next) is.heard ∙ sym (rounds.heard_then p before.story round g.answer g.next g.up g.runs g.later g.reply is.tied.allowed));
+    told = subst (λ (s : SessionValue). s.told ≡ told s.story) (sym g.effect)
+        (ap (unless_closed g.next) is.told ∙ sym (rounds.told_then p before.story round g.answer g.next g.up g.runs g.later g.reply is.tied.allowed));
+  }
