@@ -2,8 +2,10 @@
 //! actor does with one that it can't take.
 #![tactic(auto)]
 
+mod known;
 mod laws;
 
+pub use known::Known;
 pub use laws::{
     acts_are_events, far_sides_take_what_comes, routers_take_what_comes,
     the_operator_takes_what_comes,
