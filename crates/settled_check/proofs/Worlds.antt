@@ -1,18 +1,16 @@
 -- Nothing is left in a world exactly where it is quiet.
 use Rattle.std.proofs.Common.{◌≡◌, ℕ, ◌<◌, ◌≤◌, ◌==◌, nat_lt, Bool, true, false, List, [], ◌∷◌, ◌++◌, length, map, Option, Some, None, refl, sym, ap, ◌∙◌, subst, inl, inr, arith}
-use Rattle.std.specs.Prelude.{◌≢◌, ◌⊎◌, ◌↔◌, is_some, fold, slice_get, if◌then◌else◌, unwrap_or}
+use Rattle.std.specs.Prelude.{◌≢◌, ◌⊎◌, ◌↔◌, is_some, fold, slice_get, unwrap_or}
 use Rattle.std.specs.Option.{option_map}
 use Rattle.std.specs.List.{flat_map}
 use Rattle.std.specs.FinMap as finite
 use Rattle.std.proofs.lemmas.Bool.Decides.{nat_tests}
 use Rattle.std.proofs.lemmas.Option.{slice_get_past}
-use Rattle.bgp_types.specs.Prefixes.{PrefixValue}
 use Rattle.bgp_types.specs.Tables.{prefix_cmp}
 use Rattle.bgp_types.specs.declared.message.SessionState.{SessionState}
 use Rattle.bgp_types.specs.declared.message.SessionState.TheVariants.{OpenSent, OpenConfirm, Established, Closed}
 use Rattle.bgp_types.proofs.TableLaws.{prefix_total, exact_prefixes}
-use Rattle.bgp_story.specs.Legal.{IsGot}
-use Rattle.tcp_seq.specs.Endpoint.{Endpoint, received}
+use Rattle.tcp_seq.specs.Endpoint.{Endpoint}
 use Rattle.session_value.specs.Sessions.{SessionValue, state, unread}
 use Rattle.session_value.specs.Sets.{Prefixes, has}
 use Rattle.session_value.specs.Fronts.{BeginsNothing}
@@ -22,16 +20,15 @@ use Rattle.graft_steps.specs.declared.rest.RouterRest.{RouterRest}
 use Rattle.graft_steps.specs.declared.rest.FarRest.{FarRest}
 use Rattle.graft_steps.specs.declared.rest.OperatorRest.{OperatorRest}
 use Rattle.graft_model.specs.Setups.{Setup, PeeringSetup, RouterSetup, ScriptStep, MoveStep, SettleStep, group_of, graft_number, routers_in, peerings_in, router_numbers}
-use Rattle.graft_model.specs.Parts.{Place, Vacant, Live, Frozen, Shadow, Order, RouterPart, FarPart, World, Mesh}
+use Rattle.graft_model.specs.Parts.{Place, Vacant, Live, Frozen, Shadow, Order, RouterPart, FarPart, World}
 use Rattle.graft_model.specs.First.{first_router, first_far, place_in}
 use Rattle.graft_model.specs.Quiet.{Quiet, HasRead, AllAcked, IsIdle}
-use Rattle.graft_model.specs.Claims.{sessions_at, sessions_on, sessions_of}
-use Rattle.graft_runs.specs.Actors.{ActorName, Router, FarSide, Operator, IsActor, number_in, actor_at, RouterIs, FarIs, OperatorIs, MeshItem, OutwardItem, SegmentItem, OrderItem, ReportItem, StepItem}
-use Rattle.graft_runs.specs.Seen.{channel_of, IsWithin}
+use Rattle.graft_model.specs.Claims.{sessions_at, sessions_on}
+use Rattle.graft_runs.specs.Actors.{ActorName, Router, FarSide, Operator, IsActor, number_in, actor_at, RouterIs, FarIs, MeshItem, OutwardItem, SegmentItem, OrderItem, ReportItem, StepItem}
+use Rattle.graft_runs.specs.Seen.{channel_of}
 use Rattle.graft_runs.specs.Laws.{ActorsHaveNumbers}
-use Rattle.settled_check.specs.Firsts.{IsFirstOf}
-use Rattle.settled_check.specs.Left.{HasSome, HasStream, HasUnread, IsUnacked, graft_at, HasGraft, IsOpen, IsUnissued, LeftAtRouter, LeftAtFar}
-use Rattle.settled_check.specs.Worlds.{IsOnItsWay, LeftOnItsWay, IsLeft, OnItsWay, AtRouter, AtFarSide, ToOperator, Fits, IsOnTheWay, AreRests, NothingIsNamed}
+use Rattle.settled_check.specs.Left.{HasSome, HasStream, HasUnread, IsUnacked, graft_at, IsOpen, IsUnissued, LeftAtRouter, LeftAtFar}
+use Rattle.settled_check.specs.Worlds.{LeftOnItsWay, IsLeft, OnItsWay, AtRouter, AtFarSide, ToOperator, Fits, IsOnTheWay, AreRests, NothingIsNamed}
 use Rattle.settled_check.proofs.Actors.{router_has, router_names, far_has, far_names, operator_has, operator_names}
 
 -- ---- decisions

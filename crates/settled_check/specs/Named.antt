@@ -1,5 +1,5 @@
 -- What the rest of an actor names: the things that it still has to do, of each kind the lowest.
-use Rattle.std.specs.Prelude.{ℕ, ◌≡◌, ◌<◌, true, Some}
+use Rattle.std.specs.Prelude.{◌≡◌, ◌<◌, true, Some}
 use Rattle.graft_steps.specs.declared.rest.Pending.{Pending}
 use Rattle.graft_steps.specs.declared.rest.Pending.TheVariants.{Script, Graft, Bag, Stream, Dirty, DueIn, DueOut}
 use Rattle.graft_steps.specs.declared.rest.RouterRest.{RouterRest}
