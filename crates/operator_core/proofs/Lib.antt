@@ -5,4 +5,11 @@ mod Issues
 mod Placed
 mod Notes
 mod Begins
+mod Steps
+mod Acts
+mod Tasks
+mod Visits
 mod Rests
+mod Calls
+mod GroupLoops
+mod Goes

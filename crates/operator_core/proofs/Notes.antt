@@ -116,7 +116,7 @@ module _ (s : State) (keeps : Keeps s) (k : ℕ) (old : GraftEntry) (old_is : sl
   outcome_is_set : outcome_in after.log ≡ at (outcome_in s.log) (k + 1) (Some outcome)
   outcome_is_set = outcome_set s.log k new_entry within
 
-  was_none : outcome_in s.log (k + 1) ≡ None
+  pub was_none : outcome_in s.log (k + 1) ≡ None
   was_none = outcome_is s.log k old old_is ∙ open_has_no_outcome old.stage open_is
 
   -- the outcome of a graft of another number is as it was
@@ -233,22 +233,25 @@ module _ (s : State) (keeps : Keeps s) (k : ℕ) (old : GraftEntry) (old_is : sl
           let names = entry_of_step s keeps r.step r.peering r.target old r.is (ap (slice_get s.log) r.before ∙ old_is) in
           subst (λ (t : ℕ). t < routers_in s.setup) (sym names.1) (keeps.sound.moves r.step r.peering r.target r.is).1
 
+  pub note_ordered : source_in s.log (k + 1) ≢ None
+  note_ordered none = absurd (let e : true ≡ false = sym (is_entry.source.0 (no_source old (sym (source_is s.log k old old_is) ∙ none))) ∙ ordered in cc)
+    where
+      no_value : (o : Option RouterId) → option_map (λ r. r.0) o ≡ None → o ≡ None
+      no_value None e' = refl
+      no_value (Some r) e' = absurd cc
+
+      no_source : (entry : GraftEntry) → source_at entry ≡ None → entry.source ≡ None
+      no_source entry e = no_value entry.source e
+
   pub note_row : (router : ℕ) → Notes router (part_of s) (Some (ReportIn router (record { graft = k + 1; outcome = outcome }))) [] (part_of after)
   note_row router = record {
     report = record { graft = k + 1; outcome = outcome };
     takes = refl;
     sends = refl;
-    ordered = λ none. absurd (let e : true ≡ false = sym (is_entry.source.0 (no_source old (sym (source_is s.log k old old_is) ∙ none))) ∙ ordered in cc);
+    ordered = note_ordered;
     unended = was_none;
     effect = λ i. record { group = s.group; issued = issued_in s; source = same_sources i; outcome = outcome_is_set i };
   }
     where
-      no_source : (entry : GraftEntry) → source_at entry ≡ None → entry.source ≡ None
-      no_source entry e = no_value entry.source e
-        where
-          no_value : (o : Option RouterId) → option_map (λ r. r.0) o ≡ None → o ≡ None
-          no_value None e' = refl
-          no_value (Some r) e' = absurd cc
-
       same_sources : source_in after.log ≡ source_in s.log
       same_sources = source_stays s.log k old new_entry old_is within refl

@@ -61,7 +61,7 @@ found_none test (x ∷ xs) e (suc j) y there = elim (by_test (test x)) [
 
 module _ (s : State) (keeps : Keeps s) where
   -- a step of the group at work stands before the next group
-  in_group_before : (n : ℕ) → group_of s.setup n ≡ s.group → n < s.next
+  pub in_group_before : (n : ℕ) → group_of s.setup n ≡ s.group → n < s.next
   in_group_before n e = elim (compare n s.next) [
     | inl l ↦ l
     | inr rest ↦
@@ -109,7 +109,7 @@ module _ (s : State) (keeps : Keeps s) where
   -- ---- a graft that is open
 
   -- an open entry is that of a graft of the group at work
-  open_there : (i : ℕ) (entry : GraftEntry) → slice_get s.log i ≡ Some entry → is_open entry.stage ≡ true → IsOpen s.setup (part_of s) entry.graft
+  pub open_there : (i : ℕ) (entry : GraftEntry) → slice_get s.log i ≡ Some entry → is_open entry.stage ≡ true → IsOpen s.setup (part_of s) entry.graft
   open_there i entry e open_is =
       let names : IsEntry s.setup i entry = keeps.log.entries i entry e in
       let r = step_of_graft s.setup i (slice_get_within (grafts_in s.setup) i _ names.graft) in
@@ -137,7 +137,7 @@ module _ (s : State) (keeps : Keeps s) where
       not_false false e' = absurd cc
 
   -- the entry of an open graft is open
-  open_entry : (k : ℕ) → IsOpen s.setup (part_of s) k → (i : ℕ) × (entry : GraftEntry) × (slice_get s.log i ≡ Some entry) × (is_open entry.stage ≡ true) × (i + 1 ≡ k)
+  pub open_entry : (k : ℕ) → IsOpen s.setup (part_of s) k → (i : ℕ) × (entry : GraftEntry) × (slice_get s.log i ≡ Some entry) × (is_open entry.stage ≡ true) × (i + 1 ≡ k)
   open_entry k o =
       let found = entry_there s keeps o.step o.peering o.target o.is in
       let ordered : is_waiting found.0.stage ≡ false = keeps.agree.issued o.step o.peering o.target found.0 o.is found.1 ∙ ap not o.issued in

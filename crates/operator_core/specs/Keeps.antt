@@ -1,6 +1,8 @@
 -- What the operator keeps true of how far it is.
 use Rattle.std.specs.Prelude.{ℕ, ◌≡◌, ◌≢◌, ◌≤◌, ◌<◌, ◌+◌, ◌↔◌, List, [], ◌∷◌, length, take, Bool, true, false, not, Option, Some, None, slice_get}
-use Rattle.std.specs.List.{AllByRecursion}
+use Rattle.std.specs.List.{AllByRecursion, AllByRecursion-prop}
+use mathlib.Core.HLevel.{×_prop, Unit-prop}
+use native.Mathlib.Bridge.{le_prop}
 use Rattle.graft_steps.specs.declared.log.GraftEntry.{GraftEntry}
 use Rattle.graft_model.specs.Setups.{Setup, SayStep, MoveStep, SettleStep, routers_in, peerings_in, group_of, grafts_after, grafts_in}
 use Rattle.graft_model.specs.Parts.{OperatorPart}
@@ -13,6 +15,10 @@ use Rattle.operator_core.specs.States.{State, issued_in}
 abbrev pub Rises : List ℕ → Type 0
 Rises [] = Unit {0}
 Rises (n ∷ ns) = AllByRecursion (λ m. n < m) ns × Rises ns
+
+pub Rises-prop : (ns : List ℕ) → IsProp (Rises ns)
+Rises-prop [] = Unit-prop
+Rises-prop (n ∷ ns) = ×_prop (AllByRecursion-prop (λ m. n < m) (λ m. le_prop) ns) (Rises-prop ns)
 
 -- how many grafts stand before a step
 abbrev pub grafts_before : Setup → ℕ → ℕ

@@ -1,6 +1,8 @@
 //! The groups of a script, and the numbers of its grafts.
 
-ghost use Rattle.std.specs.Prelude.{◌≡◌, ◌≤◌, ◌<◌, ◌-◌, length, IfOk, slice_get};
+ghost use Rattle.std.specs.Prelude.{◌≡◌, ◌≤◌, ◌<◌, ◌-◌, length, IfOk, slice_get, map, not, filter};
+ghost use Rattle.std.specs.List.{list_any};
+ghost use Rattle.operator_core.specs.Tasks.{task_for};
 ghost use Rattle.operator_core.specs.Groups.{IsGroupFrom, AreNumbers};
 
 use crate::script::ScriptStep;
@@ -13,6 +15,38 @@ use std::alloc::Global;
 pub(crate) struct Group {
     pub(crate) steps: Items<u32>,
     pub(crate) next: usize,
+}
+
+/// A step of the group at work, by its place in the script, and whether it was issued.
+#[derive(Clone, Copy, Debug, PartialEq, Eq, Hash)]
+pub(crate) struct Task {
+    pub(crate) step: u32,
+    pub(crate) issued: bool,
+}
+
+/// The tasks of these steps, of which none was issued.
+pub(crate) fn new_tasks(alloc: Global, steps: &[u32]) -> Result<Vec<Task>, NoMemory>
+    ensures { IfOk result (λ tasks. tasks.items ≡ map task_for steps.now) }
+{
+    let task = |step: &u32| Task {
+        step: *step,
+        issued: false,
+    };
+    Ok(steps.iter().map(task).collect(alloc)?)
+}
+
+/// Whether some task wasn't issued.
+pub(crate) fn has_unissued(tasks: &[Task]) -> bool
+    ensures { result ≡ list_any (λ task. not task.issued) tasks.now }
+{
+    tasks.iter().any(|task| !task.issued)
+}
+
+/// Drops the tasks that were issued.
+pub(crate) fn drop_issued(tasks: &mut Vec<Task>)
+    ensures { tasks.new.items ≡ filter (λ task. not task.issued) tasks.old.items }
+{
+    tasks.retain(|task| !task.issued);
 }
 
 /// The group that begins at the place `from`. The last step ends a group.

@@ -2,8 +2,12 @@
 //! sessions are to move, and keeps the log of grafts.
 #![tactic(auto)]
 
+mod events;
 mod grafts;
 mod groups;
+mod operator;
+mod progress;
 mod script;
 
+pub use operator::Operator;
 pub use script::{Rooms, RouterIds, Script, ScriptStep, ScriptSteps};
