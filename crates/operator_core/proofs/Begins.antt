@@ -162,9 +162,12 @@ first_entry k [] i entry e = absurd cc
 first_entry k (SayStep p bytes ∷ steps) i entry e = first_entry k steps i entry e
 first_entry k (SettleStep ∷ steps) i entry e = first_entry k steps i entry e
 first_entry k (MoveStep p target ∷ steps) zero entry e =
-    let same : record { graft = k + 1; peering = record { 0 = p }; source = None; target = record { 0 = target }; stage = Waiting } ≡ entry = cc in
-    (ap (λ (x : GraftEntry). Some (let g : ScriptGraft = record { graft = x.graft; peering = x.peering.0; target = x.target.0 } in g)) same,
-      sym (ap (λ (x : GraftEntry). x.graft) same) ∙ omega arith, sym (ap (λ (x : GraftEntry). x.stage) same), sym (ap (λ (x : GraftEntry). x.source) same))
+    let same : record { graft = k + 1; peering = record { 0 = p }; source = None; target = record { 0 = target }; stage = Waiting } ≡ entry = cc in (
+      ap (λ (x : GraftEntry). Some (let g : ScriptGraft = record { graft = x.graft; peering = x.peering.0; target = x.target.0 } in g)) same,
+      sym (ap (λ (x : GraftEntry). x.graft) same) ∙ omega arith,
+      sym (ap (λ (x : GraftEntry). x.stage) same),
+      sym (ap (λ (x : GraftEntry). x.source) same),
+    )
 first_entry k (MoveStep p target ∷ steps) (suc i) entry e =
     let h = first_entry (k + 1) steps i entry e in
     (h.0, h.1 ∙ omega arith, h.2, h.3)
@@ -247,8 +250,8 @@ module _ (setup : Setup) (sound : StepsAreSound setup) (starts : (p : ℕ) (peer
       each p seat e =
           let found = there_is setup.peerings p (let l : p < length first_state.seats = slice_get_within first_state.seats p seat e in let h : length first_state.seats ≡ peerings_in setup = both in omega arith) in
           let at_start : slice_get first_state.seats p ≡ Some (seat_at (record { 0 = found.0.start })) =
-              slice_get-map seat_at (map (λ peering. record { 0 = peering.start }) setup.peerings) p
-              ∙ ap (option_map seat_at) (slice_get-map (λ (peering : PeeringSetup). record { 0 = peering.start }) setup.peerings p ∙ ap (option_map (λ (peering : PeeringSetup). record { 0 = peering.start })) found.1) in
+          slice_get-map seat_at (map (λ peering. record { 0 = peering.start }) setup.peerings) p
+          ∙ ap (option_map seat_at) (slice_get-map (λ (peering : PeeringSetup). record { 0 = peering.start }) setup.peerings p ∙ ap (option_map (λ (peering : PeeringSetup). record { 0 = peering.start })) found.1) in
           let same : seat ≡ seat_at (record { 0 = found.0.start }) = one_member (slice_get first_state.seats p) _ _ e at_start in
           let start : start_of setup p ≡ found.0.start = ap (λ o. unwrap_or (option_map (λ (peering : PeeringSetup). peering.start) o) 0) found.1 in
           record {

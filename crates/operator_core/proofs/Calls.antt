@@ -118,9 +118,15 @@ open_at log (suc j) sources ordered unended = by_entry (slice_get log j) refl
 
     by_entry : (o : Option GraftEntry) → slice_get log j ≡ o → (place : ℕ) × (entry : GraftEntry) × (slice_get log place ≡ Some entry) × (place + 1 ≡ suc j) × (is_open entry.stage ≡ true)
     by_entry None e = absurd (ordered (ap (λ o. option_and_then (λ (x : GraftEntry). source_at x) o) e))
-    by_entry (Some entry) e = (j, entry, e, omega arith, opened entry (sources j entry e)
-        (λ none. ordered (ap (λ o. option_and_then (λ (x : GraftEntry). source_at x) o) e ∙ none))
-        (sym (ap (λ o. option_and_then (λ (x : GraftEntry). outcome_at x.stage) o) e) ∙ unended))
+    by_entry (Some entry) e = (
+      j,
+      entry,
+      e,
+      omega arith,
+      opened entry (sources j entry e)
+          (λ none. ordered (ap (λ o. option_and_then (λ (x : GraftEntry). source_at x) o) e ∙ none))
+          (sym (ap (λ o. option_and_then (λ (x : GraftEntry). outcome_at x.stage) o) e) ∙ unended),
+    )
 
 module _ {C : Type 0} where
   pub turning_begins : (start : Progress) (post : Post (Item C)) → Keeps (state start) → Turning start post 0 start post
@@ -163,7 +169,7 @@ module _ {C : Type 0} where
     none = t.none;
     settled = λ step sent after' row. nothing_to_order (state last) t.keeps held step sent after'
         (subst (λ (s : State). operator_row s.setup (Order step) (part_of s) None sent after') state_is
-          (subst (λ (s : Setup). operator_row s (Order step) (part_of (state now)) None sent after') (sym (ap (λ k. k.setup) (same.known ∙ t.same.known))) row));
+        (subst (λ (s : Setup). operator_row s (Order step) (part_of (state now)) None sent after') (sym (ap (λ k. k.setup) (same.known ∙ t.same.known))) row));
   }
     where
       left : unissued now.waiting.items ≡ unissued last.waiting.items
@@ -259,9 +265,11 @@ module _ {C : Type 0} where
     deed = deed_at before (number_of kinds.Note) from (Some (from, items.Report k x)) [];
     does = record {
       wrote = wrote (Some (from, items.Report k x));
-      replay = λ session. (own_part_of (graft_noted (state old) place ends.entry x ends.seat),
+      replay = λ session. (
+        own_part_of (graft_noted (state old) place ends.entry x ends.seat),
         notes session old.known.setup (part_of (state old)) (part_of (graft_noted (state old) place ends.entry x ends.seat)) (clock_of before + 1) (actor_of before) from k x there (welcome session) row,
-        ap own_part_of ends.changes);
+        ap own_part_of ends.changes,
+      );
       known = ends.same.known;
       sound = record { known = known_still old new ends.same sound.known; keeps = subst Keeps (sym ends.changes) (note_keeps (state old) sound.keeps place ends.entry ends.there open_is x ends.seat ends.seated) };
     };
@@ -285,9 +293,11 @@ module _ {C : Type 0} where
           (note_row (state old) sound.keeps place ends.entry ends.there open_is x ends.seat ends.seated from)
 
       welcome : (session : C → SessionValue) → IsWelcome session (own_part_of (state old)) from (items.Report k x)
-      welcome session = (law session old.known.setup from k (part_of (state old)) x).1 ((from, numbers old.known.setup (Router from) there),
+      welcome session = (law session old.known.setup from k (part_of (state old)) x).1 (
+        (from, numbers old.known.setup (Router from) there),
         subst (λ (j : ℕ). source_in old.log j ≢ None) is_place.2 (note_ordered (state old) sound.keeps place ends.entry ends.there open_is x ends.seat ends.seated),
-        subst (λ (j : ℕ). outcome_in old.log j ≡ None) is_place.2 (was_none (state old) sound.keeps place ends.entry ends.there open_is x ends.seat ends.seated))
+        subst (λ (j : ℕ). outcome_in old.log j ≡ None) is_place.2 (was_none (state old) sound.keeps place ends.entry ends.there open_is x ends.seat ends.seated),
+      )
 
 -- ---- whether the next group may begin
 
@@ -345,7 +355,7 @@ some_or_none tasks some P is has more = (λ e. more (any_unissued tasks (sym is 
 pub step_within : (p : Progress) (place : ℕ) (task : Task) → IsKnown p → Keeps (state p) → slice_get p.waiting.items place ≡ Some task → task.issued ≡ false → task.step < length p.script.steps
 step_within p place task known keeps there waits =
     let all : AllByRecursion (Waits p.known.setup p.group p.next) (unissued (take place p.waiting.items) ++ task.step ∷ unissued (drop (suc place) p.waiting.items))
-            = subst (λ (ns : List ℕ). AllByRecursion (Waits p.known.setup p.group p.next) ns) (split_at p.waiting.items place task there waits) keeps.waiting in
+    = subst (λ (ns : List ℕ). AllByRecursion (Waits p.known.setup p.group p.next) ns) (split_at p.waiting.items place task there waits) keeps.waiting in
     let w : Waits p.known.setup p.group p.next task.step = (all_append_right (Waits p.known.setup p.group p.next) (unissued (take place p.waiting.items)) (task.step ∷ unissued (drop (suc place) p.waiting.items)) all).0 in
     let l : task.step < p.next = w.before in
     let m : p.next ≤ length p.known.setup.steps = keeps.ends.within in

@@ -150,16 +150,16 @@ module _ (setup : Setup) (script : Script) (is : IsScriptOf setup script) (worka
   pub steps_are_sound : StepsAreSound setup
   steps_are_sound = record {
     says = λ n p bytes e. (
-      let w : p < length script.starts = all_at (IsWorkableStep script) script.steps n (Say (record { 0 = p })) workable.steps (step_at setup script is n ∙ ap (option_map step_for) e) in
-      let f : length script.starts ≡ peerings_in setup = as_many_peerings setup script is in
-      omega arith);
+        let w : p < length script.starts = all_at (IsWorkableStep script) script.steps n (Say (record { 0 = p })) workable.steps (step_at setup script is n ∙ ap (option_map step_for) e) in
+        let f : length script.starts ≡ peerings_in setup = as_many_peerings setup script is in
+        omega arith);
     moves = λ n p target e. (
-      let w : (p < length script.starts) × (target < length script.rooms) = all_at (IsWorkableStep script) script.steps n (Graft (record { 0 = p }) (record { 0 = target })) workable.steps (step_at setup script is n ∙ ap (option_map step_for) e) in
-      let a : p < length script.starts = w.0 in
-      let b : target < length script.rooms = w.1 in
-      let f : length script.starts ≡ peerings_in setup = as_many_peerings setup script is in
-      let g : length script.rooms ≡ routers_in setup = as_many_routers setup script is in
-      (omega arith, omega arith));
+        let w : (p < length script.starts) × (target < length script.rooms) = all_at (IsWorkableStep script) script.steps n (Graft (record { 0 = p }) (record { 0 = target })) workable.steps (step_at setup script is n ∙ ap (option_map step_for) e) in
+        let a : p < length script.starts = w.0 in
+        let b : target < length script.rooms = w.1 in
+        let f : length script.starts ≡ peerings_in setup = as_many_peerings setup script is in
+        let g : length script.rooms ≡ routers_in setup = as_many_routers setup script is in
+        (omega arith, omega arith));
   }
 
   pub starts_are_there : (p : ℕ) (peering : PeeringSetup) → slice_get setup.peerings p ≡ Some peering → peering.start < routers_in setup
@@ -198,8 +198,14 @@ begins known p is_known script workable numbers no_group group from next waiting
     waiting_is : unissued p.waiting.items ≡ range_with_len 0 (length group.steps)
     waiting_is = ap unissued waiting ∙ new_unissued group.steps ∙ from.places
 
-    whole : state p ≡ record { setup = known.setup; group = 0; next = 0 + length group.steps + 1; waiting = range_with_len 0 (length group.steps); log = first_log 0 (map step_for known.setup.steps);
-        seats = map seat_at (map (λ (peering : PeeringSetup). record { 0 = peering.start }) known.setup.peerings) }
+    whole : state p ≡ record {
+      setup = known.setup;
+      group = 0;
+      next = 0 + length group.steps + 1;
+      waiting = range_with_len 0 (length group.steps);
+      log = first_log 0 (map step_for known.setup.steps);
+      seats = map seat_at (map (λ (peering : PeeringSetup). record { 0 = peering.start }) known.setup.peerings);
+    }
     whole = λ i. record { setup = (is_known i).setup; group = no_group i; next = next_is i; waiting = waiting_is i; log = log_is i; seats = seats_are i }
 
 -- with new tasks for a group, its steps wait

@@ -97,20 +97,20 @@ module _ (s : State) (keeps : Keeps s) (kept rest : List ℕ) (n : ℕ) (waiting
         let l : n < s.next = waits.before in
         let g : nat_lt n s.next ≡ true = grind (arith, nat_tests) in
         ap (λ k. issued_in other k) f ∙ ap (λ x. is_issuable (slice_get x.steps n) && nat_lt n other.next && not (list_any (λ k. k == n) other.waiting)) setup_is
-            ∙ ap (λ b. b && nat_lt n other.next && not (list_any (λ k. k == n) other.waiting)) issuable
-            ∙ ap (λ k. true && nat_lt n k && not (list_any (λ j. j == n) other.waiting)) next_is
-            ∙ ap (λ b. true && b && not (list_any (λ j. j == n) other.waiting)) g
-            ∙ ap (λ ns. true && true && not (list_any (λ j. j == n) ns)) waiting_is
-            ∙ ap (λ b. true && true && not b) (once_in kept rest n rising)
-            ∙ sym (ap (λ b. if b then true else issued_in s m) e)
+        ∙ ap (λ b. b && nat_lt n other.next && not (list_any (λ k. k == n) other.waiting)) issuable
+        ∙ ap (λ k. true && nat_lt n k && not (list_any (λ j. j == n) other.waiting)) next_is
+        ∙ ap (λ b. true && b && not (list_any (λ j. j == n) other.waiting)) g
+        ∙ ap (λ ns. true && true && not (list_any (λ j. j == n) ns)) waiting_is
+        ∙ ap (λ b. true && true && not b) (once_in kept rest n rising)
+        ∙ sym (ap (λ b. if b then true else issued_in s m) e)
     | inr e ↦
         let ne : n ≢ m = λ f. grind (arith, nat_tests) in
         ap (λ x. is_issuable (slice_get x.steps m) && nat_lt m other.next && not (list_any (λ k. k == m) other.waiting)) setup_is
-            ∙ ap (λ k. is_issuable (slice_get s.setup.steps m) && nat_lt m k && not (list_any (λ j. j == m) other.waiting)) next_is
-            ∙ ap (λ ns. is_issuable (slice_get s.setup.steps m) && nat_lt m s.next && not (list_any (λ j. j == m) ns)) waiting_is
-            ∙ ap (λ b. is_issuable (slice_get s.setup.steps m) && nat_lt m s.next && not b) (sym (others_in kept rest n m ne))
-            ∙ ap (λ ns. is_issuable (slice_get s.setup.steps m) && nat_lt m s.next && not (list_any (λ j. j == m) ns)) (sym waiting)
-            ∙ sym (ap (λ b. if b then true else issued_in s m) e)
+        ∙ ap (λ k. is_issuable (slice_get s.setup.steps m) && nat_lt m k && not (list_any (λ j. j == m) other.waiting)) next_is
+        ∙ ap (λ ns. is_issuable (slice_get s.setup.steps m) && nat_lt m s.next && not (list_any (λ j. j == m) ns)) waiting_is
+        ∙ ap (λ b. is_issuable (slice_get s.setup.steps m) && nat_lt m s.next && not b) (sym (others_in kept rest n m ne))
+        ∙ ap (λ ns. is_issuable (slice_get s.setup.steps m) && nat_lt m s.next && not (list_any (λ j. j == m) ns)) (sym waiting)
+        ∙ sym (ap (λ b. if b then true else issued_in s m) e)
   ]
 
   other_issued : (other : State) → other.setup ≡ s.setup → other.next ≡ s.next → other.waiting ≡ kept ++ rest → is_issuable (slice_get s.setup.steps n) ≡ true → (m : ℕ) → m ≢ n → issued_in other m ≡ issued_in s m
@@ -320,7 +320,7 @@ module _ (s : State) (keeps : Keeps s) (kept rest : List ℕ) (n : ℕ) (waiting
                 | inr g ↦
                     let differs : i ≢ grafts_before s.setup n = λ same. grind (arith, nat_tests) in
                     none i entry (at_other i differs ∙ f) of_q
-              ])
+              ]),
             );
           }
 
@@ -369,8 +369,14 @@ module _ (s : State) (keeps : Keeps s) (kept rest : List ℕ) (n : ℕ) (waiting
     held_still m h = elim (by_test (h.peering == p)) [
       | inl f ↦
           let same : h.peering ≡ p = grind (arith, nat_tests) in
-          record { peering = h.peering; target = h.target; is = h.is; seat = moving_seat seat;
-            seated = ap (slice_get (slice_set s.seats p (moving_seat seat))) same ∙ get_set_same s.seats p (moving_seat seat) (slice_get_within s.seats p seat seated); moving = refl }
+          record {
+            peering = h.peering;
+            target = h.target;
+            is = h.is;
+            seat = moving_seat seat;
+            seated = ap (slice_get (slice_set s.seats p (moving_seat seat))) same ∙ get_set_same s.seats p (moving_seat seat) (slice_get_within s.seats p seat seated);
+            moving = refl;
+          }
       | inr f ↦
           let ne : h.peering ≢ p = λ same. grind (arith, nat_tests) in
           record { peering = h.peering; target = h.target; is = h.is; seat = h.seat; seated = get_set_other s.seats p h.peering (moving_seat seat) ne ∙ h.seated; moving = h.moving }

@@ -180,7 +180,7 @@ module _ (s : State) (keeps : Keeps s) (k : ℕ) (old : GraftEntry) (old_is : sl
       | inl f ↦
           let same : q ≡ old.peering.0 = grind (arith, nat_tests) in
           let moved : other ≡ new_seat = one_member (slice_get after.seats old.peering.0) _ _ (sym (ap (slice_get after.seats) same) ∙ e)
-              (get_set_same s.seats old.peering.0 new_seat (slice_get_within s.seats old.peering.0 seat seated)) in
+          (get_set_same s.seats old.peering.0 new_seat (slice_get_within s.seats old.peering.0 seat seated)) in
           subst (λ (x : ℕ). IsSeat s.setup after.log x other) (sym same) (subst (λ (x : Seat). IsSeat s.setup after.log old.peering.0 x) (sym moved) here)
       | inr f ↦
           let ne : q ≢ old.peering.0 = λ same. grind (arith, nat_tests) in
@@ -212,7 +212,7 @@ module _ (s : State) (keeps : Keeps s) (k : ℕ) (old : GraftEntry) (old_is : sl
             | inr g ↦
                 let differs : i ≢ k = λ same. grind (arith, nat_tests) in
                 none i entry (at_other i differs ∙ f) of_q
-          ])
+          ]),
         );
       }
 

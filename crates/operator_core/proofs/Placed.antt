@@ -54,24 +54,24 @@ module _ (setup : Setup) (p : ℕ) where
       → ((j : ℕ) (x : ScriptGraft) → i < j → slice_get (grafts_in setup) j ≡ Some x → x.peering ≡ p → is_accepted (outcome x.graft) ≡ false) → place_by outcome ≡ g.target
   placed_at outcome i g e of_p accepted none =
       ap (λ o. unwrap_or o (start_of setup p)) (one_last None (λ x. (x.peering == p) && is_accepted (outcome x.graft)) (grafts_in setup) i g e
-          (let f : (g.peering == p) ≡ true = grind (arith, nat_tests) in rw (f, accepted) refl)
-          (λ j x l there. elim (by_test (x.peering == p)) [
-            | inl f ↦ let q : x.peering ≡ p = grind (arith, nat_tests) in let h : is_accepted (outcome x.graft) ≡ false = none j x l there q in rw (f, h) refl
-            | inr f ↦ rw f refl
-          ]))
+      (let f : (g.peering == p) ≡ true = grind (arith, nat_tests) in rw (f, accepted) refl)
+      (λ j x l there. elim (by_test (x.peering == p)) [
+        | inl f ↦ let q : x.peering ≡ p = grind (arith, nat_tests) in let h : is_accepted (outcome x.graft) ≡ false = none j x l there q in rw (f, h) refl
+        | inr f ↦ rw f refl
+      ]))
 
   -- outcomes that agree on the peering's grafts place it alike
   pub placed_alike : (outcome other : ℕ → Option Outcome) → ((j : ℕ) (g : ScriptGraft) → slice_get (grafts_in setup) j ≡ Some g → g.peering ≡ p → is_accepted (outcome g.graft) ≡ is_accepted (other g.graft))
       → place_by outcome ≡ place_by other
   placed_alike outcome other same =
       ap (λ o. unwrap_or o (start_of setup p)) (same_last None (λ x. (x.peering == p) && is_accepted (outcome x.graft)) (λ x. (x.peering == p) && is_accepted (other x.graft)) (grafts_in setup)
-          (λ j g there. elim (by_test (g.peering == p)) [
-            | inl f ↦ let q : g.peering ≡ p = grind (arith, nat_tests) in ap (λ b. (g.peering == p) && b) (same j g there q)
-            | inr f ↦ rw f refl
-          ]))
+      (λ j g there. elim (by_test (g.peering == p)) [
+        | inl f ↦ let q : g.peering ≡ p = grind (arith, nat_tests) in ap (λ b. (g.peering == p) && b) (same j g there q)
+        | inr f ↦ rw f refl
+      ]))
 
   -- before any is accepted it is where it starts
   pub placed_first : (outcome : ℕ → Option Outcome) → ((k : ℕ) → outcome k ≡ None) → place_by outcome ≡ start_of setup p
   placed_first outcome none =
       ap (λ o. unwrap_or o (start_of setup p)) (none_last None (λ x. (x.peering == p) && is_accepted (outcome x.graft)) (grafts_in setup)
-          (λ j g there. let e : is_accepted (outcome g.graft) ≡ false = ap is_accepted (none g.graft) in elim (by_test (g.peering == p)) [ inl f ↦ rw (f, e) refl | inr f ↦ rw f refl ]))
+      (λ j g there. let e : is_accepted (outcome g.graft) ≡ false = ap is_accepted (none g.graft) in elim (by_test (g.peering == p)) [ inl f ↦ rw (f, e) refl | inr f ↦ rw f refl ]))

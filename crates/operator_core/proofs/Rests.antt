@@ -150,15 +150,17 @@ module _ (s : State) (keeps : Keeps s) where
       by_found : (o : Option GraftEntry) → find (λ (entry : GraftEntry). is_open entry.stage) s.log ≡ o → IsLowestOf (IsOpen s.setup (part_of s)) (option_map (λ entry. entry.graft) o)
       by_found None e = λ k o. (let r = open_entry k o in let h : is_open r.1.stage ≡ false = found_none (λ (entry : GraftEntry). is_open entry.stage) s.log e r.0 r.1 r.2 in let g : is_open r.1.stage ≡ true = r.3 in absurd cc)
       by_found (Some entry) e =
-          let r = found_first (λ (x : GraftEntry). is_open x.stage) s.log entry e in
-          (open_there r.place entry r.there r.passes, λ k o. (
-            let q = open_entry k o in
-            let number : entry.graft ≡ r.place + 1 = (keeps.log.entries r.place entry r.there).number in
-            elim (compare q.0 r.place) [
-              | inl l ↦ let h : is_open q.1.stage ≡ false = r.none_before q.0 q.1 l q.2 in let g : is_open q.1.stage ≡ true = q.3 in absurd cc
-              | inr (inl same) ↦ let k_is : q.0 + 1 ≡ k = q.4 in omega arith
-              | inr (inr l) ↦ let k_is : q.0 + 1 ≡ k = q.4 in omega arith
-            ]))
+          let r = found_first (λ (x : GraftEntry). is_open x.stage) s.log entry e in (
+            open_there r.place entry r.there r.passes,
+            λ k o. (
+                let q = open_entry k o in
+                let number : entry.graft ≡ r.place + 1 = (keeps.log.entries r.place entry r.there).number in
+                elim (compare q.0 r.place) [
+                  | inl l ↦ let h : is_open q.1.stage ≡ false = r.none_before q.0 q.1 l q.2 in let g : is_open q.1.stage ≡ true = q.3 in absurd cc
+                  | inr (inl same) ↦ let k_is : q.0 + 1 ≡ k = q.4 in omega arith
+                  | inr (inr l) ↦ let k_is : q.0 + 1 ≡ k = q.4 in omega arith
+                ]),
+          )
 
   pub none_is_open : find (λ (entry : GraftEntry). is_open entry.stage) s.log ≡ None → (i : ℕ) (entry : GraftEntry) → slice_get s.log i ≡ Some entry → is_open entry.stage ≡ false
   none_is_open e i entry there = found_none (λ (x : GraftEntry). is_open x.stage) s.log e i entry there
@@ -230,9 +232,9 @@ module _ (s : State) (keeps : Keeps s) where
           let source : source_in s.log entry.graft ≡ source_at entry = ap (source_in s.log) names.number ∙ source_is s.log i entry e in
           let outcome : outcome_in s.log entry.graft ≡ outcome_at entry.stage = ap (outcome_in s.log) names.number ∙ outcome_is s.log i entry e in
           let source_too : entry.source ≡ option_map (λ (r : ℕ). let id : RouterId = record { 0 = r } in id) (source_in s.log entry.graft)
-              = source_back entry.source ∙ sym (ap (option_map (λ (r : ℕ). let id : RouterId = record { 0 = r } in id)) source) in
+          = source_back entry.source ∙ sym (ap (option_map (λ (r : ℕ). let id : RouterId = record { 0 = r } in id)) source) in
           let stage : entry.stage ≡ stage_of (source_in s.log entry.graft) (outcome_in s.log entry.graft)
-              = stage_is entry names.source ∙ sym (ap (λ x. stage_of x (outcome_in s.log entry.graft)) source ∙ ap (λ x. stage_of (source_at entry) x) outcome) in
+          = stage_is entry names.source ∙ sym (ap (λ x. stage_of x (outcome_in s.log entry.graft)) source ∙ ap (λ x. stage_of (source_at entry) x) outcome) in
           λ j. record { graft = entry.graft; peering = entry.peering; source = source_too j; target = entry.target; stage = stage j }
 
       by_place : (i : ℕ) → (i < length s.log) ⊎ ((i ≡ length s.log) ⊎ (length s.log < i)) → slice_get s.log i ≡ slice_get (log_of s.setup (part_of s)) i

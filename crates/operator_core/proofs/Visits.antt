@@ -76,7 +76,7 @@ module _ {C : Type 0} (old : Progress) (place : ℕ) (task : Task) (there : slic
   pub visit_settle : (post : Post (Item C)) → task.issued ≡ false → slice_get old.script.steps task.step ≡ Some Settle → Visits old place post old post
   visit_settle post waits is = stays post (λ known keeps helds. absurd (
       let all : AllByRecursion (Waits old.known.setup old.group old.next) (unissued (take place old.waiting.items) ++ task.step ∷ unissued (drop (suc place) old.waiting.items))
-              = subst (λ (ns : List ℕ). AllByRecursion (Waits old.known.setup old.group old.next) ns) (split old place task there waits) keeps.waiting in
+      = subst (λ (ns : List ℕ). AllByRecursion (Waits old.known.setup old.group old.next) ns) (split old place task there waits) keeps.waiting in
       let w : Waits old.known.setup old.group old.next task.step = (all_append_right (Waits old.known.setup old.group old.next) (unissued (take place old.waiting.items)) (task.step ∷ unissued (drop (suc place) old.waiting.items)) all).0 in
       w.issuable (settle_there old.known.setup old.script known.script task.step is)))
 
@@ -107,19 +107,20 @@ module _ {C : Type 0} (old : Progress) (place : ℕ) (task : Task) (there : slic
       same = then old mid new same mid_new;
       as_many = as_many_tasks waiting;
       keeps = λ known keeps helds. subst Keeps (sym whole) (
-        let found = say_there old.known.setup old.script known.script task.step p is in
-        say_keeps (state old) keeps (unissued (take place old.waiting.items)) (unissued (drop (suc place) old.waiting.items)) task.step (split old place task there waits) helds p.0 found.0 found.1);
+          let found = say_there old.known.setup old.script known.script task.step p is in
+          say_keeps (state old) keeps (unissued (take place old.waiting.items)) (unissued (drop (suc place) old.waiting.items)) task.step (split old place task there waits) helds p.0 found.0 found.1);
       held = λ known keeps helds. subst (λ (ns : List ℕ). AllByRecursion (IsHeld (state new)) ns) (sym (before_is waiting))
           (subst (λ (s : State). AllByRecursion (IsHeld s) (unissued (take place old.waiting.items))) (sym whole)
-            (all_map (IsHeld (state old)) (IsHeld (waiting_are (state old) (unissued (take place old.waiting.items) ++ unissued (drop (suc place) old.waiting.items)))) (unissued (take place old.waiting.items))
-              (λ m h. record { peering = h.peering; target = h.target; is = h.is; seat = h.seat; seated = h.seated; moving = h.moving }) helds));
+          (all_map (IsHeld (state old)) (IsHeld (waiting_are (state old) (unissued (take place old.waiting.items) ++ unissued (drop (suc place) old.waiting.items)))) (unissued (take place old.waiting.items))
+          (λ m h. record { peering = h.peering; target = h.target; is = h.is; seat = h.seat; seated = h.seated; moving = h.moving }) helds));
       replay = λ known keeps helds session. (
-        let found = say_there old.known.setup old.script known.script task.step p is in
-        (own_part_of (waiting_are (state old) (unissued (take place old.waiting.items) ++ unissued (drop (suc place) old.waiting.items))),
-          says session old.known.setup (part_of (state old)) (part_of (waiting_are (state old) (unissued (take place old.waiting.items) ++ unissued (drop (suc place) old.waiting.items)))) (clock_of before + 1) (actor_of before)
-            numbers task.step p.0 (length old.script.rooms + p.0) (keeps.sound.says task.step p.0 found.0 found.1) (ap (λ k. k + p.0) (as_many_routers old.known.setup old.script known.script))
-            (say_row (state old) keeps (unissued (take place old.waiting.items)) (unissued (drop (suc place) old.waiting.items)) task.step (split old place task there waits) helds p.0 found.0 found.1),
-          ap own_part_of whole));
+          let found = say_there old.known.setup old.script known.script task.step p is in (
+            own_part_of (waiting_are (state old) (unissued (take place old.waiting.items) ++ unissued (drop (suc place) old.waiting.items))),
+            says session old.known.setup (part_of (state old)) (part_of (waiting_are (state old) (unissued (take place old.waiting.items) ++ unissued (drop (suc place) old.waiting.items)))) (clock_of before + 1) (actor_of before)
+                numbers task.step p.0 (length old.script.rooms + p.0) (keeps.sound.says task.step p.0 found.0 found.1) (ap (λ k. k + p.0) (as_many_routers old.known.setup old.script known.script))
+                (say_row (state old) keeps (unissued (take place old.waiting.items)) (unissued (drop (suc place) old.waiting.items)) task.step (split old place task there waits) helds p.0 found.0 found.1),
+            ap own_part_of whole,
+          ));
     }
       where
         whole : state new ≡ waiting_are (state old) (unissued (take place old.waiting.items) ++ unissued (drop (suc place) old.waiting.items))
@@ -137,16 +138,17 @@ module _ {C : Type 0} (old : Progress) (place : ℕ) (task : Task) (there : slic
           (graft_keeps (state old) keeps (unissued (take place old.waiting.items)) (unissued (drop (suc place) old.waiting.items)) task.step (split old place task there waits) helds p.0 target.0 (move known) issued.seat issued.seated still_too);
       held = λ known keeps helds. subst (λ (ns : List ℕ). AllByRecursion (IsHeld (state new)) ns) (sym (before_is issued.waiting))
           (subst (λ (s : State). AllByRecursion (IsHeld s) (unissued (take place old.waiting.items))) (sym (whole known))
-            (all_map (IsHeld (state old))
-              (IsHeld (waiting_are (graft_issued (state old) (grafts_before old.known.setup task.step) p.0 target.0 issued.seat) (unissued (take place old.waiting.items) ++ unissued (drop (suc place) old.waiting.items)))) (unissued (take place old.waiting.items))
-              (held_still (state old) keeps (unissued (take place old.waiting.items)) (unissued (drop (suc place) old.waiting.items)) task.step (split old place task there waits) helds p.0 target.0 (move known) issued.seat issued.seated still_too) helds));
-      replay = λ known keeps helds session. (
-        (own_part_of (waiting_are (graft_issued (state old) (grafts_before old.known.setup task.step) p.0 target.0 issued.seat) (unissued (take place old.waiting.items) ++ unissued (drop (suc place) old.waiting.items))),
-          orders session old.known.setup (part_of (state old))
+          (all_map (IsHeld (state old))
+          (IsHeld (waiting_are (graft_issued (state old) (grafts_before old.known.setup task.step) p.0 target.0 issued.seat) (unissued (take place old.waiting.items) ++ unissued (drop (suc place) old.waiting.items)))) (unissued (take place old.waiting.items))
+          (held_still (state old) keeps (unissued (take place old.waiting.items)) (unissued (drop (suc place) old.waiting.items)) task.step (split old place task there waits) helds p.0 target.0 (move known) issued.seat issued.seated still_too) helds));
+      replay = λ known keeps helds session. ((
+        own_part_of (waiting_are (graft_issued (state old) (grafts_before old.known.setup task.step) p.0 target.0 issued.seat) (unissued (take place old.waiting.items) ++ unissued (drop (suc place) old.waiting.items))),
+        orders session old.known.setup (part_of (state old))
             (part_of (waiting_are (graft_issued (state old) (grafts_before old.known.setup task.step) p.0 target.0 issued.seat) (unissued (take place old.waiting.items) ++ unissued (drop (suc place) old.waiting.items))))
             (clock_of before + 1) (actor_of before) numbers task.step (slice_index_or old.numbers task.step 0) p target issued.seat.place (keeps.seats.each p.0 issued.seat issued.seated).there (number_is known)
             (graft_row (state old) keeps (unissued (take place old.waiting.items)) (unissued (drop (suc place) old.waiting.items)) task.step (split old place task there waits) helds p.0 target.0 (move known) issued.seat issued.seated still_too),
-          ap own_part_of (whole known)));
+        ap own_part_of (whole known),
+      ));
     }
       where
         move : IsKnown old → slice_get old.known.setup.steps task.step ≡ Some (MoveStep p.0 target.0)

@@ -81,7 +81,13 @@ impl Progress {
         ensures edges { SameEdges post.old post.new }
     {
         let far_side = self.script.rooms.len() + usize::from(peering.0);
-        note_and_send(post, EventKind::Order, step, far_side, Item::SayOrder { step })
+        note_and_send(
+            post,
+            EventKind::Order,
+            step,
+            far_side,
+            Item::SayOrder { step },
+        )
     }
 
     /// Orders the graft at the router where the session belongs.
@@ -276,8 +282,12 @@ impl Progress {
         ensures { Ends self.old place outcome self.new }
     {
         let entry = &self.log[place];
-        let (graft, peering, source, target) =
-            (entry.graft, entry.peering, entry.source, entry.target);
+        let (graft, peering, source, target) = (
+            entry.graft,
+            entry.peering,
+            entry.source,
+            entry.target,
+        );
         let seat = usize::from(peering.0);
         let place_after = if let Outcome::Accepted = outcome {
             target

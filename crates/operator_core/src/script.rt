@@ -6,7 +6,9 @@ use graft_edge::{Items, PeeringId, RouterId};
 #[derive(Clone, Copy, Debug, PartialEq, Eq, Hash)]
 pub enum ScriptStep {
     /// The remote of the peering is to say the bytes of this step.
-    Say { peering: PeeringId },
+    Say {
+        peering: PeeringId,
+    },
     /// The session of the peering is to move to the target.
     Graft {
         peering: PeeringId,

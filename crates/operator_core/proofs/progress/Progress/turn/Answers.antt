@@ -23,21 +23,21 @@ visit-requires-clause-logged g c = has_entries c.loop-place.self (known_still c.
 pub loop-place-preserved : goal.loop-place-preserved
 loop-place-preserved g c = elim c.if-not-task.branch [
   | then-not-task+in_ok-visit w ↦ record {
-      turning = turning_moves c.args.self.now c.loop-place.self w.visit.new.self c.if-not-task.self c.args.post.now c.loop-place.post w.visit.new.post c.if-not-task.post c.loop-place.place c.requires.known
-          c.loop-place.invariant.turning w.in_ok-visit.ensures.ok w.self-is w.post-is;
-      edges = edges_move c.args.post.now c.loop-place.post w.visit.new.post c.if-not-task.post c.loop-place.invariant.edges w.visit.ensures.edges w.post-is;
-    }
+    turning = turning_moves c.args.self.now c.loop-place.self w.visit.new.self c.if-not-task.self c.args.post.now c.loop-place.post w.visit.new.post c.if-not-task.post c.loop-place.place c.requires.known
+        c.loop-place.invariant.turning w.in_ok-visit.ensures.ok w.self-is w.post-is;
+    edges = edges_move c.args.post.now c.loop-place.post w.visit.new.post c.if-not-task.post c.loop-place.invariant.edges w.visit.ensures.edges w.post-is;
+  }
   | else-not-task w ↦ record {
-      turning = turning_moves c.args.self.now c.loop-place.self c.loop-place.self c.if-not-task.self c.args.post.now c.loop-place.post c.loop-place.post c.if-not-task.post c.loop-place.place c.requires.known
-          c.loop-place.invariant.turning (visit_done c.loop-place.self c.loop-place.place c.task-task.result c.task-task.ensures c.loop-place.post (issued_then _ w.if-not-task.false)) w.self-is w.post-is;
-      edges = edges_move c.args.post.now c.loop-place.post c.loop-place.post c.if-not-task.post c.loop-place.invariant.edges (same_edges_self c.loop-place.post) w.post-is;
-    }
+    turning = turning_moves c.args.self.now c.loop-place.self c.loop-place.self c.if-not-task.self c.args.post.now c.loop-place.post c.loop-place.post c.if-not-task.post c.loop-place.place c.requires.known
+        c.loop-place.invariant.turning (visit_done c.loop-place.self c.loop-place.place c.task-task.result c.task-task.ensures c.loop-place.post (issued_then _ w.if-not-task.false)) w.self-is w.post-is;
+    edges = edges_move c.args.post.now c.loop-place.post c.loop-place.post c.if-not-task.post c.loop-place.invariant.edges (same_edges_self c.loop-place.post) w.post-is;
+  }
 ]
 
 pub returns-clause-ok : goal.returns-clause-ok
 returns-clause-ok g c = turning_ends c.args.self.now c.loop-place.self _ c.args.post.now c.loop-place.post c.loop-place.place c.requires.known (
-      let e : c.len-place-end.result ≡ length c.args.self.now.waiting.items = c.len-place-end.ensures ∙ c.args.self.now.waiting.ok.0 in
-      let f : c.len-place-end.result ≤ c.loop-place.place = c.loop-place-test.false in
-      let h : c.loop-place.place ≤ c.len-place-end.result = c.loop-place.auto.place-end in
-      omega arith) c.loop-place.invariant.turning c.forget_issued.ensures.same
+    let e : c.len-place-end.result ≡ length c.args.self.now.waiting.items = c.len-place-end.ensures ∙ c.args.self.now.waiting.ok.0 in
+    let f : c.len-place-end.result ≤ c.loop-place.place = c.loop-place-test.false in
+    let h : c.loop-place.place ≤ c.len-place-end.result = c.loop-place.auto.place-end in
+    omega arith) c.loop-place.invariant.turning c.forget_issued.ensures.same
     (state_of_forget c.loop-place.self _ c.forget_issued.ensures.same c.forget_issued.ensures.log c.forget_issued.ensures.seats) c.forget_issued.ensures.waiting
