@@ -1,0 +1,15 @@
+mod Lists
+mod Scripts
+mod Logs
+mod Issues
+mod Placed
+mod Notes
+mod Begins
+mod Steps
+mod Acts
+mod Tasks
+mod Visits
+mod Rests
+mod Calls
+mod GroupLoops
+mod Goes

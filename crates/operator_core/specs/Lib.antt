@@ -1,0 +1,12 @@
+pub mod Scripts
+pub mod Groups
+pub mod Tasks
+pub mod Grafts
+pub mod States
+pub mod Keeps
+pub mod Issues
+pub mod Notes
+pub mod Events
+pub mod Progresses
+pub mod Turns
+pub mod Operators

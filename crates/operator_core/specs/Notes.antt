@@ -1,0 +1,24 @@
+-- What the report of a graft changes.
+use Rattle.std.specs.Prelude.{ℕ, false, slice_set}
+use Rattle.graft_edge.specs.declared.ids.RouterId.{RouterId}
+use Rattle.graft_steps.specs.declared.log.GraftEntry.{GraftEntry}
+use Rattle.graft_steps.specs.declared.log.GraftStage.TheVariants.{Ended}
+use Rattle.graft_steps.specs.declared.refusal.Outcome.{Outcome}
+use Rattle.graft_steps.specs.declared.refusal.Outcome.TheVariants.{Accepted, Refused}
+use Rattle.operator_core.specs.declared.grafts.Seat.{Seat}
+use Rattle.operator_core.specs.States.{State}
+
+abbrev pub ended_entry : GraftEntry → Outcome → GraftEntry
+ended_entry entry outcome = record entry { stage = Ended outcome }
+
+-- where a session belongs after a graft of it
+abbrev pub place_after : Outcome → RouterId → RouterId → RouterId
+place_after Accepted place target = target
+place_after (Refused refusal) place target = place
+
+abbrev pub still_seat : Outcome → RouterId → Seat → Seat
+still_seat outcome target seat = record { place = place_after outcome seat.place target; moving = false }
+
+-- The graft at place k of the log has ended.
+abbrev pub graft_noted : State → ℕ → GraftEntry → Outcome → Seat → State
+graft_noted s k entry outcome seat = record s { log = slice_set s.log k (ended_entry entry outcome); seats = slice_set s.seats entry.peering.0 (still_seat outcome entry.target seat) }

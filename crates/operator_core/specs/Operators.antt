@@ -1,0 +1,37 @@
+-- The operator as its part of the world.
+use Rattle.std.specs.Prelude.{ℕ, ◌≡◌, ◌↔◌, ◌≤◌, List, [], ◌∷◌, length}
+use Rattle.ring_net.specs.Deeds.{Deed}
+use Rattle.graft_steps.specs.declared.item.Item.{Item}
+use Rattle.graft_model.specs.Setups.{Setup}
+use Rattle.graft_model.specs.Parts.{OperatorPart}
+use Rattle.graft_actors.specs.Acts.{OwnPart}
+use Rattle.operator_core.specs.declared.operator.Operator.{Operator}
+use Rattle.operator_core.specs.States.{part_of}
+use Rattle.operator_core.specs.Progresses.{state, own_part_of}
+use Rattle.operator_core.specs.Turns.{NothingToOrder, IsHeldUp}
+
+-- the laboratory that the operator is of, which only proofs know
+abbrev pub setup_of : Operator → Setup
+setup_of op = op.progress.known.setup
+
+-- its part of the world
+abbrev pub operator_part : Operator → OperatorPart
+operator_part op = part_of (state op.progress)
+
+-- its part, with the laboratory and its name there
+abbrev pub own_part : Operator → OwnPart
+own_part op = own_part_of (state op.progress)
+
+module _ {C : Type 0} where
+  -- of a take: it is one event
+  abbrev pub took : Operator → ℕ → Item C → List (Deed (Item C)) → Operator → Type 0
+  took old from item deeds new = length deeds ≡ 1
+
+  -- of a turn: at its end no step of the group may be issued
+  abbrev pub turned : Operator → List (Deed (Item C)) → Operator → Type 0
+  turned old deeds new = NothingToOrder (setup_of old) (operator_part new)
+
+  -- Of what is done at a mark: nothing exactly where the next group may not begin, else one event.
+  pub record Paused (old : Operator) (deeds : List (Deed (Item C))) (new : Operator) : Type 0 where
+    pub held : (deeds ≡ []) ↔ IsHeldUp (setup_of old) (operator_part old)
+    pub few : length deeds ≤ 1

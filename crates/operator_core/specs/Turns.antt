@@ -1,0 +1,16 @@
+-- What is said of whole calls of the operator, beside their events.
+use Rattle.std.specs.Prelude.{ℕ, ◌≡◌, ◌≤◌, ◌+◌, ◌↔◌, ◌⊎◌, List, [], length, None}
+use Rattle.ring_net.specs.Deeds.{Deed}
+use Rattle.graft_model.specs.Setups.{Setup, groups_in}
+use Rattle.graft_model.specs.Parts.{OperatorPart}
+use Rattle.graft_model.specs.OperatorRows.{OperatorSent}
+use Rattle.graft_model.specs.Steps.{Order, operator_row}
+use Rattle.settled_check.specs.Left.{HasUnissued, IsOpen}
+
+-- no step of the group at work may be issued
+abbrev pub NothingToOrder : Setup → OperatorPart → Type 0
+NothingToOrder setup part = (step : ℕ) (sent : List OperatorSent) (after : OperatorPart) → operator_row setup (Order step) part None sent after → ⊥
+
+-- The next group may not begin: a step of the group at work wasn't issued, or a graft of it has no outcome, or it is the last one.
+abbrev pub IsHeldUp : Setup → OperatorPart → Type 0
+IsHeldUp setup part = HasUnissued setup part ⊎ (((k : ℕ) × IsOpen setup part k) ⊎ (groups_in setup ≤ part.group + 1))

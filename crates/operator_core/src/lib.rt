@@ -1,0 +1,13 @@
+//! The operator of the laboratory: it works through a script of steps, a group at a time. It orders what remotes are to say and which
+//! sessions are to move, and keeps the log of grafts.
+#![tactic(auto)]
+
+mod events;
+mod grafts;
+mod groups;
+mod operator;
+mod progress;
+mod script;
+
+pub use operator::Operator;
+pub use script::{Rooms, RouterIds, Script, ScriptStep, ScriptSteps};

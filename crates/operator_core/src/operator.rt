@@ -1,0 +1,99 @@
+//! The operator.
+
+ghost use Rattle.std.specs.Prelude.{◌≡◌, ◌↔◌, false, OnOk, IfOk};
+ghost use Rattle.std.specs.List.{AllByRecursion-prop};
+ghost use Rattle.std.proofs.Props.{props};
+ghost use Rattle.ring_net.specs.Posts.{TookItem, Moved, Pauses, SameEdges};
+ghost use Rattle.session_value.specs.Sessions.{SessionValue};
+ghost use Rattle.graft_actors.specs.Acts.{acts};
+ghost use Rattle.operator_core.specs.Keeps.{Rises-prop};
+ghost use Rattle.operator_core.specs.Progresses.{IsSound};
+
+use crate::progress::Progress;
+use crate::script::Script;
+use graft_actors::Known;
+use graft_edge::NoMemory;
+use graft_steps::{GraftLog, Item, OperatorRest};
+use ring_net::Post;
+use std::alloc::Global;
+
+/// The operator: it issues the steps of a script, a group at a time, and keeps the log of grafts.
+#[derive(Drop)]
+pub struct Operator {
+    progress: Progress,
+    ghost sound: { IsSound progress } by { Prim.hlevel (props, AllByRecursion-prop, Rises-prop) },
+}
+
+impl Operator {
+    ghost use Rattle.graft_model.specs.First.{first_world};
+    ghost use Rattle.graft_runs.specs.Actors.{OperatorIs, Operator as TheOperator};
+    ghost use Rattle.settled_check.specs.Rests.{IsOperatorRest};
+    ghost use Rattle.operator_core.specs.Scripts.{IsScriptOf, IsWorkable};
+    ghost use Rattle.operator_core.specs.Grafts.{log_of};
+    ghost use Rattle.operator_core.specs.Turns.{IsHeldUp};
+    ghost use Rattle.operator_core.specs.Operators.{setup_of, operator_part, own_part, took as took_lem, turned as turned_lem, Paused};
+
+    /// The operator before anything is issued, with the first group of its script at work.
+    pub fn new(alloc: Global, known: Known, script: Script) -> Result<Operator, NoMemory>
+        requires script { IsScriptOf known.setup script }
+        requires workable { IsWorkable script }
+        ensures { IfOk result (λ operator. own_part operator
+            ≡ record { setup = known.setup; name = TheOperator; part = OperatorIs (first_world known.setup).operator }) }
+    {
+        let progress = Progress::new(alloc, known, script)?;
+        Ok(Operator { progress })
+    }
+
+    /// Notes the report of a graft that was ordered and hasn't ended, from a router. Any other item is dropped, with an entry of kind 0.
+    pub fn take<C: Drop>(
+        &mut self,
+        from: usize,
+        item: Item<C>,
+        post: &mut Post<Item<C>>,
+    ) -> Result<(), NoMemory>
+        ensures took { OnOk result ((session : C → SessionValue) → TookItem own_part (acts session) took_lem from item self.old post.old self.new post.new) }
+        ensures edges { SameEdges post.old post.new }
+    {
+        self.progress.take(from, item, post)
+    }
+
+    /// Issues each step of the group at work that may be issued, in their order.
+    pub fn turn<C: Drop>(&mut self, post: &mut Post<Item<C>>) -> Result<(), NoMemory>
+        ensures turned { OnOk result ((session : C → SessionValue) → Moved own_part (acts session) turned_lem self.old post.old self.new post.new) }
+        ensures edges { SameEdges post.old post.new }
+    {
+        self.progress.turn(post)
+    }
+
+    /// Begins the next group. The world has to be quiet. It answers false, and nothing changes, exactly where a step of the group at work wasn't
+    /// issued, or a graft of it has no outcome, or there is no further group.
+    pub fn go<C: Drop>(&mut self, post: &mut Post<Item<C>>) -> Result<bool, NoMemory>
+        ensures paused { IfOk result (λ answer. (session : C → SessionValue) → Pauses own_part (acts session) Paused self.old post.old self.new post.new answer) }
+        ensures held { IfOk result (λ answer. (answer ≡ false) ↔ IsHeldUp (setup_of self.old) (operator_part self.old)) }
+        ensures edges { SameEdges post.old post.new }
+    {
+        self.progress.go(post)
+    }
+
+    /// What is done at a mark: the next group begins.
+    pub fn between<C: Drop>(&mut self, post: &mut Post<Item<C>>) -> Result<bool, NoMemory>
+        ensures paused { IfOk result (λ answer. (session : C → SessionValue) → Pauses own_part (acts session) Paused self.old post.old self.new post.new answer) }
+        ensures edges { SameEdges post.old post.new }
+    {
+        self.go(post)
+    }
+
+    /// The grafts of the script, with the routers that they were ordered at and how far they are.
+    pub fn log(&self) -> &GraftLog
+        ensures { result.now ≡ log_of (setup_of self.now) (operator_part self.now) }
+    {
+        self.progress.log()
+    }
+
+    /// What is left to do.
+    pub fn rest(&self) -> OperatorRest
+        ensures { IsOperatorRest (setup_of self.now) (operator_part self.now) result }
+    {
+        self.progress.rest()
+    }
+}
