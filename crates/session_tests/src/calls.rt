@@ -1,12 +1,15 @@
 //! Calls whose conditions are tested first.
 
-ghost use Rattle.std.specs.Prelude.{◌≡◌, All};
+ghost use Rattle.std.specs.Prelude.{◌≡◌, [], ◌∷◌, All, IfOk, IfSome};
 ghost use Rattle.std.specs.Bool.{OnTrue};
 ghost use Rattle.bgp_story.specs.Legal.{IsEarlier};
+ghost use Rattle.bgp_story.specs.WorkedSessions.{announcement_over};
 
-use bgp_session::{ReadStep, Session, TickStep};
+use bgp_session::{OfferStop, ReadStep, Session, TickStep};
 use bgp_story::Line;
-use bgp_types::SessionState;
+use bgp_types::{
+    AsList, AsPath, Attrs, Origin, PathPart, Prefix, PrefixList, RawAttrs, SessionState, Update,
+};
 use graft_edge::{NoMemory, PeeringId};
 use session_value::SessionConfig;
 use std::alloc::Global;
@@ -80,6 +83,45 @@ pub(crate) fn read(session: &mut Session) -> Result<Option<ReadStep>, NoMemory> 
     session.read()
 }
 
+/// 10.0.0.0/8 is announced, with path 65000 and next hop 192.0.2.2.
+fn announcement(alloc: Global) -> Result<Option<Update>, NoMemory>
+    ensures { IfOk result (λ answer. IfSome answer (λ update. update ≡ announcement_over (65000 ∷ []))) }
+{
+    let Some(ten) = Prefix::new(0x0A00_0000, 8) else {
+        return Ok(None);
+    };
+    let mut path = AsPath::new(alloc);
+    path.push(PathPart::Sequence(AsList::from_slice(alloc, &[65_000])?))?;
+    Ok(Some(Update {
+        withdrawn: PrefixList::new(alloc),
+        attrs: Some(Attrs {
+            origin: Origin::Igp,
+            path,
+            next_hop: 0xC000_0202,
+            med: None,
+            atomic: false,
+            aggregator: None,
+            unknown: RawAttrs::new(alloc),
+        }),
+        nlri: PrefixList::from_slice(alloc, &[ten])?,
+    }))
+}
+
+/// An UPDATE is put before any other.
+pub(crate) fn offer_first(
+    rt: &impl Abort,
+    alloc: Global,
+    session: &mut Session,
+) -> Result<(), OfferStop> {
+    let Some(update) = announcement(alloc)? else {
+        return Ok(());
+    };
+    assert!(rt; session.state() == SessionState::Established);
+    assert!(rt; !session.wide());
+    assert!(rt; session.told().len() == 0);
+    session.offer(update)
+}
+
 /// Whether each earlier round of a story is before this one.
 fn is_later(lines: &[Line], round: u32) -> bool
     ensures { OnTrue result (All (IsEarlier round) lines.now) }
@@ -109,7 +151,5 @@ pub(crate) fn moved(session: Session) -> Session {
     if session.state() != SessionState::Established {
         return session;
     }
-    let frozen = session.freeze();
-    let capsule = frozen.leave();
-    capsule.land()
+    session.freeze().leave().land()
 }

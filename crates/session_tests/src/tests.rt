@@ -1,11 +1,11 @@
-use crate::calls::{arrive, begin, moved, reach, read, remote, tick};
+use crate::calls::{arrive, begin, moved, offer_first, reach, read, remote, tick};
 use crate::octets::{
-    BAD_TYPE, BAD_VERSION, EXPIRED, FAULTY, HELD_OPEN, KEEPALIVE, OLD_OPEN, OPEN, THEIR_OPEN,
-    THEIR_UPDATE, THEIR_WIDE_OPEN, WIDE_OPEN, framed,
+    BAD_TYPE, BAD_VERSION, EXPIRED, FAULTY, HELD_OPEN, KEEPALIVE, OLD_OPEN, OPEN, OUR_UPDATE,
+    THEIR_OPEN, THEIR_UPDATE, THEIR_WIDE_OPEN, WIDE_OPEN, framed,
 };
 use bgp_session::{ReadStep, Session, TickStep};
 use bgp_types::{Prefix, SessionState};
-use graft_edge::NoMemory;
+use graft_edge::{NoMemory, PeeringId};
 use std::alloc::Global;
 use std::process::Abort;
 use std::test::Fail;
@@ -159,6 +159,22 @@ fn routes_are_heard(rt: HostRuntime) -> Result<(), Fail> {
         _ => panic!(rt; "the end"),
     }
     assert_eq!(rt; session.heard().len(), 0);
+    Ok(())
+}
+
+/// A route is told, and what is on the way goes along with the session.
+#[test]
+fn routes_are_told(rt: HostRuntime) -> Result<(), Fail> {
+    let (mut session, _) = established(&rt)?;
+    emits(&rt, &mut session, 129, &KEEPALIVE)?;
+    offer_first(&rt, rt.alloc(), &mut session)?;
+    assert_eq!(rt; session.told().len(), 1);
+    let capsule = session.freeze().leave();
+    assert_eq!(rt; capsule.config().peering, PeeringId(3));
+    assert_eq!(rt; capsule.story().lines().len(), 5);
+    let mut session = capsule.land();
+    emits(&rt, &mut session, 148, &OUR_UPDATE)?;
+    assert!(rt; session.state() == SessionState::Established);
     Ok(())
 }
 
