@@ -1,0 +1,9 @@
+//! The words of a command of `graftlab`: which ones are accepted, and the job that they ask for.
+#![tactic(auto)]
+
+mod command;
+mod job;
+mod texts;
+
+pub use command::read_words;
+pub use job::{Job, USAGE_TEXT, WordStop, usage_is_as_told};

@@ -1,0 +1,118 @@
+//! What single words say, and the job that the words of a command name.
+
+ghost use Rattle.std.specs.Prelude.{◌≡◌, ◌≤◌, length, option_map};
+ghost use Rattle.lab_words.specs.Reading.{digits_after, seed_of, seed_in, workers_of, workers_in, job_named, job_of};
+
+use crate::job::{Job, WordStop};
+
+/// The number that up to four decimal digits write.
+fn digits(text: &[u8]) -> Option<u32>
+    requires { length text.now ≤ 4 }
+    ensures { result ≡ digits_after 0 text.now }
+{
+    let mut n: u32 = 0;
+    for digit in text {
+        let digit = *digit;
+        if digit < b'0' || digit > b'9' {
+            return None;
+        }
+        n = n * 10 + (digit - b'0') as u32;
+    }
+    Some(n)
+}
+
+/// A seed: 1 to 4 decimal digits of a value above 0.
+fn seed_of(text: &str) -> Option<u32>
+    ensures { result ≡ seed_of text.now }
+{
+    let bytes = text.as_bytes();
+    if bytes.len() < 1 || bytes.len() > 4 {
+        return None;
+    }
+    match digits(bytes) {
+        Some(seed) => if seed == 0 { None } else { Some(seed) },
+        None => None,
+    }
+}
+
+/// A count of workers: one digit from 1 to 8.
+fn workers_of(text: &str) -> Option<usize>
+    ensures { result ≡ workers_of text.now }
+{
+    match text.as_bytes() {
+        [digit] => if *digit >= b'1' && *digit <= b'8' {
+            Some((*digit - b'0') as usize)
+        } else {
+            None
+        },
+        _ => None,
+    }
+}
+
+/// How many workers run: those that are asked for, or 2.
+fn workers_in(text: Option<&str>) -> Option<usize>
+    ensures { result ≡ workers_in (option_map (λ s. s.now) text.entry) }
+{
+    match text {
+        None => Some(2),
+        Some(text) => workers_of(text),
+    }
+}
+
+/// The seed that is given, if one is.
+fn seed_in(text: Option<&str>) -> Option<u32>
+    ensures { result ≡ seed_in (option_map (λ s. s.now) text.entry) }
+{
+    match text {
+        None => None,
+        Some(text) => seed_of(text),
+    }
+}
+
+/// The job of this name, where the other words are those that it takes.
+fn job_named(job: &str, number: Option<&str>, workers: Option<&str>) -> Result<Job, WordStop>
+    ensures { result ≡ job_named job.now (option_map (λ s. s.now) number.entry) (option_map (λ s. s.now) workers.entry) }
+{
+    if job == "run" {
+        if number.is_some() {
+            return Err(WordStop::Usage);
+        }
+        return match workers_in(workers) {
+            Some(workers) => Ok(Job::Run { workers }),
+            None => Err(WordStop::Usage),
+        };
+    }
+    if job == "check" {
+        if number.is_some() {
+            return Err(WordStop::Usage);
+        }
+        if workers.is_some() {
+            return Err(WordStop::Usage);
+        }
+        return Ok(Job::Check);
+    }
+    if job == "make" {
+        if workers.is_some() {
+            return Err(WordStop::Usage);
+        }
+        return match seed_in(number) {
+            Some(seed) => Ok(Job::Make { seed }),
+            None => Err(WordStop::Usage),
+        };
+    }
+    Err(WordStop::Usage)
+}
+
+/// The job that the words name.
+pub(crate) fn job_of(
+    job: Option<&str>,
+    number: Option<&str>,
+    workers: Option<&str>,
+) -> Result<Job, WordStop>
+    ensures { result ≡ job_of (option_map (λ s. s.now) job.entry) (option_map (λ s. s.now) number.entry) (option_map (λ s. s.now) workers.entry) }
+{
+    match job {
+        Some(job) => job_named(job, number, workers),
+        None => Err(WordStop::Usage),
+    }
+}
