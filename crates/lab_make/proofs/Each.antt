@@ -1,5 +1,5 @@
 -- Texts, numbers and counts that grow by one.
-use Rattle.std.proofs.Common.{◌≡◌, ℕ, zero, suc, ◌+◌, ◌%◌, List, [], ◌∷◌, ◌++◌, ap, sym, ◌∙◌, refl, arith, append-nil, append_assoc, add-one, add-zero, Bool}
+use Rattle.std.proofs.Common.{◌≡◌, ℕ, zero, suc, ◌+◌, ◌%◌, List, [], ◌∷◌, ◌++◌, ap, sym, ◌∙◌, refl, arith, append-nil, append_assoc, add-one, Bool}
 use Rattle.std.specs.Prelude.{◌==◌, filter, count_by, if◌then◌else◌}
 use Rattle.std.specs.List.{flat_map, range_with_len}
 use Rattle.std.proofs.lemmas.List.{flat_map_more}
