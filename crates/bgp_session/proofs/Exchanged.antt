@@ -1,6 +1,6 @@
 -- What a segment that arrives or is emitted leaves.
 use Rattle.std.proofs.Common.{◌≡◌, ℕ, ◌+◌, ◌^◌, ◌<◌, ◌≤◌, Bool, true, List, length, drop, length-take, Option, Some, None, refl, sym, ap, ◌∙◌, subst, arith, inl, inr}
-use Rattle.std.specs.Prelude.{◌⊎◌, ◌↔◌, IfOk, IfSome, IsNone, OnErr, OnOk, Result, Ok, Err}
+use Rattle.std.specs.Prelude.{◌⊎◌, ◌↔◌, min, IfOk, IfNone, IfSome, IsNone, OnErr, OnOk, Result, Ok, Err}
 use Rattle.std.proofs.lemmas.Bool.{cases_lt}
 use Rattle.graft_edge.specs.declared.memory.NoMemory.{NoMemory}
 use Rattle.tcp_seq.specs.Endpoint.{Endpoint, PlacedSegment, EmitsNext, EmitsAgain, EmitsAnswer, EmitsEmpty, EmitsSlice, IsInStreams, TakesSegment, slice_at}
@@ -54,6 +54,7 @@ module _ (parts : Parts) (end : EndState) (e : Endpoint) (k : Keeps parts)
     remote_as = k.remote_as;
     opened = k.opened;
     left = k.left;
+    next_round = k.next_round;
   }
 
 -- ---- emission
@@ -265,6 +266,27 @@ next_none parts r k none =
       (λ is. elim (n.0 is) [ inl all ↦ omega (arith, same, all) | inr full ↦ omega (arith, same, full) ]),
       (λ zero. n.1 (elim (cases_lt 0 (unsent parts.end)) [ inl some ↦ inr (omega (arith, same, zero, some, flight, le)) | inr not ↦ inl (omega (arith, not)) ])),
     )) none
+
+-- with no segment, all is emitted that may be
+all_emitted : (parts : Parts) → Keeps parts → next_length_of (value_of parts).end ≡ 0 → (value_of parts).end.emitted ≡ min (length (value_of parts).end.stream) ((value_of parts).end.acked + 15360)
+all_emitted parts k zero =
+    let stream = stream_is parts.end (value_of parts).end k.stands in
+    let most = k.stands.sound.sending.emitted in
+    let flight = k.stands.sound.sending.flight in
+    omega (arith, zero, stream, most, flight, k.stands.acked, k.stands.emitted)
+
+pub next_all : (parts : Parts) (r : Result (Option Segment) NoMemory) → Keeps parts → IfOk r (λ answer. IsNone answer ↔ (next_length_of (value_of parts).end ≡ 0))
+    → IfOk r (λ answer. IfNone answer ((value_of parts).end.emitted ≡ min (length (value_of parts).end.stream) ((value_of parts).end.acked + 15360)))
+next_all parts (Ok None) k none = all_emitted parts k (none.0 refl)
+next_all parts (Ok (Some g)) k none = tt
+next_all parts (Err error) k none = tt
+
+-- no more is emitted than there is
+pub emitted_within : (parts : Parts) → Keeps parts → (value_of parts).end.emitted ≤ length (value_of parts).end.stream
+emitted_within parts k =
+    let stream = stream_is parts.end (value_of parts).end k.stands in
+    let most = k.stands.sound.sending.emitted in
+    omega (arith, stream, most, k.stands.emitted)
 
 pub again_none : (parts : Parts) (r : Result (Option Segment) NoMemory) → Keeps parts → IfOk r (λ answer. IsNone answer ↔ ((outstanding parts.end ≡ 0) ⊎ (parts.end.acked_at_turn < parts.end.acked)))
     → IfOk r (λ answer. IsNone answer ↔ ((again_length_of (value_of parts).end ≡ 0) ⊎ (parts.end.acked_at_turn < (value_of parts).end.acked)))

@@ -1,6 +1,6 @@
 //! The segments of a session: those that arrive, and those that it emits.
 
-ghost use Rattle.std.specs.Prelude.{◌≡◌, ◌<◌, ◌^◌, ◌↔◌, ◌⊎◌, length, true, IsNone, IsSome, IfOk, OnOk};
+ghost use Rattle.std.specs.Prelude.{◌≡◌, ◌<◌, ◌≤◌, ◌+◌, ◌^◌, ◌↔◌, ◌⊎◌, length, min, true, IsNone, IsSome, IfNone, IfOk, OnOk};
 ghost use Rattle.tcp_seq.specs.declared.segment.Way.TheVariants as ways;
 ghost use Rattle.tcp_seq.specs.Endpoint.{EmitsNext, EmitsAgain, EmitsAnswer, EmitsSlice, IsInStreams, next_length, again_length};
 ghost use Rattle.bgp_session.specs.Steps.{Arrives, EmitsBy, received_as};
@@ -31,6 +31,7 @@ impl Parts {
     pub(crate) fn next_segment(&mut self) -> Result<Option<Segment>, NoMemory>
         requires { Keeps self.old }
         ensures none { IfOk result (λ answer. IsNone answer ↔ (next_length (value_of self.old).end ≡ 0)) }
+        ensures all { IfOk result (λ answer. IfNone answer ((value_of self.old).end.emitted ≡ min (length (value_of self.old).end.stream) ((value_of self.old).end.acked + 15360))) }
         ensures step { IfOk result (λ answer. EmitsBy EmitsNext (value_of self.old) answer (value_of self.new)) }
         ensures slice { IfOk result (λ answer. EmitsBy EmitsSlice (value_of self.old) answer (value_of self.new)) }
         ensures same_turn { OnOk result (self.new.end.acked_at_turn ≡ self.old.end.acked_at_turn) }
@@ -45,6 +46,7 @@ impl Parts {
         ensures none { IfOk result (λ answer. IsNone answer ↔ ((again_length (value_of self.old).end ≡ 0) ⊎ (self.old.end.acked_at_turn < (value_of self.old).end.acked))) }
         ensures step { IfOk result (λ answer. EmitsBy EmitsAgain (value_of self.old) answer (value_of self.new)) }
         ensures slice { IfOk result (λ answer. EmitsBy EmitsSlice (value_of self.old) answer (value_of self.new)) }
+        ensures within { (value_of self.old).end.emitted ≤ length (value_of self.old).end.stream }
         ensures turned { OnOk result (self.new.end.acked_at_turn ≡ (value_of self.old).end.acked) }
         ensures keeps { Keeps self.new }
     {
