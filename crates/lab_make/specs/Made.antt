@@ -99,5 +99,5 @@ tables_text = codes "home_as = 64600\n\n" ++ each_below router_table 4 ++ each_b
 abbrev pub script_text : ℕ → List ℕ
 script_text seed = each_below (first_step seed) 12 ++ settle_step ++ each_below (graft_round seed) 20 ++ settle_step
 
-abbrev pub made : ℕ → List ℕ
+unfoldable pub made : ℕ → List ℕ
 made seed = tables_text ++ script_text seed

@@ -19,6 +19,7 @@ fn push_tables(text: &mut String) -> Result<(), NoMemory>
 }
 
 /// The laboratory of a seed of 1 to 9,999, as the text of an input.
+#[tactic(auto, unfolding(crate::specs::Made::made))]
 pub fn make_lab(alloc: Global, seed: u32) -> Result<Octets, NoMemory>
     requires lowest { 1 ≤ seed }
     requires highest { seed ≤ 9999 }
