@@ -8,7 +8,7 @@ use Rattle.session_value.specs.Sessions.{SessionValue}
 use Rattle.session_value.specs.Cases.{sending}
 use Rattle.graft_model.specs.Steps.{Beat}
 use Rattle.far_side.specs.Remotes.{RemoteValue}
-use Rattle.far_side.specs.Notes.{WroteOne}
+use Rattle.graft_actors.specs.Notes.{WroteOne}
 use Rattle.far_side.specs.Parts.{far_part, Keeps, ForEach}
 use Rattle.far_side.specs.Passes.{IsDue, Beaten}
 use Rattle.far_side.specs.declared.fields.Fields.{Fields}

@@ -15,7 +15,7 @@ use Rattle.graft_runs.specs.Actors.{FarSide, FarIs}
 use Rattle.graft_runs.specs.Makes.{HasCode}
 use Rattle.graft_actors.specs.Acts.{acts}
 use Rattle.graft_actors.specs.Emissions.{Tally}
-use Rattle.far_side.specs.Notes.{deed_of, WroteOne}
+use Rattle.graft_actors.specs.Notes.{deed_of, WroteOne}
 use Rattle.far_side.specs.Parts.{far_part, own_part}
 use Rattle.far_side.specs.Turns.{CarefulFar, far_tally, FarRound, AreOf, Did}
 use Rattle.far_side.specs.declared.fields.Fields.{Fields}

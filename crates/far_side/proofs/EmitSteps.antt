@@ -17,7 +17,7 @@ use Rattle.graft_model.specs.Steps.{FarEvent, Send}
 use Rattle.graft_actors.specs.Emissions.{reach_of, IsCareful, Tally, counted}
 use Rattle.far_side.specs.Remotes.{RemoteValue, IsFrom, IsSound, EmitsOf}
 use Rattle.far_side.specs.Links.{LinkValue, IsOn, put_now}
-use Rattle.far_side.specs.Notes.{WroteOne}
+use Rattle.graft_actors.specs.Notes.{WroteOne}
 use Rattle.far_side.specs.Parts.{far_part, Keeps, ForEach}
 use Rattle.far_side.specs.Turns.{Did}
 use Rattle.far_side.specs.Passes.{fates_in, put_in, plans_put, Sent, again_events, FreshEvents, answer_events, SentAgain, SentFresh, SentAnswer}

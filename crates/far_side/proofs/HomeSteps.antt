@@ -22,7 +22,7 @@ use Rattle.graft_runs.proofs.Numbers as numbers
 use Rattle.graft_actors.specs.Items.{home_first, remote_first, segment_of, segment_thing, placed_for}
 use Rattle.graft_actors.specs.Emissions.{Tally}
 use Rattle.far_side.specs.Links.{LinkValue, IsOn, act_in, is_gone, older, next_place, home_act, home_event}
-use Rattle.far_side.specs.Notes.{deed_of, WroteOne}
+use Rattle.graft_actors.specs.Notes.{deed_of, WroteOne}
 use Rattle.far_side.specs.Parts.{far_part, own_part, Keeps, ForEach}
 use Rattle.far_side.specs.Turns.{Did}
 use Rattle.far_side.specs.Passes.{SendsHome, SameLink, plans_after, HomeStep, HomePass}

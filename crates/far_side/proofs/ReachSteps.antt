@@ -12,7 +12,7 @@ use Rattle.graft_model.specs.Steps.{FarEvent, Reach, Lose}
 use Rattle.graft_actors.specs.Emissions.{Tally}
 use Rattle.far_side.specs.Remotes.{RemoteValue}
 use Rattle.far_side.specs.Links.{LinkValue, act_in, is_gone, older, next_place, remote_act, remote_event}
-use Rattle.far_side.specs.Notes.{WroteOne}
+use Rattle.graft_actors.specs.Notes.{WroteOne}
 use Rattle.far_side.specs.Parts.{far_part, Keeps, ForEach}
 use Rattle.far_side.specs.Turns.{Did}
 use Rattle.far_side.specs.Passes.{SameLink, plans_after, SameRemote, Arrives, RemoteStep, RemotePass}

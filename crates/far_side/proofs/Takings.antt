@@ -30,7 +30,7 @@ use Rattle.graft_actors.proofs.Welcome.{far_segment, far_point, far_say}
 use Rattle.far_side.specs.Remotes.{RemoteValue, IsFor}
 use Rattle.far_side.specs.Says.{bytes_at}
 use Rattle.far_side.specs.Links.{LinkValue, IsOn}
-use Rattle.far_side.specs.Notes.{deed_of, WroteOne}
+use Rattle.graft_actors.specs.Notes.{deed_of, WroteOne}
 use Rattle.far_side.specs.Parts.{far_part, own_part, say_by, Keeps, ForEach}
 use Rattle.far_side.specs.Passes.{fates_in, put_in, plans_put}
 use Rattle.far_side.specs.Takes.{taken_in, Took, TakesIt, IsOther}
@@ -111,7 +111,7 @@ module _ {C : Type 0} (session : C → SessionValue) where
   pub other_unwelcome : (f : Fields) (from : ℕ) (item : Item C) → IsOther item → IsWelcome session (own_part f) from item → ⊥
   other_unwelcome f from item other w = by_item item other (actor_at f.known.setup from) w.comes
     where
-      by_item : (item : Item C) → IsOther item → (o : Option ActorName) → MayComeFrom f.known.setup o (FarSide f.peering.0) item → ⊥
+      by_item : (item : Item C) → IsOther item → (o : Option ActorName) → MayComeFrom session f.known.setup o (FarSide f.peering.0) item → ⊥
       by_item (items.Seg g) other o m = other
       by_item (items.PointAt k) other o m = other
       by_item (items.SayOrder step) other o m = other

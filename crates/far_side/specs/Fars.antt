@@ -14,6 +14,10 @@ use Rattle.far_side.specs.Turned.{Turned}
 use Rattle.far_side.specs.declared.config.FarConfig.{FarConfig}
 use Rattle.far_side.specs.declared.far.Far.{Far}
 
+-- whose far side it is
+abbrev pub peering_in : Far → ℕ
+peering_in f = f.fields.peering.0
+
 -- the part of the world that a far side is, by itself and as an actor
 abbrev pub part_in : Far → FarPart
 part_in f = far_part f.fields

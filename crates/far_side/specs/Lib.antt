@@ -3,7 +3,6 @@ pub mod RemoteInner
 pub mod Links
 pub mod LinkInner
 pub mod Says
-pub mod Notes
 pub mod Parts
 pub mod Turns
 pub mod Passes

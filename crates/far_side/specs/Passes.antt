@@ -18,7 +18,7 @@ use Rattle.bgp_types.specs.Spelling.{spell}
 use Rattle.graft_actors.specs.Emissions.{reach_of, Tally}
 use Rattle.far_side.specs.Remotes.{RemoteValue, IsSound}
 use Rattle.far_side.specs.Links.{LinkValue, IsOn, act_in, is_gone, older, next_place, home_event, home_events, remote_event, remote_events, left_of, put_now}
-use Rattle.far_side.specs.Notes.{WroteOne}
+use Rattle.graft_actors.specs.Notes.{WroteOne}
 use Rattle.far_side.specs.Parts.{Keeps}
 use Rattle.far_side.specs.Turns.{Did}
 use Rattle.far_side.specs.declared.link.InLink.{InLink}

@@ -8,12 +8,12 @@ ghost use Rattle.tcp_seq.specs.Placed.{placed};
 ghost use Rattle.bgp_types.specs.declared.message.Message.TheVariants.{KeepaliveMsg};
 ghost use Rattle.bgp_types.specs.Spelling.{spell};
 ghost use Rattle.far_side.specs.Remotes.{IsFrom};
-ghost use Rattle.far_side.specs.Notes.{WroteOne};
+ghost use Rattle.graft_actors.specs.Notes.{WroteOne};
 ghost use Rattle.far_side.specs.Parts.{Keeps, ForEach};
 ghost use Rattle.far_side.specs.Passes.{put_in, SentAgain, SentFresh, SentAnswer, Beaten, IsDue};
 
 use crate::fields::Fields;
-use crate::note::note;
+use graft_actors::note;
 use graft_edge::NoMemory;
 use graft_steps::Item;
 use ring_net::Post;

@@ -28,15 +28,13 @@ pub struct Far {
 }
 
 impl Far {
-    ghost use Rattle.std.specs.Prelude.{ℕ, ◌≡◌, ◌≢◌, ◌+◌, ◌↔◌, Bool, false, [], length, IsTrue, OnOk, IfOk};
+    ghost use Rattle.std.specs.Prelude.{◌≡◌, false, OnOk, IfOk};
     ghost use Rattle.ring_net.specs.Posts.{TookItem, Moved, SameEdges};
     ghost use Rattle.tcp_seq.specs.Endpoint.{received_bytes};
     ghost use Rattle.session_value.specs.Sessions.{SessionValue};
-    ghost use Rattle.graft_runs.specs.Actors.{FarSide, FarIs};
-    ghost use Rattle.graft_model.specs.First.{first_far};
-    ghost use Rattle.graft_model.specs.Setups.{Setup};
+    ghost use Rattle.settled_check.specs.Rests.{IsFarRest};
     ghost use Rattle.graft_actors.specs.Acts.{acts};
-    ghost use Rattle.far_side.specs.Fars.{own, part_in, IsConfigOf, IsNew, took, turned};
+    ghost use Rattle.far_side.specs.Fars.{own, part_in, peering_in, IsConfigOf, IsNew, took, turned};
 
     /// The far side that begins with this configuration, in the laboratory that it is of: the remote has said its opening, and
     /// nothing is on the link.
@@ -145,9 +143,7 @@ impl Far {
 
     /// What is left to do.
     pub fn rest(&self) -> FarRest
-        ensures peering { FarSide result.peering.0 ≡ (own self.now).name }
-        ensures bag { result.bag ≡ length (part_in self.now).homeward + length (part_in self.now).remoteward }
-        ensures unacked { IsTrue result.unacked ↔ ((part_in self.now).end.acked ≢ length (part_in self.now).end.stream) }
+        ensures { IsFarRest (peering_in self.now) (part_in self.now) result }
     {
         FarRest {
             peering: self.fields.peering,

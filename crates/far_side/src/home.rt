@@ -9,7 +9,7 @@ ghost use Rattle.far_side.specs.Passes.{HomeStep, HomePass};
 
 use crate::fields::Fields;
 use crate::link::{Act, InLink};
-use crate::note::{note, note_sent};
+use graft_actors::{note, note_sent};
 use graft_edge::{NoMemory, RouterId};
 use graft_steps::Item;
 use ring_net::Post;

@@ -8,7 +8,6 @@ mod fields;
 mod home;
 mod laws;
 mod link;
-mod note;
 mod reach;
 mod remote;
 mod says;

@@ -9,7 +9,7 @@ ghost use Rattle.far_side.specs.Passes.{RemoteStep, RemotePass};
 
 use crate::fields::Fields;
 use crate::link::{Act, InLink};
-use crate::note::note;
+use graft_actors::note;
 use graft_edge::NoMemory;
 use graft_steps::Item;
 use ring_net::Post;

@@ -9,7 +9,7 @@ ghost use Rattle.far_side.specs.Parts.{Keeps, ForEach};
 ghost use Rattle.far_side.specs.Takes.{TakesIt, IsOther};
 
 use crate::fields::Fields;
-use crate::note::note;
+use graft_actors::note;
 use graft_edge::{NoMemory, RouterId};
 use graft_steps::Item;
 use ring_net::Post;

@@ -41,7 +41,7 @@ use Rattle.operator_core.specs.Keeps.{grafts_before, Waits, Keeps}
 use Rattle.operator_core.specs.Issues.{IsHeld, waiting_are}
 use Rattle.operator_core.specs.Tasks.{unissued}
 use Rattle.operator_core.specs.Notes.{graft_noted}
-use Rattle.operator_core.specs.Events.{deed_at}
+use Rattle.graft_actors.specs.Notes.{deed_of, WroteOne}
 use Rattle.operator_core.specs.Turns.{NothingToOrder, IsHeldUp}
 use Rattle.operator_core.specs.Progresses.{state, own_part_of, IsKnown, IsSound, HasSeats, HasEntries, IsOpenPlace, Ends, SameScript, HeldUpTo, IsUnchanged, Visits, Does, Turns, Takes}
 use Rattle.operator_core.proofs.Lists.{compare, all_append_right}
@@ -187,48 +187,48 @@ module _ {C : Type 0} where
   -- ---- a take
 
   -- nothing but a report may come to the operator
-  only_reports : (setup : Setup) (o : Option ActorName) (item : Item C) → ((k : ℕ) (x : Outcome) → item ≡ items.Report k x → ⊥) → MayComeFrom setup o Operator item → ⊥
-  only_reports setup None (items.Seg g) not_report comes = absurd comes
-  only_reports setup (Some (Router r)) (items.Seg g) not_report comes = absurd comes
-  only_reports setup (Some (FarSide p)) (items.Seg g) not_report comes = absurd comes
-  only_reports setup (Some Operator) (items.Seg g) not_report comes = absurd comes
-  only_reports setup None (items.PointAt k) not_report comes = absurd comes
-  only_reports setup (Some (Router r)) (items.PointAt k) not_report comes = absurd comes
-  only_reports setup (Some (FarSide p)) (items.PointAt k) not_report comes = absurd comes
-  only_reports setup (Some Operator) (items.PointAt k) not_report comes = absurd comes
-  only_reports setup None (items.Told prefix route) not_report comes = absurd comes
-  only_reports setup (Some (Router r)) (items.Told prefix route) not_report comes = absurd comes
-  only_reports setup (Some (FarSide p)) (items.Told prefix route) not_report comes = absurd comes
-  only_reports setup (Some Operator) (items.Told prefix route) not_report comes = absurd comes
-  only_reports setup None (items.Moved k capsule) not_report comes = absurd comes
-  only_reports setup (Some (Router r)) (items.Moved k capsule) not_report comes = absurd comes
-  only_reports setup (Some (FarSide p)) (items.Moved k capsule) not_report comes = absurd comes
-  only_reports setup (Some Operator) (items.Moved k capsule) not_report comes = absurd comes
-  only_reports setup None (items.Back k capsule refusal) not_report comes = absurd comes
-  only_reports setup (Some (Router r)) (items.Back k capsule refusal) not_report comes = absurd comes
-  only_reports setup (Some (FarSide p)) (items.Back k capsule refusal) not_report comes = absurd comes
-  only_reports setup (Some Operator) (items.Back k capsule refusal) not_report comes = absurd comes
-  only_reports setup None (items.Done k peering) not_report comes = absurd comes
-  only_reports setup (Some (Router r)) (items.Done k peering) not_report comes = absurd comes
-  only_reports setup (Some (FarSide p)) (items.Done k peering) not_report comes = absurd comes
-  only_reports setup (Some Operator) (items.Done k peering) not_report comes = absurd comes
-  only_reports setup None (items.GraftOrder k peering target) not_report comes = absurd comes
-  only_reports setup (Some (Router r)) (items.GraftOrder k peering target) not_report comes = absurd comes
-  only_reports setup (Some (FarSide p)) (items.GraftOrder k peering target) not_report comes = absurd comes
-  only_reports setup (Some Operator) (items.GraftOrder k peering target) not_report comes = absurd comes
-  only_reports setup None (items.Report k x) not_report comes = absurd comes
-  only_reports setup (Some (Router r)) (items.Report k x) not_report comes = not_report k x refl
-  only_reports setup (Some (FarSide p)) (items.Report k x) not_report comes = absurd comes
-  only_reports setup (Some Operator) (items.Report k x) not_report comes = absurd comes
-  only_reports setup None (items.SayOrder step) not_report comes = absurd comes
-  only_reports setup (Some (Router r)) (items.SayOrder step) not_report comes = absurd comes
-  only_reports setup (Some (FarSide p)) (items.SayOrder step) not_report comes = absurd comes
-  only_reports setup (Some Operator) (items.SayOrder step) not_report comes = absurd comes
+  only_reports : (session : C → SessionValue) (setup : Setup) (o : Option ActorName) (item : Item C) → ((k : ℕ) (x : Outcome) → item ≡ items.Report k x → ⊥) → MayComeFrom session setup o Operator item → ⊥
+  only_reports session setup None (items.Seg g) not_report comes = absurd comes
+  only_reports session setup (Some (Router r)) (items.Seg g) not_report comes = absurd comes
+  only_reports session setup (Some (FarSide p)) (items.Seg g) not_report comes = absurd comes
+  only_reports session setup (Some Operator) (items.Seg g) not_report comes = absurd comes
+  only_reports session setup None (items.PointAt k) not_report comes = absurd comes
+  only_reports session setup (Some (Router r)) (items.PointAt k) not_report comes = absurd comes
+  only_reports session setup (Some (FarSide p)) (items.PointAt k) not_report comes = absurd comes
+  only_reports session setup (Some Operator) (items.PointAt k) not_report comes = absurd comes
+  only_reports session setup None (items.Told prefix route) not_report comes = absurd comes
+  only_reports session setup (Some (Router r)) (items.Told prefix route) not_report comes = absurd comes
+  only_reports session setup (Some (FarSide p)) (items.Told prefix route) not_report comes = absurd comes
+  only_reports session setup (Some Operator) (items.Told prefix route) not_report comes = absurd comes
+  only_reports session setup None (items.Moved k capsule) not_report comes = absurd comes
+  only_reports session setup (Some (Router r)) (items.Moved k capsule) not_report comes = absurd comes
+  only_reports session setup (Some (FarSide p)) (items.Moved k capsule) not_report comes = absurd comes
+  only_reports session setup (Some Operator) (items.Moved k capsule) not_report comes = absurd comes
+  only_reports session setup None (items.Back k capsule refusal) not_report comes = absurd comes
+  only_reports session setup (Some (Router r)) (items.Back k capsule refusal) not_report comes = absurd comes
+  only_reports session setup (Some (FarSide p)) (items.Back k capsule refusal) not_report comes = absurd comes
+  only_reports session setup (Some Operator) (items.Back k capsule refusal) not_report comes = absurd comes
+  only_reports session setup None (items.Done k peering) not_report comes = absurd comes
+  only_reports session setup (Some (Router r)) (items.Done k peering) not_report comes = absurd comes
+  only_reports session setup (Some (FarSide p)) (items.Done k peering) not_report comes = absurd comes
+  only_reports session setup (Some Operator) (items.Done k peering) not_report comes = absurd comes
+  only_reports session setup None (items.GraftOrder k peering target) not_report comes = absurd comes
+  only_reports session setup (Some (Router r)) (items.GraftOrder k peering target) not_report comes = absurd comes
+  only_reports session setup (Some (FarSide p)) (items.GraftOrder k peering target) not_report comes = absurd comes
+  only_reports session setup (Some Operator) (items.GraftOrder k peering target) not_report comes = absurd comes
+  only_reports session setup None (items.Report k x) not_report comes = absurd comes
+  only_reports session setup (Some (Router r)) (items.Report k x) not_report comes = not_report k x refl
+  only_reports session setup (Some (FarSide p)) (items.Report k x) not_report comes = absurd comes
+  only_reports session setup (Some Operator) (items.Report k x) not_report comes = absurd comes
+  only_reports session setup None (items.SayOrder step) not_report comes = absurd comes
+  only_reports session setup (Some (Router r)) (items.SayOrder step) not_report comes = absurd comes
+  only_reports session setup (Some (FarSide p)) (items.SayOrder step) not_report comes = absurd comes
+  only_reports session setup (Some Operator) (items.SayOrder step) not_report comes = absurd comes
 
-  pub take_drops : (p : Progress) (from : ℕ) (item : Item C) (before after : Post (Item C)) → ActorsHaveNumbers → IsSound p → ((taken : Option (ℕ × Item C)) → Wrote before (deed_at before 0 0 taken [] ∷ []) after)
+  pub take_drops : (p : Progress) (from : ℕ) (item : Item C) (before after : Post (Item C)) → ActorsHaveNumbers → IsSound p → WroteOne before 0 0 0 0 [] after
       → ((session : C → SessionValue) → ¬ IsWelcome session (own_part_of (state p)) from item) → Takes from item p before p after
   take_drops p from item before after numbers sound wrote unwelcome = record {
-    deed = deed_at before 0 0 (Some (from, item)) [];
+    deed = deed_of before 0 0 0 0 (Some (from, item)) [];
     does = record {
       wrote = wrote (Some (from, item));
       replay = λ session. (own_part_of (state p), drops session p.known.setup (part_of (state p)) (part_of (state p)) (clock_of before + 1) (actor_of before) from item (unwelcome session) refl, refl);
@@ -239,7 +239,7 @@ module _ {C : Type 0} where
   }
 
   pub other_unwelcome : (p : Progress) (from : ℕ) (item : Item C) (session : C → SessionValue) → ((k : ℕ) (x : Outcome) → item ≡ items.Report k x → ⊥) → ¬ IsWelcome session (own_part_of (state p)) from item
-  other_unwelcome p from item session other welcome = only_reports p.known.setup (actor_at p.known.setup from) item other welcome.comes
+  other_unwelcome p from item session other welcome = only_reports session p.known.setup (actor_at p.known.setup from) item other welcome.comes
 
   pub stranger_unwelcome : (p : Progress) (from k : ℕ) (x : Outcome) (session : C → SessionValue) → TakesReports C → NumbersAreOfActors → IsKnown p → length p.script.rooms ≤ from → ¬ IsWelcome session (own_part_of (state p)) from (items.Report k x)
   stranger_unwelcome p from k x session law actors known le welcome =
@@ -260,9 +260,9 @@ module _ {C : Type 0} where
       absurd cc
 
   pub take_notes : (old new : Progress) (from k place : ℕ) (x : Outcome) (before after : Post (Item C)) → ActorsHaveNumbers → TakesReports C → IsSound old → from < length old.script.rooms → IsOpenPlace old.log k (Some place)
-      → ((taken : Option (ℕ × Item C)) → Wrote before (deed_at before (number_of kinds.Note) from taken [] ∷ []) after) → Ends old place x new → Takes from (items.Report k x) old before new after
+      → WroteOne before (number_of kinds.Note) from 0 0 [] after → Ends old place x new → Takes from (items.Report k x) old before new after
   take_notes old new from k place x before after numbers law sound l is_place wrote ends = record {
-    deed = deed_at before (number_of kinds.Note) from (Some (from, items.Report k x)) [];
+    deed = deed_of before (number_of kinds.Note) from 0 0 (Some (from, items.Report k x)) [];
     does = record {
       wrote = wrote (Some (from, items.Report k x));
       replay = λ session. (
@@ -398,9 +398,8 @@ pub differ : (b : Bool) → b ≡ true → b ≡ false → ⊥
 differ b e f = let g : true ≡ false = sym e ∙ f in cc
 
 -- an event of a kind by its number
-pub note_at : {C : Type 0} (before after : Post (Item C)) (kind number a : ℕ) → kind ≡ number → ((taken : Option (ℕ × Item C)) → Wrote before (deed_at before kind a taken [] ∷ []) after)
-    → (taken : Option (ℕ × Item C)) → Wrote before (deed_at before number a taken [] ∷ []) after
-note_at before after kind number a same wrote taken = subst (λ n. Wrote before (deed_at before n a taken [] ∷ []) after) same (wrote taken)
+pub note_at : {C : Type 0} (before after : Post (Item C)) (kind number a : ℕ) (sent : List (ℕ × Item C)) → kind ≡ number → WroteOne before kind a 0 0 sent after → WroteOne before number a 0 0 sent after
+note_at before after kind number a sent same wrote = subst (λ n. WroteOne before n a 0 0 sent after) same wrote
 
 pub not_issued : (b : Bool) → not b ≡ true → b ≡ false
 not_issued true e = absurd cc

@@ -32,7 +32,7 @@ use Rattle.operator_core.specs.Grafts.{is_open, first_log, seat_at}
 use Rattle.operator_core.specs.Tasks.{task_for, unissued}
 use Rattle.operator_core.specs.States.{State, part_of}
 use Rattle.operator_core.specs.Keeps.{StepsAreSound, Keeps}
-use Rattle.operator_core.specs.Events.{deed_at}
+use Rattle.graft_actors.specs.Notes.{deed_of, WroteOne}
 use Rattle.operator_core.specs.Turns.{IsHeldUp}
 use Rattle.operator_core.specs.Progresses.{state, own_part_of, IsKnown, IsSound, Goes, Begins}
 use Rattle.operator_core.proofs.Steps.{settle_there, settle_back, as_many_routers, as_many_peerings, as_many_steps, step_at}
@@ -111,9 +111,9 @@ module _ {C : Type 0} (old new : Progress) (before after : Post (Item C)) (sound
 
   pub go_begins : (IsHeldUp old.known.setup (part_of (state old)) → ⊥) → (group : Group) → IsGroupFrom old.script.steps old.next group → IsKnown new → new.known ≡ old.known
       → state new ≡ record (state old) { group = old.group + 1; next = group.next; waiting = group.steps }
-      → ((taken : Option (ℕ × Item C)) → Wrote before (deed_at before (number_of kinds.Go) 0 taken [] ∷ []) after) → Goes old before new after true
+      → WroteOne before (number_of kinds.Go) 0 0 0 [] after → Goes old before new after true
   go_begins free group from known same new_is wrote = record {
-    deeds = deed_at before (number_of kinds.Go) 0 None [] ∷ [];
+    deeds = deed_of before (number_of kinds.Go) 0 0 0 None [] ∷ [];
     does = record {
       wrote = wrote None;
       replay = λ session. (own_part_of (record (state old) { group = old.group + 1; next = old.next + length group.steps + 1; waiting = range_with_len old.next (length group.steps) }), goes session old.known.setup (part_of (state old)) (part_of (record (state old) { group = old.group + 1; next = old.next + length group.steps + 1; waiting = range_with_len old.next (length group.steps) })) (clock_of before + 1) (actor_of before) row, ap own_part_of whole);

@@ -24,7 +24,7 @@ use Rattle.operator_core.specs.declared.script.ScriptStep.TheVariants.{Say, Graf
 use Rattle.operator_core.specs.States.{State, part_of}
 use Rattle.operator_core.specs.Keeps.{grafts_before, Waits, Keeps}
 use Rattle.operator_core.specs.Issues.{IsHeld, waiting_are, graft_issued}
-use Rattle.operator_core.specs.Events.{deed_at}
+use Rattle.graft_actors.specs.Notes.{deed_of}
 use Rattle.operator_core.specs.Tasks.{unissued}
 use Rattle.operator_core.specs.Progresses.{state, own_part_of, IsKnown, SameScript, HeldUpTo, IssuesGraft, Visits}
 use Rattle.operator_core.proofs.Lists.{all_append, all_append_right, all_map, length_set}
@@ -99,9 +99,9 @@ module _ {C : Type 0} (old : Progress) (place : ℕ) (task : Task) (there : slic
     then a b c h k = record { known = k.known ∙ h.known; script = k.script ∙ h.script; numbers = k.numbers ∙ h.numbers; group = k.group ∙ h.group; next = k.next ∙ h.next }
 
     pub visit_says : (p : PeeringId) → slice_get old.script.steps task.step ≡ Some (Say p) → SameScript old mid → mid.waiting.items ≡ old.waiting.items → state mid ≡ state old
-        → Wrote before (deed_at before (number_of kinds.Order) task.step None ((length old.script.rooms + p.0, SayOrder task.step) ∷ []) ∷ []) after → Visits old place before new after
+        → Wrote before (deed_of before (number_of kinds.Order) task.step 0 0 None ((length old.script.rooms + p.0, SayOrder task.step) ∷ []) ∷ []) after → Visits old place before new after
     visit_says p is same waiting state_is wrote = record {
-      deeds = deed_at before (number_of kinds.Order) task.step None ((length old.script.rooms + p.0, SayOrder task.step) ∷ []) ∷ [];
+      deeds = deed_of before (number_of kinds.Order) task.step 0 0 None ((length old.script.rooms + p.0, SayOrder task.step) ∷ []) ∷ [];
       wrote = wrote;
       none = (refl, tt);
       same = then old mid new same mid_new;
@@ -129,7 +129,7 @@ module _ {C : Type 0} (old : Progress) (place : ℕ) (task : Task) (there : slic
     pub visit_orders : (p : PeeringId) (target : RouterId) → slice_get old.script.steps task.step ≡ Some (Graft p target) → (seat : Seat) → slice_get old.seats.items p.0 ≡ Some seat → seat.moving ≡ false
         → IssuesGraft old task.step p target before mid after → Visits old place before new after
     visit_orders p target is seat seated still issued = record {
-      deeds = deed_at before (number_of kinds.Order) task.step None ((issued.seat.place.0, GraftOrder (slice_index_or old.numbers task.step 0) p target) ∷ []) ∷ [];
+      deeds = deed_of before (number_of kinds.Order) task.step 0 0 None ((issued.seat.place.0, GraftOrder (slice_index_or old.numbers task.step 0) p target) ∷ []) ∷ [];
       wrote = issued.wrote;
       none = (refl, tt);
       same = then old mid new issued.same mid_new;

@@ -6,7 +6,6 @@ pub mod States
 pub mod Keeps
 pub mod Issues
 pub mod Notes
-pub mod Events
 pub mod Progresses
 pub mod Turns
 pub mod Operators

@@ -30,7 +30,7 @@ use Rattle.operator_core.specs.Groups.{AreNumbers}
 use Rattle.operator_core.specs.States.{State, part_of}
 use Rattle.operator_core.specs.Keeps.{Keeps}
 use Rattle.operator_core.specs.Issues.{IsHeld, graft_issued}
-use Rattle.operator_core.specs.Events.{deed_at}
+use Rattle.graft_actors.specs.Notes.{deed_of}
 
 abbrev pub state : Progress → State
 state p = record { setup = p.known.setup; group = p.group; next = p.next; waiting = unissued p.waiting.items; log = p.log; seats = p.seats.items }
@@ -103,7 +103,7 @@ module _ {C : Type 0} where
     pub same : SameScript old new
     pub waiting : new.waiting.items ≡ old.waiting.items
     pub changes : state new ≡ graft_issued (state old) (slice_index_or old.numbers step 0 - 1) peering.0 target.0 seat
-    pub wrote : Wrote before (deed_at before (number_of kinds.Order) step None ((seat.place.0, GraftOrder (slice_index_or old.numbers step 0) peering target) ∷ []) ∷ []) after
+    pub wrote : Wrote before (deed_of before (number_of kinds.Order) step 0 0 None ((seat.place.0, GraftOrder (slice_index_or old.numbers step 0) peering target) ∷ []) ∷ []) after
 
   -- A task is visited, where those before it are issued or held up: it was issued, or is held up.
   pub record Visits (old : Progress) (place : ℕ) (before : Post (Item C)) (new : Progress) (after : Post (Item C)) : Type 0 where

@@ -2,7 +2,6 @@
 //! sessions are to move, and keeps the log of grafts.
 #![tactic(auto)]
 
-mod events;
 mod grafts;
 mod groups;
 mod operator;

@@ -5,12 +5,12 @@ ghost use Rattle.ring_net.specs.Posts.{Wrote, SameEdges};
 ghost use Rattle.graft_steps.specs.declared.item.Item.{Item};
 ghost use Rattle.graft_model.specs.declared.kind.EventKind.TheVariants as kinds;
 ghost use Rattle.graft_model.specs.Codes.{number_of};
+ghost use Rattle.graft_actors.specs.Notes.{deed_of};
 
-use crate::events::{note_alone, note_and_send};
 use crate::grafts::{Seat, first_open, first_seats, is_issued, set_entry, waiting_log};
 use crate::groups::{Task, drop_issued, graft_numbers, group_from, has_unissued, new_tasks};
 use crate::script::{Script, ScriptStep};
-use graft_actors::{Known, the_operator_takes_what_comes};
+use graft_actors::{Known, note, note_sent, the_operator_takes_what_comes};
 use graft_edge::{Items, NoMemory, PeeringId, RouterId};
 use graft_model::EventKind;
 use graft_runs::actors_have_their_numbers;
@@ -36,9 +36,21 @@ pub(crate) struct Progress {
     pub(crate) seats: Vec<Seat>,
 }
 
+/// Notes the order of a step, and sends it.
+fn note_order<C: Drop>(
+    post: &mut Post<Item<C>>,
+    step: u32,
+    to: usize,
+    item: Item<C>,
+) -> Result<(), NoMemory>
+    ensures ok { OnOk result (Wrote post.old (deed_of post.old (number_of kinds.Order) step 0 0 None ((to, item) ∷ []) ∷ []) post.new) }
+    ensures edges { SameEdges post.old post.new }
+{
+    note_sent(post, EventKind::Order.number(), step, 0, 0, to, item)
+}
+
 impl Progress {
     ghost use Rattle.operator_core.specs.declared.groups.Task.{Task};
-    ghost use Rattle.operator_core.specs.Events.{deed_at};
     ghost use Rattle.operator_core.specs.Progresses.{state, IsKnown, IsSound, HasSeats, HasEntries, IsOpenPlace, Ends, SameScript, IssuesGraft, IsUnchanged, Visits, Turns, Takes, Goes, Begins};
     ghost use Rattle.settled_check.specs.Rests.{IsOperatorRest};
     ghost use Rattle.operator_core.specs.States.{part_of};
@@ -77,17 +89,11 @@ impl Progress {
         post: &mut Post<Item<C>>,
     ) -> Result<(), NoMemory>
         requires few { length self.now.script.rooms ≤ 256 }
-        ensures ok { OnOk result (Wrote post.old (deed_at post.old (number_of kinds.Order) step None ((length self.now.script.rooms + peering.0, Item.SayOrder step) ∷ []) ∷ []) post.new) }
+        ensures ok { OnOk result (Wrote post.old (deed_of post.old (number_of kinds.Order) step 0 0 None ((length self.now.script.rooms + peering.0, Item.SayOrder step) ∷ []) ∷ []) post.new) }
         ensures edges { SameEdges post.old post.new }
     {
         let far_side = self.script.rooms.len() + usize::from(peering.0);
-        note_and_send(
-            post,
-            EventKind::Order,
-            step,
-            far_side,
-            Item::SayOrder { step },
-        )
+        note_order(post, step, far_side, Item::SayOrder { step })
     }
 
     /// Orders the graft at the router where the session belongs.
@@ -113,13 +119,7 @@ impl Progress {
             peering,
             target,
         };
-        note_and_send(
-            post,
-            EventKind::Order,
-            step as u32,
-            usize::from(seat.place.0),
-            order,
-        )?;
+        note_order(post, step as u32, usize::from(seat.place.0), order)?;
         let entry = GraftEntry {
             graft,
             peering,
@@ -323,15 +323,15 @@ impl Progress {
         actors_have_their_numbers();
         the_operator_takes_what_comes::<C>();
         let Item::Report { graft, outcome } = item else {
-            return note_alone(post, 0, 0);
+            return note(post, 0, 0, 0, 0);
         };
         if from >= self.script.rooms.len() {
-            return note_alone(post, 0, 0);
+            return note(post, 0, 0, 0, 0);
         }
         let Some(place) = self.open_place(graft) else {
-            return note_alone(post, 0, 0);
+            return note(post, 0, 0, 0, 0);
         };
-        note_alone(post, EventKind::Note.number(), from as u32)?;
+        note(post, EventKind::Note.number(), from as u32, 0, 0)?;
         self.end(place, outcome);
         Ok(())
     }
@@ -364,7 +364,7 @@ impl Progress {
         }
         let group = group_from(self.alloc, self.script.steps.as_slice(), self.next)?;
         let waiting = new_tasks(self.alloc, group.steps.as_slice())?;
-        note_alone(post, EventKind::Go.number(), 0)?;
+        note(post, EventKind::Go.number(), 0, 0, 0)?;
         self.group += 1;
         self.next = group.next;
         self.waiting = waiting;

@@ -1,5 +1,5 @@
 use Rattle.std.proofs.Common.{ℕ, [], ap, subst, ◌∙◌}
-use Rattle.far_side.specs.Notes.{WroteOne}
+use Rattle.graft_actors.specs.Notes.{WroteOne}
 use Rattle.std.proofs.lemmas.Result.{on_ok_weaker}
 use Rattle.tcp_seq.specs.Endpoint.{PlacedSegment}
 use Rattle.far_side.specs.Links.{LinkValue}

@@ -1,6 +1,6 @@
 use Rattle.std.proofs.Common.{ℕ, [], length, subst}
 use Rattle.std.proofs.lemmas.Result.{on_ok_weaker}
-use Rattle.far_side.specs.Notes.{WroteOne}
+use Rattle.graft_actors.specs.Notes.{WroteOne}
 use Rattle.far_side.proofs.EmitSteps.{sent_answer_each}
 use Rattle.far_side.proofs.emit.send_answer.Goals as goal
 
