@@ -43,6 +43,8 @@ pub mod ToldNone
 pub mod HeardNone
 pub mod Answered
 pub mod TableLaws
+pub mod AwayUp
+pub mod DueHeld
 pub mod QuietPhases
 pub mod SolvesOn
 pub mod SolvesBest
