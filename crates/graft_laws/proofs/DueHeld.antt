@@ -1,13 +1,12 @@
 -- What is due on a peering is due where an established session is held.
 use Rattle.std.proofs.Common.{◌≡◌, ◌≢◌, ◌==◌, ℕ, zero, suc, Bool, true, false, List, Option, Some, None, refl, sym, ap, ◌∙◌, subst, ◌⊎◌, inl, inr}
-use Rattle.std.specs.Prelude.{◌||◌, ◌&&◌, ◌+◌, ◌%◌, ◌/◌, is_some}
+use Rattle.std.specs.Prelude.{◌||◌, ◌&&◌, ◌+◌, ◌%◌, ◌/◌}
 use Rattle.std.specs.FinMap as map
 use Rattle.std.proofs.lemmas.Bool.{cases_eq}
 use Rattle.bgp_types.specs.declared.message.SessionState.{SessionState}
 use Rattle.bgp_types.specs.declared.message.SessionState.TheVariants.{OpenSent, OpenConfirm, Established, Closed}
 use Rattle.bgp_types.specs.FirstFault.{message_of}
 use Rattle.bgp_types.specs.Prefixes.{PrefixValue, same_prefix}
-use Rattle.bgp_types.specs.Tables.{prefix_cmp}
 use Rattle.bgp_story.specs.Legal.{expected_next, silence}
 use Rattle.graft_steps.specs.declared.refusal.Refusal.{Refusal}
 use Rattle.session_value.specs.Cases.{GetsFrame, PassesRound}
@@ -29,6 +28,7 @@ use Rattle.graft_laws.specs.Moves.{RouterHeads}
 use Rattle.graft_laws.specs.Tables.{DueIsHeld}
 use Rattle.graft_laws.proofs.AwayUp.{moved_up, back_up}
 use Rattle.graft_laws.proofs.Moves.{router_moves, far_moves, operator_moves}
+use Rattle.graft_laws.proofs.PrefixTables.{has_none}
 use Rattle.graft_laws.proofs.Routers.{at_same, at_apart, at_keeps}
 use Rattle.graft_laws.proofs.Runs.{carried}
 use Rattle.graft_laws.proofs.TableLaws.{live_story}
@@ -93,9 +93,6 @@ one_or_last : (a b c : Bool) → (a || (b && c)) ≡ true → (a ≡ true) ⊎ (
 one_or_last true b c e = inl refl
 one_or_last false true c e = inr e
 one_or_last false false c e = absurd cc
-
-has_none : (x : PrefixValue) → has map.empty x ≡ false
-has_none x = ap is_some (map.get-empty prefix_cmp x)
 
 -- ---- the rows
 

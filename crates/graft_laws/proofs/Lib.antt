@@ -50,3 +50,8 @@ pub mod SolvesOn
 pub mod SolvesBest
 pub mod Solves
 pub mod QuietSolves
+pub mod Sendable
+pub mod FarOctets
+pub mod HeardSendable
+pub mod FineRouters
+pub mod FineWorlds

@@ -1,10 +1,14 @@
 //! What holds after every list of events.
 
-ghost use Rattle.std.specs.Prelude.{ℕ, ◌≡◌, ◌≢◌, ◌<◌, ◌≤◌, ◌+◌, ◌^◌, List, [], ◌∷◌, length, true, false, Some, None, slice_get};
+ghost use Rattle.std.specs.Prelude.{ℕ, ◌≡◌, ◌≢◌, ◌<◌, ◌≤◌, ◌+◌, ◌^◌, List, [], ◌∷◌, length, true, false, Option, Some, None, slice_get};
 ghost use Rattle.std.specs.List.{AllByRecursion};
+ghost use Rattle.bgp_types.specs.declared.attrs.Attrs.{Attrs};
+ghost use Rattle.bgp_types.specs.Prefixes.{PrefixValue};
+ghost use Rattle.bgp_types.specs.Writable.{IsWritableAttrs};
 ghost use Rattle.session_value.specs.Sessions.{SessionValue};
 ghost use Rattle.graft_model.specs.Setups.{Setup, PeeringSetup, SayStep, MoveStep, IsSetup, peerings_in, graft_number};
-ghost use Rattle.graft_model.specs.Parts.{World};
+ghost use Rattle.graft_model.specs.Decisions.{to_tell};
+ghost use Rattle.graft_model.specs.Parts.{Order, Live, World};
 ghost use Rattle.graft_model.specs.OperatorRows.{placement};
 ghost use Rattle.graft_model.specs.First.{first_world};
 ghost use Rattle.graft_model.specs.Steps.{Event, Run, RouterEvent, FarEvent, OperatorEvent, RouterStep, FarStep, OperatorStep};
@@ -20,6 +24,7 @@ ghost use Rattle.graft_laws.specs.Facts.{NothingIsDropped, IsNowhereElse, IsUnde
 ghost use Rattle.graft_laws.specs.Streams.{IsUnbroken, ArePlaced};
 ghost use Rattle.graft_laws.specs.Said.{Said, IsSayOf};
 ghost use Rattle.graft_laws.specs.Pointing.{Points};
+ghost use Rattle.graft_laws.specs.Ranges.{IsInRange};
 ghost use Rattle.graft_laws.specs.Tables.{Decided, Informed, Answered, DueIsHeld, IsWhole};
 
 /// Each channel is a queue. What an event takes stands at the head of its channel, what it sends goes to the ends of channels in the order of
@@ -113,6 +118,13 @@ pub fn tables_are_what_is_decided()
 /// Something is due on a peering only at a router that holds its session, established, live or frozen.
 pub fn what_is_due_is_held()
     ensures { (setup : Setup) (w : World) (r : ℕ) → IsSetup setup → Reached setup w → DueIsHeld (w.router r) }
+{}
+
+/// What is to be told on a live session can be written, with that session's own address for its next hop (RFC 4271, sections 4.3 and 5.1.3). It is said of a setup
+/// whose numbers are in the ranges of their types, as are those of every setup that a program reads.
+pub fn what_is_told_can_be_written()
+    ensures { (setup : Setup) (w : World) (r p : ℕ) (session : SessionValue) (order : Option Order) (x : PrefixValue) (attrs : Attrs) → IsSetup setup → IsInRange setup → Reached setup w
+        → (w.router r).places p ≡ Live session order → to_tell setup r (w.router r) session x ≡ Some attrs → IsWritableAttrs attrs }
 {}
 
 /// Where nothing is left to do, the tables of all routers solve the decision equations (RFC 4271, section 9.1) for the placement by the operator's log:
