@@ -23,6 +23,7 @@ use Rattle.graft_model.specs.Points.{at}
 use Rattle.graft_model.specs.RouterRows.{RouterTaken, MeshIn, RouterSent, MeshTo, OutwardTo, ReportOut, BringsIn, FollowsHeard, Follows}
 use Rattle.graft_model.specs.Setups.{Setup, has_network, peering_numbers, router_numbers}
 use Rattle.graft_model.specs.Steps.{RouterEvent, Put, Emit, Arrive, Stray, Got, Decide, Tell, Hear, Admit, Refuse, Freeze, Leave, Land, TurnBack, Return, Clear, Tick, router_row}
+use Rattle.graft_model.specs.TableRows.{Decides, Hears, with_telling}
 use Rattle.graft_laws.specs.Ranges.{IsInRange}
 use Rattle.graft_laws.proofs.HeardSendable.{IsFine, gets_fine, passes_fine}
 use Rattle.graft_laws.proofs.Lists.{all_join, filter_all}
@@ -180,6 +181,44 @@ module _ (setup : Setup) (ranges : IsInRange setup) (r : ℕ) (before after : Ro
       by_heard x entry e (inl stays) = fine.entries p x entry (sym stays.1 ∙ e)
       by_heard x entry e (inr other) = entry_sendable setup ranges r next x entry own.remote_as (own.heard x) (sym other.1 ∙ e)
 
+  decides : (prefix : PrefixValue) (taken : Option RouterTaken) (sent : List RouterSent) → Decides setup r prefix before taken sent after → Finely after sent
+  decides prefix taken sent row = record {
+    part = record {
+      places = λ n. subst (λ (u : RouterPart). IsFinePlace (u.places n)) (sym row.effect) (fine.places n);
+      entries = λ n. subst (λ (u : RouterPart). AreFineEntries (u.entries n)) (sym row.effect) (fine.entries n);
+      tellings = λ q. subst (λ (u : RouterPart). AreFineTellings (u.tellings q)) (sym row.effect) (fine.tellings q);
+      best = λ x b e. by_prefix x b (same x prefix) (sym (get_with before.best prefix (chosen setup r before prefix) x) ∙ (ap (λ (u : RouterPart). map.get u.best x) (sym row.effect) ∙ e));
+    };
+    items = subst (AllByRecursion IsFineSent) (sym row.alone.1) tt;
+  } where
+    by_prefix : (x : PrefixValue) (b : Best) (t : Bool) → cond t (chosen setup r before prefix) (map.get before.best x) ≡ Some b → IsSendable b.route.attrs
+    by_prefix x b true e = chosen_fine prefix b e
+    by_prefix x b false e = fine.best x b e
+
+  hears : (q : ℕ) (taken : Option RouterTaken) (sent : List RouterSent) → IsFineTaken taken → Hears q before taken sent after → Finely after sent
+  hears q taken sent come row = record {
+    part = record {
+      places = λ n. subst (λ (u : RouterPart). IsFinePlace (u.places n)) (sym row.effect) (fine.places n);
+      entries = λ n. subst (λ (u : RouterPart). AreFineEntries (u.entries n)) (sym row.effect) (fine.entries n);
+      tellings = λ n. subst (λ (u : RouterPart). AreFineTellings (u.tellings n)) (sym row.effect) (at_keeps (λ m ts. AreFineTellings ts) before.tellings q _ heard fine.tellings n);
+      best = λ x b e. fine.best x b (ap (λ (u : RouterPart). map.get u.best x) (sym row.effect) ∙ e);
+    };
+    items = subst (AllByRecursion IsFineSent) (sym row.sends) tt;
+  } where
+    item : IsFineItem (Told row.prefix row.route)
+    item = subst IsFineTaken row.takes come
+
+    told : (o : Option Route) → IsFineItem (Told row.prefix o) → (route : Route) → o ≡ Some route → IsSendable route.attrs
+    told None i route e = absurd cc
+    told (Some t) i route e = subst (λ (v : Route). IsSendable v.attrs) (same_Some t route e) i
+
+    by_prefix : (x : PrefixValue) (route : Route) (t : Bool) → cond t row.route (map.get (before.tellings q) x) ≡ Some route → IsSendable route.attrs
+    by_prefix x route true e = told row.route item route e
+    by_prefix x route false e = fine.tellings q x route e
+
+    heard : AreFineTellings (with_telling (before.tellings q) row.prefix row.route)
+    heard x route e = by_prefix x route (same x row.prefix) (sym (get_telling (before.tellings q) row.prefix row.route x) ∙ e)
+
   pub fine_row : (event : RouterEvent) (taken : Option RouterTaken) (sent : List RouterSent) → ((p : ℕ) (s : SessionValue) (o : Option Order) → before.places p ≡ Live s o → AreOctets (unread s))
       → IsFineTaken taken → router_row setup r event before taken sent after → Finely after sent
   fine_row (Put p zero) taken sent octets come row = record {
@@ -210,44 +249,12 @@ module _ (setup : Setup) (ranges : IsInRange setup) (r : ℕ) (before after : Ro
     part = follows p row.session row.next row.order (gets_fine row.session row.next row.bytes (octets p row.session row.order row.live.is) row.gets (live_fine p row.session row.order row.live.is)) row.follows;
     items = subst (AllByRecursion IsFineSent) (sym row.alone.1) tt;
   }
-  fine_row (Decide prefix) taken sent octets come row = record {
-    part = record {
-      places = λ n. subst (λ (u : RouterPart). IsFinePlace (u.places n)) (sym row.effect) (fine.places n);
-      entries = λ n. subst (λ (u : RouterPart). AreFineEntries (u.entries n)) (sym row.effect) (fine.entries n);
-      tellings = λ q. subst (λ (u : RouterPart). AreFineTellings (u.tellings q)) (sym row.effect) (fine.tellings q);
-      best = λ x b e. by_prefix x b (same x prefix) (sym (get_with before.best prefix (chosen setup r before prefix) x) ∙ (ap (λ (u : RouterPart). map.get u.best x) (sym row.effect) ∙ e));
-    };
-    items = subst (AllByRecursion IsFineSent) (sym row.alone.1) tt;
-  } where
-    by_prefix : (x : PrefixValue) (b : Best) (t : Bool) → cond t (chosen setup r before prefix) (map.get before.best x) ≡ Some b → IsSendable b.route.attrs
-    by_prefix x b true e = chosen_fine prefix b e
-    by_prefix x b false e = fine.best x b e
+  fine_row (Decide prefix) taken sent octets come row = decides prefix taken sent row
   fine_row (Tell q prefix) taken sent octets come row = record {
     part = unchanged (ap (λ (u : RouterPart). u.places) row.effect) (ap (λ (u : RouterPart). u.entries) row.effect) (ap (λ (u : RouterPart). u.tellings) row.effect) (ap (λ (u : RouterPart). u.best) row.effect);
     items = subst (AllByRecursion IsFineSent) (sym row.sends) (told_item prefix (map.get before.best prefix) (fine.best prefix), tt);
   }
-  fine_row (Hear q) taken sent octets come row = record {
-    part = record {
-      places = λ n. subst (λ (u : RouterPart). IsFinePlace (u.places n)) (sym row.effect) (fine.places n);
-      entries = λ n. subst (λ (u : RouterPart). AreFineEntries (u.entries n)) (sym row.effect) (fine.entries n);
-      tellings = λ n. subst (λ (u : RouterPart). AreFineTellings (u.tellings n)) (sym row.effect) (at_keeps (λ m ts. AreFineTellings ts) before.tellings q _ heard fine.tellings n);
-      best = λ x b e. fine.best x b (ap (λ (u : RouterPart). map.get u.best x) (sym row.effect) ∙ e);
-    };
-    items = subst (AllByRecursion IsFineSent) (sym row.sends) tt;
-  } where
-    item : IsFineItem (Told row.prefix row.route)
-    item = subst IsFineTaken row.takes come
-
-    told : (o : Option Route) → IsFineItem (Told row.prefix o) → (route : Route) → o ≡ Some route → IsSendable route.attrs
-    told None i route e = absurd cc
-    told (Some t) i route e = subst (λ (v : Route). IsSendable v.attrs) (same_Some t route e) i
-
-    by_prefix : (x : PrefixValue) (route : Route) (t : Bool) → cond t row.route (map.get (before.tellings q) x) ≡ Some route → IsSendable route.attrs
-    by_prefix x route true e = told row.route item route e
-    by_prefix x route false e = fine.tellings q x route e
-
-    heard : AreFineTellings (Rattle.graft_model.specs.TableRows.with_telling (before.tellings q) row.prefix row.route)
-    heard x route e = by_prefix x route (same x row.prefix) (sym (get_telling (before.tellings q) row.prefix row.route x) ∙ e)
+  fine_row (Hear q) taken sent octets come row = hears q taken sent come row
   fine_row (Admit k) taken sent octets come row = record {
     part = placed row.peering _ (live_fine row.peering row.session None row.live.is) (ap (λ (u : RouterPart). u.places) row.effect) (ap (λ (u : RouterPart). u.entries) row.effect) (ap (λ (u : RouterPart). u.tellings) row.effect) (ap (λ (u : RouterPart). u.best) row.effect);
     items = subst (AllByRecursion IsFineSent) (sym row.sends) tt;
