@@ -1,6 +1,6 @@
 -- Each router has of a peering the entries that it is to have.
 use Rattle.std.proofs.Common.{◌≡◌, ◌≢◌, ◌==◌, ℕ, true, false, List, [], ◌∷◌, ◌++◌, Option, Some, refl, sym, ap, ◌∙◌, subst, arith, ◌⊎◌, inl, inr}
-use Rattle.std.specs.Prelude.{option_map, unwrap_or}
+use Rattle.std.specs.Prelude.{option_map}
 use Rattle.std.proofs.lemmas.Bool.{cases_eq}
 use Rattle.std.proofs.lemmas.Bool.Decides.{nat_tests}
 use Rattle.std.specs.FinMap as map
@@ -20,14 +20,14 @@ use Rattle.session_value.specs.Sessions.{SessionValue, peering_of, begun, state}
 use Rattle.session_value.specs.Ties.{IsOfStory}
 use Rattle.route_policy.specs.Candidates.{imported}
 use Rattle.graft_model.specs.Decisions.{entry_of, remote_identifier, session_route}
-use Rattle.graft_model.specs.Parts.{Order, Live, Entries, Entry, World}
+use Rattle.graft_model.specs.Parts.{Order, Live, Entries, World}
 use Rattle.graft_model.specs.RouterRows.{BringsIn, FollowsHeard}
-use Rattle.graft_model.specs.Setups.{Setup, config_of, rules_for, start_of}
+use Rattle.graft_model.specs.Setups.{Setup, config_of, start_of}
 use Rattle.graft_model.specs.First.{first_world}
 use Rattle.graft_laws.specs.Life.{Change, Rests, Begins, Admits, Refuses, Freezes, Leaves, Lands, TurnsBack, Returns, Clears, NotesRefusal, NotesSuccess, Puts, Emits, Arrives, Gets, Ticks, Strays, IsToSay, FarActs, SameEntries, EntersHeard}
 use Rattle.graft_laws.specs.Phases.{Ordered, Stored, Halted, Moving, Landed, Returning, Declined, Cleared, Phase, Idle, Busy, place_by, InBounds}
 use Rattle.graft_laws.specs.Tables.{has_entries, is_late, Entered}
-use Rattle.graft_laws.proofs.HeardNone.{GoesOn, entry_stays}
+use Rattle.graft_laws.proofs.HeardNone.{GoesOn, entry_stays, part_brings}
 
 -- ---- what a session brings in
 
@@ -44,26 +44,11 @@ record BringSame (s t : SessionValue) : Type 0 where
   heard : t.heard ≡ s.heard
   got : got_open (peering_of t.config) t.story ≡ got_open (peering_of s.config) s.story
 
--- what a session brings in, by its parts
-abbrev parts_bring : Setup → ℕ → SessionConfig → Option open_type.OpenMsg → map.FinMap prefix_cmp Attrs → PrefixValue → Option Entry
-parts_bring setup r config got heard x =
-    let identifier : ℕ = unwrap_or (option_map (λ (o : open_type.OpenMsg). o.identifier) got) 0 in
-    option_map
-    (λ route. record { route = route; identifier = identifier; address = config.remote_address })
-    (imported setup.home_as x (record {
-      peering = config.peering;
-      remote_as = config.remote_as;
-      identifier = identifier;
-      address = config.remote_address;
-      import_rules = rules_for setup r config.import;
-      heard = map.get heard x;
-    }) (map.get heard x))
-
 same_entry : (setup : Setup) (r : ℕ) (s t : SessionValue) (x : PrefixValue) → BringSame s t → entry_of setup r t x ≡ entry_of setup r s x
 same_entry setup r s t x same =
-    ap (λ (c : SessionConfig). parts_bring setup r c (got_open (peering_of t.config) t.story) t.heard x) same.config
-    ∙ ap (λ (o : Option open_type.OpenMsg). parts_bring setup r s.config o t.heard x) same.got
-    ∙ ap (λ (h : map.FinMap prefix_cmp Attrs). parts_bring setup r s.config (got_open (peering_of s.config) s.story) h x) same.heard
+    ap (λ (c : SessionConfig). part_brings setup r c (got_open (peering_of t.config) t.story) (map.get t.heard x) x) same.config
+    ∙ ap (λ (o : Option open_type.OpenMsg). part_brings setup r s.config o (map.get t.heard x) x) same.got
+    ∙ ap (λ (h : map.FinMap prefix_cmp Attrs). part_brings setup r s.config (got_open (peering_of s.config) s.story) (map.get h x) x) same.heard
 
 puts_same : (s t : SessionValue) (u : Update) → PutsUpdate s u t → BringSame s t
 puts_same s t u puts = record {

@@ -43,8 +43,15 @@ pub mod ToldNone
 pub mod HeardNone
 pub mod Answered
 pub mod TableLaws
+pub mod AwayUp
+pub mod DueHeld
 pub mod QuietPhases
 pub mod SolvesOn
 pub mod SolvesBest
 pub mod Solves
 pub mod QuietSolves
+pub mod Sendable
+pub mod FarOctets
+pub mod HeardSendable
+pub mod FineRouters
+pub mod FineWorlds

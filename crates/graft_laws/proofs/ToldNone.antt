@@ -31,7 +31,7 @@ in_open_sent Established e = absurd cc
 in_open_sent Closed e = absurd cc
 
 -- a message that leaves the session unestablished and open is an OPEN, which is taken in OpenSent alone
-before_open : (e : Expected) (bytes : List ℕ) (r : Result Message Notice) (answer : List Line) (next : SessionState) → message_of e bytes ≡ r → reply_to r ≡ (answer, next) → next ≢ Established → next ≢ Closed → e.state ≡ OpenSent
+pub before_open : (e : Expected) (bytes : List ℕ) (r : Result Message Notice) (answer : List Line) (next : SessionState) → message_of e bytes ≡ r → reply_to r ≡ (answer, next) → next ≢ Established → next ≢ Closed → e.state ≡ OpenSent
 before_open e bytes (Ok (OpenMsg o)) answer next g f up closed = in_open_sent e.state ((read_of e bytes (OpenMsg o) g).in_state)
 before_open e bytes (Ok (UpdateMsg u)) answer next g f up closed = absurd (up (sym (ap (λ (x : List Line × SessionState). x.1) f)))
 before_open e bytes (Ok KeepaliveMsg) answer next g f up closed = absurd (up (sym (ap (λ (x : List Line × SessionState). x.1) f)))

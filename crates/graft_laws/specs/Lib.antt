@@ -11,3 +11,4 @@ pub mod Unchanged
 pub mod Streams
 pub mod Said
 pub mod Tables
+pub mod Ranges

@@ -11,6 +11,7 @@ use Rattle.graft_model.specs.Decisions.{chosen, to_tell}
 use Rattle.graft_model.specs.Parts.{Order, Live, RouterPart, Mesh, Told, Moved, Back, Done, World}
 use Rattle.graft_model.specs.RouterRows.{BringsIn}
 use Rattle.graft_model.specs.Setups.{Setup, routers_in}
+use Rattle.graft_model.specs.TableRows.{holds_established}
 use Rattle.graft_laws.specs.Phases.{Landed, Cleared, Phase, Idle, Busy}
 use Rattle.graft_laws.specs.Streams.{IsUnbroken}
 
@@ -65,6 +66,10 @@ pub record Informed (setup : Setup) (a b : ℕ) (w : World) : Type 0 where
 pub record Answered (setup : Setup) (r : ℕ) (part : RouterPart) : Type 0 where
   pub told : (p : ℕ) (session : SessionValue) (order : Option Order) → part.places p ≡ Live session order → state session ≡ Established
       → (x : PrefixValue) → has (part.due_out p) x ≡ false → map.get session.told x ≡ to_tell setup r part session x
+
+-- What is due on a peering is due at a place where an established session is held, live or frozen.
+pub record DueIsHeld (part : RouterPart) : Type 0 where
+  pub held : (p : ℕ) (x : PrefixValue) → has (part.due_out p) x ≡ true → holds_established (part.places p) ≡ true
 
 -- ---- a peering as a whole
 

@@ -1,13 +1,17 @@
 //! What holds after every list of events.
 
-ghost use Rattle.std.specs.Prelude.{ℕ, ◌≡◌, ◌≢◌, ◌<◌, ◌≤◌, ◌+◌, ◌^◌, List, [], ◌∷◌, length, true, false, Some, None, slice_get};
+ghost use Rattle.std.specs.Prelude.{ℕ, ◌≡◌, ◌≢◌, ◌<◌, ◌≤◌, ◌+◌, ◌^◌, List, [], ◌∷◌, length, true, false, Option, Some, None, slice_get};
 ghost use Rattle.std.specs.List.{AllByRecursion};
+ghost use Rattle.bgp_types.specs.declared.attrs.Attrs.{Attrs};
+ghost use Rattle.bgp_types.specs.Prefixes.{PrefixValue};
+ghost use Rattle.bgp_types.specs.Writable.{IsWritableAttrs};
 ghost use Rattle.session_value.specs.Sessions.{SessionValue};
 ghost use Rattle.graft_model.specs.Setups.{Setup, PeeringSetup, SayStep, MoveStep, IsSetup, peerings_in, graft_number};
-ghost use Rattle.graft_model.specs.Parts.{World};
+ghost use Rattle.graft_model.specs.Decisions.{to_tell};
+ghost use Rattle.graft_model.specs.Parts.{Order, Live, World};
 ghost use Rattle.graft_model.specs.OperatorRows.{placement};
 ghost use Rattle.graft_model.specs.First.{first_world};
-ghost use Rattle.graft_model.specs.Steps.{Event, Run};
+ghost use Rattle.graft_model.specs.Steps.{Event, Run, RouterEvent, FarEvent, OperatorEvent, RouterStep, FarStep, OperatorStep};
 ghost use Rattle.graft_model.specs.Claims.{holders, sessions_at, sessions_of, Transparent, Unchanged, Solves};
 ghost use Rattle.graft_model.specs.Laws.{HasOnce};
 ghost use Rattle.graft_model.specs.Quiet.{Quiet};
@@ -15,11 +19,21 @@ ghost use Rattle.graft_laws.specs.Phases.{Stage, Phase, Busy};
 ghost use Rattle.graft_laws.specs.Owned.{Owned, Stands};
 ghost use Rattle.graft_laws.specs.Keeps.{Reached, Has};
 ghost use Rattle.graft_laws.specs.Configs.{IsOwn};
+ghost use Rattle.graft_laws.specs.Moves.{RouterMoves, FarMoves, OperatorMoves};
 ghost use Rattle.graft_laws.specs.Facts.{NothingIsDropped, IsNowhereElse, IsUnderWay};
 ghost use Rattle.graft_laws.specs.Streams.{IsUnbroken, ArePlaced};
 ghost use Rattle.graft_laws.specs.Said.{Said, IsSayOf};
 ghost use Rattle.graft_laws.specs.Pointing.{Points};
-ghost use Rattle.graft_laws.specs.Tables.{Decided, Informed, Answered, IsWhole};
+ghost use Rattle.graft_laws.specs.Ranges.{IsInRange};
+ghost use Rattle.graft_laws.specs.Tables.{Decided, Informed, Answered, DueIsHeld, IsWhole};
+
+/// Each channel is a queue. What an event takes stands at the head of its channel, what it sends goes to the ends of channels in the order of
+/// sending, and nothing else of a channel changes: no item overtakes another, is lost or comes twice.
+pub fn channels_are_queues()
+    ensures router { (setup : Setup) (r : ℕ) (event : RouterEvent) (before after : World) (step : RouterStep setup r event before after) → RouterMoves r step.taken step.sent step.part before after }
+    ensures far { (setup : Setup) (p : ℕ) (event : FarEvent) (before after : World) (step : FarStep setup p event before after) → FarMoves p step.taken step.sent step.part before after }
+    ensures operator { (setup : Setup) (event : OperatorEvent) (before after : World) (step : OperatorStep setup event before after) → OperatorMoves step.taken step.sent step.part before after }
+{}
 
 /// Each peering has one session, and stands in one phase of its last graft, by which every place, every channel and the log have of it just
 /// what belongs to that phase.
@@ -99,6 +113,18 @@ pub fn tables_are_what_is_decided()
     ensures informed { (setup : Setup) (w : World) (a b : ℕ) → Reached setup w → Informed setup a b w }
     ensures answered { (setup : Setup) (w : World) (r : ℕ) → IsSetup setup → Reached setup w → Answered setup r (w.router r) }
     ensures whole { (setup : Setup) (w : World) (p : ℕ) → IsSetup setup → Reached setup w → p < peerings_in setup → Has setup (IsWhole setup) w p }
+{}
+
+/// Something is due on a peering only at a router that holds its session, established, live or frozen.
+pub fn what_is_due_is_held()
+    ensures { (setup : Setup) (w : World) (r : ℕ) → IsSetup setup → Reached setup w → DueIsHeld (w.router r) }
+{}
+
+/// What is to be told on a live session can be written, with that session's own address for its next hop (RFC 4271, sections 4.3 and 5.1.3). It is said of a setup
+/// whose numbers are in the ranges of their types, as are those of every setup that a program reads.
+pub fn what_is_told_can_be_written()
+    ensures { (setup : Setup) (w : World) (r p : ℕ) (session : SessionValue) (order : Option Order) (x : PrefixValue) (attrs : Attrs) → IsSetup setup → IsInRange setup → Reached setup w
+        → (w.router r).places p ≡ Live session order → to_tell setup r (w.router r) session x ≡ Some attrs → IsWritableAttrs attrs }
 {}
 
 /// Where nothing is left to do, the tables of all routers solve the decision equations (RFC 4271, section 9.1) for the placement by the operator's log:

@@ -41,7 +41,7 @@ use Rattle.graft_worked.proofs.GraftRows.{state_is, tells_none}
 home_received : received_bytes home_end ≡ said_all
 home_received = ap (run_from 0) (map.entries-from_sorted nat_cmp (enumerate_from 0 said_all) tt)
 
-remote_received : received_bytes remote_end ≡ put_all
+pub remote_received : received_bytes remote_end ≡ put_all
 remote_received = ap (run_from 0) (map.entries-from_sorted nat_cmp (enumerate_from 0 put_all) tt)
 
 nothing_begins : BeginsNothing []

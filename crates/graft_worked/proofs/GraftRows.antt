@@ -1,5 +1,5 @@
 -- The rows of the worked graft, each computed.
-use Rattle.std.proofs.Common.{◌≡◌, ◌≢◌, ℕ, ◌==◌, ◌&&◌, ◌||◌, Bool, true, false, cond, [], ◌∷◌, ◌++◌, Option, Some, None, is_some, refl, sym, ap, ◌∙◌, inl, inr, lit<}
+use Rattle.std.proofs.Common.{◌≡◌, ◌≢◌, ℕ, ◌<◌, ◌==◌, ◌&&◌, ◌||◌, Bool, true, false, cond, [], ◌∷◌, ◌++◌, Option, Some, None, is_some, refl, sym, ap, ◌∙◌, inl, inr, lit<}
 use Rattle.std.specs.Prelude.{option_map, slice_get}
 use Rattle.std.specs.FinMap as map
 use Rattle.std.specs.List.{filter_map}
@@ -20,10 +20,11 @@ use Rattle.route_policy.specs.Telling.{tell_in, tell_out}
 use Rattle.graft_steps.specs.declared.refusal.Outcome.TheVariants.{Accepted}
 use Rattle.bgp_story.specs.WorkedSessions.{ten}
 use Rattle.loc_rib.specs.Values.{with_best}
-use Rattle.session_value.specs.Sessions.{state, hold_time}
+use Rattle.graft_steps.specs.Refusals.{freeze_refusal}
+use Rattle.session_value.specs.Sessions.{SessionValue, state, hold_time}
 use Rattle.session_value.specs.Sets.{has}
 use Rattle.graft_model.specs.Points.{at}
-use Rattle.graft_model.specs.Setups.{ScriptStep, SayStep, MoveStep, SettleStep, graft_number}
+use Rattle.graft_model.specs.Setups.{Setup, ScriptStep, SayStep, MoveStep, SettleStep, graft_number, routers_in}
 use Rattle.graft_model.specs.Parts.{Place, Vacant, Live, Frozen, Shadow, Entry, RouterPart, Told, Moved, Done, PointAt}
 use Rattle.graft_model.specs.Decisions.{entry_candidate, telling_candidate, session_route, chosen, to_tell, out_side, remote_identifier}
 use Rattle.graft_model.specs.RouterRows.{OrderIn, MeshIn, MeshTo, OutwardTo, ReportOut, BringsIn, PutsNothing}
@@ -32,8 +33,9 @@ use Rattle.graft_model.specs.GraftRows.{Admits, Freezes, Leaves, Lands, Clears}
 use Rattle.graft_model.specs.FarRows.{OutwardIn, TurnsLink}
 use Rattle.graft_model.specs.OperatorRows.{ReportIn, OrderTo, OrdersGraft, Notes, BeginsGroup}
 use Rattle.graft_worked.specs.Base.{base, config}
-use Rattle.graft_worked.specs.Graft.{at_ten, ten_alone, heard_attrs, route, entry, over_peering, over_router, session, a_before, b_before, far_before, operator_before, to_b, a_ordered, a_frozen, a_left, a_cleared, a_told, a_decided, a_after, b_landed, b_decided, b_put, b_told, b_heard, b_after, far_after, operator_begun, operator_ordered, operator_after}
-use Rattle.graft_worked.proofs.Points.{at-at, at-same, at-back, other_of_0, other_of_1}
+use Rattle.graft_worked.specs.Places.{holding}
+use Rattle.graft_worked.specs.Graft.{at_ten, ten_alone, heard_attrs, route, entry, over_peering, over_router, session, b_before, far_before, operator_before, to_b, a_left, a_cleared, a_told, a_decided, a_after, b_landed, b_decided, b_put, b_told, b_heard, b_after, far_after, operator_begun, operator_ordered, operator_after}
+use Rattle.graft_worked.proofs.Points.{at-at, at-back, other_of_0, other_of_1}
 use Rattle.graft_worked.proofs.Setup.{below_two}
 use Rattle.graft_worked.proofs.Tens.{empty, is_ten, got_none, got_ten, got_it, again, gone, some_at_ten, some_in_none, adds_ten, keeps_ten, keeps_none, drops_ten, marks_new, marks_old}
 
@@ -62,7 +64,7 @@ is_move (Some (SayStep p bytes)) = false
 is_move (Some (MoveStep p target)) = true
 is_move (Some SettleStep) = false
 
-no_move : (step : Option ScriptStep) (p target : ℕ) → is_move step ≡ false → step ≢ Some (MoveStep p target)
+pub no_move : (step : Option ScriptStep) (p target : ℕ) → is_move step ≡ false → step ≢ Some (MoveStep p target)
 no_move step p target e same = let apart : ◌≡◌ {A = Bool} false true = sym e ∙ ap is_move same in cc
 
 pub orders : OrdersGraft base 2 operator_begun None (OrderTo 0 (record { graft = 1; peering = 0; target = 1 }) ∷ []) operator_ordered
@@ -83,43 +85,47 @@ notes = record { report = record { graft = 1; outcome = Accepted }; takes = refl
 
 -- ---- the way of the session
 
-vacant : ℕ → Place
+abbrev vacant : ℕ → Place
 vacant = λ p. Vacant
 
-pub admits : Admits base 1 a_before (Some (OrderIn (record { graft = 1; peering = 0; target = 1 }))) [] a_ordered
-admits = record {
+pub admits : (setup : Setup) → 1 < routers_in setup → (part : RouterPart) (s : SessionValue)
+    → Admits setup 1 (holding part (Live s None)) (Some (OrderIn (record { graft = 1; peering = 0; target = 1 }))) [] (holding part (Live s (Some to_b)))
+admits setup known part s = record {
   peering = 0;
   target = 1;
   takes = refl;
   sends = refl;
-  known = lit< tt;
-  session = session;
+  known = known;
+  session = s;
   live = record { is = refl };
-  effect = λ i. record a_before { places = sym (at-at (λ p. Vacant) 0 (Live session None) (Live session (Some to_b))) i };
+  effect = λ i. record part { places = sym (at-at vacant 0 (Live s None) (Live s (Some to_b))) i };
 }
 
-pub freezes : Freezes 0 1 a_ordered None [] a_frozen
-unfolding message_of header_fault frame_at body_of open_of many many_within cap_at caps_of params_of
-freezes = record {
+pub freezes : (part : RouterPart) (s : SessionValue) → freeze_refusal (record { 0 = 0 }) (record { 0 = 1 }) (state s) (hold_time s) ≡ None → Freezes 0 1 (holding part (Live s (Some to_b))) None [] (holding part (Frozen s to_b))
+freezes part s no_cause = record {
   alone = (refl, refl);
   peering = 0;
   target = 1;
-  session = session;
+  session = s;
   live = record { is = refl };
-  no_cause = refl;
-  effect = λ i. record a_before { places = sym (at-at (λ p. Vacant) 0 (Live session (Some to_b)) (Frozen session to_b)) i };
+  no_cause = no_cause;
+  effect = λ i. record part { places = sym (at-at vacant 0 (Live s (Some to_b)) (Frozen s to_b)) i };
 }
 
-pub leaves : Leaves 1 a_frozen None (MeshTo 1 (Moved 1 0 session) ∷ []) a_left
-leaves = record {
+pub leaves : (part : RouterPart) (s : SessionValue) → at part.due_out 0 map.empty ≡ part.due_out → Leaves 1 (holding part (Frozen s to_b)) None (MeshTo 1 (Moved 1 0 s) ∷ []) (holding part (Shadow 1))
+leaves part s nothing_due = record {
   peering = 0;
   target = 1;
-  session = session;
+  session = s;
   frozen = refl;
   takes = refl;
   sends = refl;
-  effect = λ i. record a_before { places = sym (at-at (λ p. Vacant) 0 (Frozen session to_b) (Shadow 1)) i; due_out = sym (at-same empty 0) i };
+  effect = λ i. record part { places = sym (at-at vacant 0 (Frozen s to_b) (Shadow 1)) i; due_out = sym nothing_due i };
 }
+
+pub may_freeze : freeze_refusal (record { 0 = 0 }) (record { 0 = 1 }) (state session) (hold_time session) ≡ None
+unfolding message_of header_fault frame_at body_of open_of many many_within cap_at caps_of params_of
+may_freeze = refl
 
 brought : (r : ℕ) → PrefixValue → Option Attrs → Option Entry
 brought r x attrs = option_map (λ route. record { route = route; identifier = remote_identifier session; address = session.config.remote_address }) (imported base.home_as x (session_route base r session x) attrs)

@@ -1,5 +1,6 @@
 -- The worked graft as a run.
-use Rattle.std.proofs.Common.{[], ◌∷◌, Some, None, inr, refl}
+use Rattle.std.proofs.Common.{[], ◌∷◌, Some, None, inr, refl, lit<}
+use Rattle.std.specs.FinMap as map
 use Rattle.bgp_story.specs.WorkedSessions.{ten}
 use Rattle.graft_steps.specs.declared.refusal.Outcome.TheVariants.{Accepted}
 use Rattle.graft_model.specs.Parts.{Told, Moved, Done, PointAt}
@@ -8,61 +9,62 @@ use Rattle.graft_model.specs.Steps.{Go, Order, Admit, Freeze, Leave, Land, Point
 use Rattle.graft_worked.specs.Base.{base}
 use Rattle.graft_worked.specs.Places.{nothing}
 use Rattle.graft_worked.specs.Graft.{route, session, a_before, b_before, far_before, operator_before, a_ordered, a_frozen, a_left, a_cleared, a_told, a_decided, a_after, b_landed, b_decided, b_put, b_told, b_heard, b_after, far_after, operator_begun, operator_ordered, operator_after, before_graft, after_graft, graft_events}
-use Rattle.graft_worked.proofs.Moves.{a_alone, a_to_b, a_ordered_by, a_from_b, a_ends, b_alone, b_to_a, b_from_a, b_takes_in, far_from_b, operator_alone, operator_orders, operator_notes}
-use Rattle.graft_worked.proofs.GraftRows.{goes, orders, notes, admits, freezes, leaves, lands, points, clears, b_decides, a_decides, b_decides_again, b_tells, a_tells, a_hears, b_hears, b_puts_nothing}
+use Rattle.graft_worked.proofs.Points.{at-same}
+use Rattle.graft_worked.proofs.Moves.{base_small, a_alone, a_to_b, a_ordered_by, a_from_b, a_ends, b_alone, b_to_a, b_from_a, b_takes_in, far_from_b, operator_alone, operator_orders, operator_notes}
+use Rattle.graft_worked.proofs.GraftRows.{goes, orders, notes, admits, freezes, may_freeze, leaves, lands, points, clears, b_decides, a_decides, b_decides_again, b_tells, a_tells, a_hears, b_hears, b_puts_nothing}
 
 pub graft_runs : Quiet base before_graft → Run base before_graft graft_events after_graft
 graft_runs quiet = (
   _,
-  operator_alone a_before b_before far_before operator_before nothing Go operator_begun quiet goes,
+  operator_alone base base_small a_before b_before far_before operator_before nothing Go operator_begun quiet goes,
   (
     _,
-    operator_orders a_before b_before far_before operator_begun nothing (Order 2) operator_ordered (record { graft = 1; peering = 0; target = 1 }) tt (inr orders),
+    operator_orders base base_small a_before b_before far_before operator_begun nothing (Order 2) operator_ordered (record { graft = 1; peering = 0; target = 1 }) tt (inr orders),
     (
       _,
-      a_ordered_by a_before b_before far_before operator_ordered nothing (Admit 1) a_ordered (record { graft = 1; peering = 0; target = 1 }) [] admits,
+      a_ordered_by base base_small a_before b_before far_before operator_ordered nothing (Admit 1) a_ordered (record { graft = 1; peering = 0; target = 1 }) [] (admits base (lit< tt) a_before session),
       (
         _,
-        a_alone a_ordered b_before far_before operator_ordered nothing (Freeze 1) a_frozen freezes,
+        a_alone base base_small a_ordered b_before far_before operator_ordered nothing (Freeze 1) a_frozen (freezes a_before session may_freeze),
         (
           _,
-          a_to_b a_frozen b_before far_before operator_ordered nothing (Leave 1) a_left (Moved 1 0 session) leaves,
+          a_to_b base base_small a_frozen b_before far_before operator_ordered nothing (Leave 1) a_left (Moved 1 0 session) (leaves a_before session (at-same map.empty 0)),
           (
             _,
-            b_takes_in a_left b_before far_before operator_ordered nothing (Land 0) b_landed (Moved 1 0 session) (Done 1 0) [] (PointAt 1) lands,
+            b_takes_in base base_small a_left b_before far_before operator_ordered nothing (Land 0) b_landed (Moved 1 0 session) (Done 1 0) [] (PointAt 1) lands,
             (
               _,
-              far_from_b a_left b_landed far_before operator_ordered (record nothing { to_a = Done 1 0 ∷ [] }) (Point 1) far_after (PointAt 1) [] points,
+              far_from_b base base_small a_left b_landed far_before operator_ordered (record nothing { to_a = Done 1 0 ∷ [] }) (Point 1) far_after (PointAt 1) [] points,
               (
                 _,
-                a_ends a_left b_landed far_after operator_ordered nothing (Clear 1) a_cleared (Done 1 0) [] (record { graft = 1; outcome = Accepted }) clears,
+                a_ends base base_small a_left b_landed far_after operator_ordered nothing (Clear 1) a_cleared (Done 1 0) [] (record { graft = 1; outcome = Accepted }) clears,
                 (
                   _,
-                  operator_notes a_cleared b_landed far_after operator_ordered nothing (Note 0) operator_after (record { graft = 1; outcome = Accepted }) [] tt notes,
+                  operator_notes base base_small a_cleared b_landed far_after operator_ordered nothing (Note 0) operator_after (record { graft = 1; outcome = Accepted }) [] tt notes,
                   (
                     _,
-                    b_alone a_cleared b_landed far_after operator_after nothing (Decide ten) b_decided b_decides,
+                    b_alone base base_small a_cleared b_landed far_after operator_after nothing (Decide ten) b_decided b_decides,
                     (
                       _,
-                      b_alone a_cleared b_decided far_after operator_after nothing (Put 0 0) b_put b_puts_nothing,
+                      b_alone base base_small a_cleared b_decided far_after operator_after nothing (Put 0 0) b_put b_puts_nothing,
                       (
                         _,
-                        b_to_a a_cleared b_put far_after operator_after nothing (Tell 0 ten) b_told (Told ten (Some route)) b_tells,
+                        b_to_a base base_small a_cleared b_put far_after operator_after nothing (Tell 0 ten) b_told (Told ten (Some route)) b_tells,
                         (
                           _,
-                          a_from_b a_cleared b_told far_after operator_after nothing (Hear 1) a_told (Told ten (Some route)) [] a_hears,
+                          a_from_b base base_small a_cleared b_told far_after operator_after nothing (Hear 1) a_told (Told ten (Some route)) [] a_hears,
                           (
                             _,
-                            a_alone a_told b_told far_after operator_after nothing (Decide ten) a_decided a_decides,
+                            a_alone base base_small a_told b_told far_after operator_after nothing (Decide ten) a_decided a_decides,
                             (
                               _,
-                              a_to_b a_decided b_told far_after operator_after nothing (Tell 1 ten) a_after (Told ten None) a_tells,
+                              a_to_b base base_small a_decided b_told far_after operator_after nothing (Tell 1 ten) a_after (Told ten None) a_tells,
                               (
                                 _,
-                                b_from_a a_after b_told far_after operator_after nothing (Hear 0) b_heard (Told ten None) [] b_hears,
+                                b_from_a base base_small a_after b_told far_after operator_after nothing (Hear 0) b_heard (Told ten None) [] b_hears,
                                 (
                                   _,
-                                  b_alone a_after b_heard far_after operator_after nothing (Decide ten) b_after b_decides_again,
+                                  b_alone base base_small a_after b_heard far_after operator_after nothing (Decide ten) b_after b_decides_again,
                                   refl,
                                 ),
                               ),

@@ -13,3 +13,5 @@ pub mod Others
 pub mod Moves
 pub mod Puts
 pub mod Sends
+pub mod Refused
+pub mod Wrong

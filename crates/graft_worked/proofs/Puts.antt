@@ -36,7 +36,7 @@ use Rattle.graft_worked.specs.Start.{session_joined}
 use Rattle.graft_worked.specs.Puts.{own_at_b, a_to_put, session_told, a_has_put, with_route_due, with_route_put}
 use Rattle.graft_worked.proofs.Points.{at-at, at-back}
 use Rattle.graft_worked.proofs.Tens.{empty, got_none, got_it, has_ten, some_in_none}
-use Rattle.graft_worked.proofs.Moves.{a_alone}
+use Rattle.graft_worked.proofs.Moves.{base_small, a_alone}
 
 -- ---- the announcement
 
@@ -137,4 +137,4 @@ puts_some = record {
 }
 
 pub may_put : Step base (ByRouter 0 (Put 0 1)) with_route_due with_route_put
-may_put = a_alone a_to_put idle_router far_before operator_before nothing (Put 0 1) a_has_put puts_some
+may_put = a_alone base base_small a_to_put idle_router far_before operator_before nothing (Put 0 1) a_has_put puts_some

@@ -1,6 +1,6 @@
 -- The rows by which the worked session comes up and the remote's route gets to both routers, each computed.
-use Rattle.std.proofs.Common.{◌≡◌, ℕ, Bool, true, false, cond, List, [], ◌∷◌, ◌++◌, drop, length, Option, Some, None, refl, sym, ap, ◌∙◌, inl, inr, lit<, lit≤, arith}
-use Rattle.std.specs.Prelude.{option_map}
+use Rattle.std.proofs.Common.{◌≡◌, ℕ, ◌<◌, Bool, true, false, cond, List, [], ◌∷◌, ◌++◌, drop, length, Option, Some, None, is_some, refl, sym, ap, ◌∙◌, inl, inr, lit<, lit≤, arith}
+use Rattle.std.specs.Prelude.{option_map, slice_get}
 use Rattle.std.specs.FinMap as map
 use Rattle.std.specs.List.{enumerate_from}
 use Rattle.std.specs.Ordering.{nat_cmp}
@@ -27,6 +27,7 @@ use Rattle.session_value.specs.Sessions.{SessionValue}
 use Rattle.session_value.specs.Cases.{GetsFrame}
 use Rattle.session_value.specs.Sets.{Marks}
 use Rattle.graft_model.specs.Points.{at}
+use Rattle.graft_model.specs.Setups.{Setup, SayStep, routers_in}
 use Rattle.graft_model.specs.Parts.{Live, Vacant, Entry, RouterPart, Seg}
 use Rattle.graft_model.specs.Decisions.{remote_identifier, session_route}
 use Rattle.graft_model.specs.RouterRows.{OutwardTo, Emits, GetsNext, BringsIn, FollowsHeard}
@@ -37,7 +38,7 @@ use Rattle.graft_worked.specs.First.{far_first, operator_first}
 use Rattle.graft_worked.specs.Graft.{put_all, said_all, from_zero, at_ten, heard_attrs, entry, session, remote_end, operator_before, far_before}
 use Rattle.graft_worked.specs.Start.{said_segment, put_segment, ack_segment, far_said, far_emitted, far_sent, far_taken, far_reached, far_answered, session_arrived, session_confirmed, session_joined, session_heard, session_emitted, a_with, a_got}
 use Rattle.graft_worked.proofs.Points.{at-at, at-same}
-use Rattle.graft_worked.proofs.Tens.{empty, got_none, got_ten, is_ten, some_in_none, marks_new}
+use Rattle.graft_worked.proofs.Tens.{empty, got_none, got_ten, is_ten, some_at_ten, some_in_none, marks_new}
 
 -- ---- bytes by their places
 
@@ -59,20 +60,20 @@ received_put = ap (run_from 0) (map.entries-from_sorted nat_cmp (enumerate_from 
 
 -- ---- the operator and the remote
 
-pub orders_say : OrdersSay base 0 operator_first None (SayTo 0 0 ∷ []) operator_before
-orders_say = record {
+pub orders_say : (setup : Setup) → slice_get setup.steps 0 ≡ Some (SayStep 0 update_bytes) → OrdersSay setup 0 operator_first None (SayTo 0 0 ∷ []) operator_before
+orders_say setup says_first = record {
   next = record { group = refl; unissued = refl };
   peering = 0;
   bytes = update_bytes;
-  is = refl;
+  is = says_first;
   earlier = λ m other lt. absurd (omega arith);
   takes = refl;
   sends = refl;
   effect = refl;
 }
 
-pub says : Says base 0 0 far_first (Some (SayIn 0)) [] far_said
-says = record { bytes = update_bytes; is = refl; takes = refl; sends = refl; room = lit≤ tt; effect = refl }
+pub says : (setup : Setup) → slice_get setup.steps 0 ≡ Some (SayStep 0 update_bytes) → Says setup 0 0 far_first (Some (SayIn 0)) [] far_said
+says setup says_first = record { bytes = update_bytes; is = says_first; takes = refl; sends = refl; room = lit≤ tt; effect = refl }
 
 pub sends_all : SendsSegment 0 91 far_said None [] far_sent
 sends_all = record {
@@ -88,8 +89,8 @@ sends_all = record {
   effect = refl;
 }
 
-pub passes_all : Passes base 0 false 0 far_sent None (record { router = 0; segment = said_segment } ∷ []) far_emitted
-passes_all = record { segment = said_segment; there = refl; known = lit< tt; takes = refl; sends = refl; effect = refl }
+pub passes_all : (setup : Setup) → 0 < routers_in setup → Passes setup 0 false 0 far_sent None (record { router = 0; segment = said_segment } ∷ []) far_emitted
+passes_all setup known = record { segment = said_segment; there = refl; known = known; takes = refl; sends = refl; effect = refl }
 
 pub sends_ack : SendsSegment 91 0 far_reached None [] far_answered
 sends_ack = record {
@@ -181,9 +182,9 @@ gets_update = record {
 moved : (before after : SessionValue) → at (at (λ p. Vacant) 0 (Live before None)) 0 (Live after None) ≡ at (λ p. Vacant) 0 (Live after None)
 moved before after = at-at (λ p. Vacant) 0 (Live before None) (Live after None)
 
-pub got_open_row : GetsNext base 0 0 a_arrived None [] (a_with session_confirmed)
+pub got_open_row : (setup : Setup) → GetsNext setup 0 0 a_arrived None [] (a_with session_confirmed)
 unfolding header_fault
-got_open_row = record {
+got_open_row setup = record {
   alone = (refl, refl);
   session = session_arrived;
   order = None;
@@ -199,9 +200,9 @@ got_open_row = record {
   };
 }
 
-pub got_keepalive_row : GetsNext base 0 0 (a_with session_confirmed) None [] (a_with session_joined)
+pub got_keepalive_row : (setup : Setup) → GetsNext setup 0 0 (a_with session_confirmed) None [] (a_with session_joined)
 unfolding header_fault
-got_keepalive_row = record {
+got_keepalive_row setup = record {
   alone = (refl, refl);
   session = session_confirmed;
   order = None;
@@ -225,18 +226,12 @@ brings_ten : BringsIn base 0 session_heard (at_ten entry)
 unfolding brought message_of header_fault frame_at body_of open_of many many_within cap_at caps_of params_of
 brings_ten x = got_ten entry x ∙ sym (ap (brought x) (got_ten heard_attrs x) ∙ map_cond (brought x) (is_ten x) heard_attrs entry refl refl)
 
--- another route is heard for that prefix alone
-follows_ten : (x : PrefixValue) → FollowsHeard base 0 session_joined session_heard empty (at_ten entry) x
-follows_ten x = by_test (is_ten x) refl where
-  by_test : (t : Bool) → is_ten x ≡ t → FollowsHeard base 0 session_joined session_heard empty (at_ten entry) x
-  by_test true e = inr (
-    λ same. (let f : Some heard_attrs ≡ None = sym (got_ten heard_attrs x ∙ ap (λ t. cond t (Some heard_attrs) None) e) ∙ same ∙ got_none x in cc),
-    brings_ten x,
-  )
-  by_test false e = inl (
-    got_ten heard_attrs x ∙ ap (λ t. cond t (Some heard_attrs) None) e ∙ sym (got_none x),
-    got_ten entry x ∙ ap (λ t. cond t (Some entry) None) e ∙ sym (got_none x),
-  )
+-- the remote's route is another than before for 10.0.0.0/8 alone
+follows_ten : (x : PrefixValue) (t : Bool) → is_ten x ≡ t → FollowsHeard base 0 session_joined session_heard empty (at_ten entry) x
+follows_ten x true e = inr ((λ s. let apart : ◌≡◌ {A = Bool} true false = sym (some_at_ten heard_attrs x ∙ e) ∙ (ap is_some s ∙ some_in_none _ x) in cc), brings_ten x)
+follows_ten x false e = inl (unheard heard_attrs, unheard entry) where
+  unheard : {A : Type 0} (v : A) → map.get (at_ten v) x ≡ map.get (empty {A = A}) x
+  unheard v = got_ten v x ∙ (ap (λ t. cond t (Some v) None) e ∙ sym (got_none x))
 
 pub got_update_row : GetsNext base 0 0 (a_with session_joined) None [] (a_got session_heard)
 unfolding header_fault
@@ -249,7 +244,7 @@ got_update_row = record {
   next = session_heard;
   gets = gets_update;
   follows = record {
-    entries = follows_ten;
+    entries = λ x. follows_ten x (is_ten x) refl;
     dirty = marks_new entry;
     due = refl;
     effect = λ i. record (a_got session_heard) { places = sym (moved session_joined session_heard) i; due_out = sym (at-same empty 0) i };

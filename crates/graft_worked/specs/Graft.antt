@@ -19,7 +19,7 @@ use Rattle.graft_model.specs.Points.{at}
 use Rattle.graft_model.specs.Parts.{Order as StoredOrder, Vacant, Live, Frozen, Shadow, Entry, RouterPart, FarPart, OperatorPart, World}
 use Rattle.graft_model.specs.Steps.{Event, ByRouter, ByFar, ByOperator, Go, Order, Admit, Freeze, Leave, Land, Point, Clear, Note, Decide, Put, Tell, Hear}
 use Rattle.graft_worked.specs.Base.{config}
-use Rattle.graft_worked.specs.Places.{nothing, world_of}
+use Rattle.graft_worked.specs.Places.{holding, nothing, world_of}
 
 -- ---- what both sides said
 
@@ -111,13 +111,13 @@ abbrev pub to_b : StoredOrder
 to_b = record { graft = 1; target = 1 }
 
 abbrev pub a_ordered : RouterPart
-a_ordered = record a_before { places = at (λ p. Vacant) 0 (Live session (Some to_b)) }
+a_ordered = holding a_before (Live session (Some to_b))
 
 abbrev pub a_frozen : RouterPart
-a_frozen = record a_before { places = at (λ p. Vacant) 0 (Frozen session to_b) }
+a_frozen = holding a_before (Frozen session to_b)
 
 abbrev pub a_left : RouterPart
-a_left = record a_before { places = at (λ p. Vacant) 0 (Shadow 1) }
+a_left = holding a_before (Shadow 1)
 
 abbrev pub a_cleared : RouterPart
 a_cleared = record a_before { places = λ p. Vacant; entries = λ p. map.empty; dirty = ten_alone }

@@ -5,3 +5,5 @@ pub mod Graft
 pub mod Start
 pub mod Others
 pub mod Puts
+pub mod Refused
+pub mod Wrong

@@ -3,7 +3,7 @@ use Rattle.std.specs.Prelude.{ℕ, ◌==◌, List, [], if◌then◌else◌}
 use Rattle.std.specs.FinMap as map
 use Rattle.tcp_seq.specs.Endpoint.{PlacedSegment, fresh_endpoint}
 use Rattle.graft_model.specs.Points.{at}
-use Rattle.graft_model.specs.Parts.{Vacant, RouterPart, FarPart, OperatorPart, Mesh, Outward, GraftOrder, Report, World}
+use Rattle.graft_model.specs.Parts.{Place, Vacant, RouterPart, FarPart, OperatorPart, Mesh, Outward, GraftOrder, Report, World}
 
 -- one value at 0, one at 1, and none elsewhere
 abbrev pub two : {A : Type 0} → A → A → A → ℕ → A
@@ -20,6 +20,10 @@ idle_router = record {
   due_in = λ q. map.empty;
   due_out = λ p. map.empty;
 }
+
+-- a router with this in its place for the one peering
+abbrev pub holding : RouterPart → Place → RouterPart
+holding part place = record part { places = at (λ p. Vacant) 0 place }
 
 -- a far side that said nothing
 abbrev pub idle_far : FarPart

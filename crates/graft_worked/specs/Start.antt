@@ -1,15 +1,15 @@
 -- The worked laboratory from its first world to the quiet world before the graft: the session comes up, the remote announces, and all settles.
-use Rattle.std.specs.Prelude.{ℕ, List, [], ◌∷◌, None, true, false}
+use Rattle.std.specs.Prelude.{ℕ, List, [], ◌∷◌, ◌++◌, None, true, false}
 use Rattle.std.specs.FinMap as map
 use Rattle.tcp_seq.specs.Endpoint.{Endpoint, PlacedSegment}
 use Rattle.bgp_story.specs.WorkedSessions.{ten, confirmed_lines, joined_lines}
 use Rattle.session_value.specs.Sessions.{SessionValue}
 use Rattle.graft_model.specs.Points.{at}
-use Rattle.graft_model.specs.Parts.{Vacant, Live, RouterPart, FarPart}
+use Rattle.graft_model.specs.Parts.{Live, RouterPart, FarPart, World}
 use Rattle.graft_model.specs.Steps.{Event, ByRouter, ByFar, ByOperator, Order, Say, Send, Pass, Arrive, Got, Emit, Take, Reach, Decide, Put, Tell, Hear}
-use Rattle.graft_worked.specs.Places.{idle_router, idle_far}
+use Rattle.graft_worked.specs.Places.{idle_router, holding, idle_far, nothing, world_of}
 use Rattle.graft_worked.specs.First.{home_open_bytes, session_first}
-use Rattle.graft_worked.specs.Graft.{put_all, said_all, from_zero, at_ten, ten_alone, entry, route, session, home_end, remote_end, a_before, b_before, far_before}
+use Rattle.graft_worked.specs.Graft.{put_all, said_all, from_zero, at_ten, ten_alone, entry, route, session, home_end, remote_end, a_before, b_before, far_before, operator_before}
 
 -- ---- segments: all that the remote said, all that home put, and the remote's acknowledgement
 
@@ -65,7 +65,7 @@ session_emitted = record session { end = record home_end { acked = 0 } }
 -- ---- the routers
 
 abbrev pub a_with : SessionValue → RouterPart
-a_with held = record idle_router { places = at (λ p. Vacant) 0 (Live held None) }
+a_with held = holding idle_router (Live held None)
 
 -- the UPDATE was got
 abbrev pub a_got : SessionValue → RouterPart
@@ -83,10 +83,16 @@ b_dirty = record idle_router { tellings = at (λ q. map.empty) 0 (at_ten route);
 abbrev pub b_chosen : RouterPart
 b_chosen = record b_before { due_in = at (λ q. map.empty) 0 ten_alone }
 
+-- ---- the world in which the session is established, and nothing of the UPDATE is got
+
+abbrev pub joined_world : World
+joined_world = world_of (a_with session_joined) idle_router far_emitted operator_before nothing
+
 -- ---- the events
 
-abbrev pub start_events : List Event
-start_events =
+-- the session is established
+abbrev pub joining_events : List Event
+joining_events =
     ByOperator (Order 0)
     ∷ ByFar 0 (Say 0)
     ∷ ByFar 0 (Send 0 91)
@@ -94,7 +100,12 @@ start_events =
     ∷ ByRouter 0 (Arrive 0)
     ∷ ByRouter 0 (Got 0)
     ∷ ByRouter 0 (Got 0)
-    ∷ ByRouter 0 (Got 0)
+    ∷ []
+
+-- what the remote announces is got, decided and told, and all is acknowledged
+abbrev pub settling_events : List Event
+settling_events =
+    ByRouter 0 (Got 0)
     ∷ ByRouter 0 (Emit 0 0 48)
     ∷ ByFar 0 (Take 0)
     ∷ ByFar 0 (Reach 0 false)
@@ -109,3 +120,6 @@ start_events =
     ∷ ByRouter 1 (Tell 0 ten)
     ∷ ByRouter 0 (Hear 1)
     ∷ []
+
+abbrev pub start_events : List Event
+start_events = joining_events ++ settling_events

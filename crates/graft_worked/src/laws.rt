@@ -5,15 +5,16 @@
 //! | Order, Say, Send, Pass, Arrive, Got, Emit, Take, Reach, Decide, Put of none, Tell, Hear | on the way from the first world (`base_runs_to_its_end`) | at its end (`some_events_never_happen`; of Emit and Send `nothing_is_sent_at_the_end`) |
 //! | Go, Admit, Freeze, Leave, Land, Point, Clear, Note | in the graft (`a_graft_runs_to_its_end`) | at its end |
 //! | Put of one | `an_update_may_be_put` | at its end |
-//! | Stray, Refuse, TurnBack, Return, Lose, Beat, Tick | `other_events_may_happen` | at its end |
+//! | Refuse, TurnBack, Return | in grafts that are refused (`refused_grafts_run_to_their_end`) | at its end |
+//! | Stray, Lose, Beat, Tick | `other_events_may_happen` | at its end |
 
 ghost use Rattle.std.specs.Prelude.{◌≡◌, ◌≢◌, ◌++◌, ℕ, suc};
-ghost use Rattle.graft_model.specs.Claims.{Solves};
+ghost use Rattle.graft_model.specs.Claims.{Transparent, Solves};
 ghost use Rattle.graft_model.specs.First.{first_world};
 ghost use Rattle.graft_model.specs.Laws.{MayStillHappen};
 ghost use Rattle.graft_model.specs.Quiet.{Quiet};
 ghost use Rattle.graft_model.specs.Setups.{IsSetup};
-ghost use Rattle.graft_model.specs.Steps.{Run, Step, Event, Put, Emit, Send, Tick, ByRouter, ByFar, ByOperator, Stray, Refuse, TurnBack, Return, Lose, Beat, Go};
+ghost use Rattle.graft_model.specs.Steps.{Run, Step, Event, Put, Emit, Send, Tick, ByRouter, ByFar, ByOperator, Stray, Lose, Beat, Go};
 ghost use Rattle.graft_model.specs.FarRows.{Homeward};
 ghost use Rattle.graft_model.specs.Parts.{World};
 ghost use Rattle.graft_worked.specs.Others as others;
@@ -21,7 +22,9 @@ ghost use Rattle.graft_worked.specs.Puts.{with_route_due, with_route_put, with_l
 ghost use Rattle.graft_worked.specs.Base.{base};
 ghost use Rattle.graft_worked.specs.First.{first};
 ghost use Rattle.graft_worked.specs.Graft.{before_graft, graft_events, after_graft, with_entry_kept};
+ghost use Rattle.graft_worked.specs.Refused.{refusing, refused_events, with_refusal, returned_events, with_returned};
 ghost use Rattle.graft_worked.specs.Start.{start_events};
+ghost use Rattle.graft_worked.specs.Wrong.{with_session_kept, with_session_begun_again, with_telling_on_its_way};
 
 /// A laboratory may begin with the worked setup.
 pub fn base_is_a_setup()
@@ -49,12 +52,17 @@ pub fn base_runs_to_its_end()
     ensures whole { Run base (first_world base) (start_events ++ graft_events) after_graft }
 {}
 
-/// Events that don't occur in the worked run, each from a world in which it may happen.
+/// Grafts that are refused, each from the first world of a laboratory in which router b has no room. One that is ordered before its session is established is
+/// refused at the source. One that is ordered after that is frozen, leaves and is turned back, and the session is live again as it was.
+pub fn refused_grafts_run_to_their_end()
+    ensures setup { IsSetup refusing }
+    ensures refused { Run refusing (first_world refusing) refused_events with_refusal }
+    ensures returned { Run refusing (first_world refusing) returned_events with_returned }
+{}
+
+/// Events that don't occur in the worked runs, each from a world in which it may happen.
 pub fn other_events_may_happen()
     ensures stray { Step base (ByRouter 0 (Stray 0)) others.with_stray others.without_stray }
-    ensures refuse { Step base (ByRouter 0 (Refuse 1)) others.with_self_order others.with_refusal }
-    ensures turn_back { Step others.full_at_b (ByRouter 1 (TurnBack 0)) others.with_session others.with_turned }
-    ensures comes_back { Step base (ByRouter 0 (Return 1)) others.with_back others.with_returned }
     ensures lose { Step base (ByFar 0 (Lose Homeward 0)) others.with_segment others.without_segment }
     ensures beat { Step others.beating (ByFar 0 (Beat 30)) before_graft others.with_beat }
     ensures tick { Step others.beating (ByRouter 0 (Tick 0 1)) others.with_round_due others.with_round }
@@ -86,4 +94,13 @@ pub fn nothing_is_sent_at_the_end()
 /// The last world doesn't solve where the link still points at the source.
 pub fn a_link_left_behind_solves_nothing()
     ensures { ¬ Solves base with_link_at_source }
+{}
+
+/// Worlds to which wrong rules would lead on the way of the worked graft are none that is claimed. Where the source keeps the session that left, there are two;
+/// where the target begins a new one, its OPEN is put again, and the remote received what that one never put; and where an item between routers
+/// is forgotten, the tables don't solve though all else is done.
+pub fn wrong_rules_lead_elsewhere()
+    ensures kept { ¬ Transparent base with_session_kept 0 }
+    ensures begun_again { ¬ Transparent base with_session_begun_again 0 }
+    ensures forgotten { ¬ Solves base with_telling_on_its_way }
 {}

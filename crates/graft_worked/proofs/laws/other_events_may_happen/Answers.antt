@@ -1,5 +1,5 @@
-use Rattle.graft_worked.proofs.Others.{may_stray, may_refuse, may_turn_back, may_return, may_lose, may_beat, may_tick}
+use Rattle.graft_worked.proofs.Others.{may_stray, may_lose, may_beat, may_tick}
 use Rattle.graft_worked.proofs.laws.other_events_may_happen.Goals as goal
 
 pub returns : goal.returns
-returns c = record { stray = may_stray; refuse = may_refuse; turn_back = may_turn_back; comes_back = may_return; lose = may_lose; beat = may_beat; tick = may_tick }
+returns c = record { stray = may_stray; lose = may_lose; beat = may_beat; tick = may_tick }

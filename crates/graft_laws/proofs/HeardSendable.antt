@@ -1,0 +1,118 @@
+-- What is heard can be written.
+use Rattle.std.proofs.Common.{◌≡◌, ℕ, ◌<◌, ◌^◌, Bool, true, false, cond, List, [], ◌∷◌, ◌++◌, length, Option, Some, None, Result, Ok, Err, refl, sym, ap, ◌∙◌, subst, inl, inr}
+use Rattle.std.specs.Prelude.{fold, is_some}
+use Rattle.std.specs.Int.{w16, to_be_bytes}
+use Rattle.std.specs.FinMap as map
+use Rattle.std.proofs.lemmas.Option.{same_Some}
+use Rattle.bgp_types.specs.declared.attrs.Attrs.{Attrs}
+use Rattle.bgp_types.specs.declared.fault.Expected.{Expected}
+use Rattle.bgp_types.specs.declared.message.Message.{Message}
+use Rattle.bgp_types.specs.declared.message.Message.TheVariants.{OpenMsg, UpdateMsg, NoticeMsg, KeepaliveMsg}
+use Rattle.bgp_types.specs.declared.message.Notice.{Notice}
+use Rattle.bgp_types.specs.declared.message.SessionState.{SessionState}
+use Rattle.bgp_types.specs.declared.message.SessionState.TheVariants.{OpenSent, OpenConfirm, Established, Closed}
+use Rattle.bgp_types.specs.declared.message.Update.{Update}
+use Rattle.bgp_types.specs.FirstFault.{message_of}
+use Rattle.bgp_types.specs.OctetLists.{AreOctets}
+use Rattle.bgp_types.specs.Prefixes.{PrefixValue}
+use Rattle.bgp_types.specs.Reads.{Reads, ReadsUpdate}
+use Rattle.bgp_types.specs.Spelling.{counted, framed, kind_of}
+use Rattle.bgp_types.specs.Tables.{prefix_cmp}
+use Rattle.bgp_types.specs.Writable.{HasAttrsFor}
+use Rattle.bgp_types.proofs.AttrLaws.{AreOctets-drop}
+use Rattle.bgp_types.proofs.MessageLaws.{message_read}
+use Rattle.bgp_types.proofs.TableLaws.{prefix_total}
+use Rattle.bgp_wire.proofs.OctetLaws.{AreOctets-front, AreOctets-back}
+use Rattle.bgp_wire.proofs.ReadAttrs.{read_good, attrs_for}
+use Rattle.bgp_story.specs.Legal.{IsGot, expected_next}
+use Rattle.bgp_story.specs.Readings.{Routes, announce, apply_if, unless_closed, update_in}
+use Rattle.bgp_story.proofs.HeaderKinds.{read_of}
+use Rattle.session_value.specs.Cases.{GetsFrame, PassesRound}
+use Rattle.session_value.specs.Sessions.{SessionValue, peering_of, state, unread}
+use Rattle.graft_laws.proofs.PrefixTables.{same}
+use Rattle.graft_laws.proofs.Sendable.{IsSendable, sendable_of}
+
+abbrev pub AreSendable : Routes → Type 0
+AreSendable routes = (x : PrefixValue) (a : Attrs) → map.get routes x ≡ Some a → IsSendable a
+
+-- what a session heard can be written, and the AS of its remote has 32 bits
+pub record IsFine (s : SessionValue) : Type 0 where
+  pub heard : AreSendable s.heard
+  pub remote_as : s.config.remote_as < 2 ^ 32
+
+-- ---- tables
+
+pub none_sendable : AreSendable map.empty
+none_sendable x a e = let f : ◌≡◌ {A = Bool} false true = ap is_some (sym (map.get-empty prefix_cmp x) ∙ e) in absurd cc
+
+removed : (routes : Routes) (y : PrefixValue) → AreSendable routes → AreSendable (map.remove routes y)
+removed routes y all x a e = by_test (same x y) (sym (map.get-remove prefix_total routes y x) ∙ e) where
+  by_test : (t : Bool) → cond t None (map.get routes x) ≡ Some a → IsSendable a
+  by_test true f = absurd cc
+  by_test false f = all x a f
+
+put : (routes : Routes) (y : PrefixValue) (attrs : Attrs) → IsSendable attrs → AreSendable routes → AreSendable (map.insert routes y attrs)
+put routes y attrs can all x a e = by_test (same x y) (sym (map.get-insert prefix_total routes y attrs x) ∙ e) where
+  by_test : (t : Bool) → cond t (Some attrs) (map.get routes x) ≡ Some a → IsSendable a
+  by_test true f = subst IsSendable (same_Some attrs a f) can
+  by_test false f = all x a f
+
+removes : (ys : List PrefixValue) (routes : Routes) → AreSendable routes → AreSendable (fold map.remove routes ys)
+removes [] routes all = all
+removes (y ∷ ys) routes all = removes ys (map.remove routes y) (removed routes y all)
+
+announces : (attrs : Option Attrs) → ((a : Attrs) → attrs ≡ Some a → IsSendable a) → (ys : List PrefixValue) (routes : Routes) → AreSendable routes → AreSendable (fold (announce attrs) routes ys)
+announces attrs can [] routes all = all
+announces None can (y ∷ ys) routes all = announces None can ys routes all
+announces (Some a) can (y ∷ ys) routes all = announces (Some a) can ys (map.insert routes y a) (put routes y a (can a refl) all)
+
+-- ---- messages
+
+attrs_of : (wide : Bool) (body : List ℕ) (u : Update) → AreOctets body → ReadsUpdate wide body u → HasAttrsFor u.attrs u.nlri
+attrs_of wide body u octets r =
+    let all : AreOctets (counted r.withdrawn ++ (counted r.attrs ++ r.nlri)) = subst AreOctets r.fields octets in
+    let rest : AreOctets (counted r.attrs ++ r.nlri) = AreOctets-back (counted r.withdrawn) (counted r.attrs ++ r.nlri) all in
+    let attrs : AreOctets r.attrs = AreOctets-back (to_be_bytes w16 (length r.attrs)) r.attrs (AreOctets-front (counted r.attrs) r.nlri rest) in
+    attrs_for r.found u.attrs u.nlri (read_good wide r.attrs r.found attrs r.reads_attrs) r.announced
+
+attrs_can : (attrs : Option Attrs) (nlri : List PrefixValue) → HasAttrsFor attrs nlri → (a : Attrs) → attrs ≡ Some a → IsSendable a
+attrs_can None nlri has a e = absurd cc
+attrs_can (Some b) nlri has a e = subst IsSendable (same_Some b a e) (sendable_of b has.1)
+
+update_can : (e : Expected) (bytes : List ℕ) (u : Update) → IsGot bytes → AreOctets bytes → message_of e bytes ≡ Ok (UpdateMsg u) → (a : Attrs) → u.attrs ≡ Some a → IsSendable a
+update_can e bytes u (inl whole) octets g =
+    let r : Reads bytes (UpdateMsg u) e.wide = (message_read e bytes (UpdateMsg u) octets whole g).0 in
+    let body : AreOctets r.body = AreOctets-drop 19 (framed (kind_of (UpdateMsg u)) r.body) (subst AreOctets r.octets octets) in
+    attrs_can u.attrs u.nlri (attrs_of e.wide r.body u body r.says)
+update_can e bytes u (inr faulty) octets g = let sound = (read_of e bytes (UpdateMsg u) g).sound in absurd cc
+
+applied : (e : Expected) (bytes : List ℕ) (routes : Routes) (m : Result Message Notice) → IsGot bytes → AreOctets bytes → message_of e bytes ≡ m → AreSendable routes → AreSendable (apply_if routes (update_in m))
+applied e bytes routes (Ok (OpenMsg o)) got octets g all = all
+applied e bytes routes (Ok (UpdateMsg u)) got octets g all = announces u.attrs (update_can e bytes u got octets g) u.nlri (fold map.remove routes u.withdrawn) (removes u.withdrawn routes all)
+applied e bytes routes (Ok (NoticeMsg n)) got octets g all = all
+applied e bytes routes (Ok KeepaliveMsg) got octets g all = all
+applied e bytes routes (Err n) got octets g all = all
+
+unclosed : (now : SessionState) (routes : Routes) → AreSendable routes → AreSendable (unless_closed now routes)
+unclosed OpenSent routes all = all
+unclosed OpenConfirm routes all = all
+unclosed Established routes all = all
+unclosed Closed routes all = none_sendable
+
+-- ---- sessions
+
+pub gets_fine : (s next : SessionValue) (bytes : List ℕ) → AreOctets (unread s) → GetsFrame s bytes next → IsFine s → IsFine next
+gets_fine s next bytes octets g fine =
+    let e : Expected = expected_next (peering_of s.config) s.story (state s) in
+    let own : AreOctets bytes = AreOctets-front bytes g.rest (subst AreOctets g.front octets) in
+    record {
+      heard = subst AreSendable (sym (ap (λ (v : SessionValue). v.heard) g.effect))
+          (unclosed g.next (apply_if s.heard (update_in (message_of e bytes))) (applied e bytes s.heard (message_of e bytes) g.got own refl fine.heard));
+      remote_as = subst (λ (v : SessionValue). v.config.remote_as < 2 ^ 32) (sym g.effect) fine.remote_as;
+    }
+
+pub passes_fine : (s next : SessionValue) (round : ℕ) → PassesRound s round next → IsFine s → IsFine next
+passes_fine s next round g fine = record {
+  heard = subst AreSendable (sym (ap (λ (v : SessionValue). v.heard) g.effect)) (unclosed g.next s.heard fine.heard);
+  remote_as = subst (λ (v : SessionValue). v.config.remote_as < 2 ^ 32) (sym g.effect) fine.remote_as;
+}

@@ -1,0 +1,198 @@
+-- Grafts that are refused, from the first world on.
+use Rattle.std.proofs.Common.{◌≡◌, ℕ, zero, suc, ◌<◌, ◌≤◌, ◌||◌, Bool, true, false, [], ◌∷◌, Some, None, is_some, refl, sym, ap, ◌∙◌, subst, inr, lit<, lit≤, arith}
+use Rattle.std.specs.Prelude.{All, slice_get, unwrap_or}
+use Rattle.std.specs.FinMap as map
+use Rattle.std.proofs.lemmas.List.Elements.{All-from_recursion, All-nil}
+use Rattle.bgp_types.specs.declared.message.SessionState.TheVariants.{OpenSent}
+use Rattle.bgp_types.specs.FirstFault.{body_of, message_of}
+use Rattle.bgp_types.specs.Header.{header_fault, frame_at}
+use Rattle.bgp_types.specs.Many.{many, many_within}
+use Rattle.bgp_types.specs.OpenBody.{cap_at, caps_of, params_of, open_of}
+use Rattle.bgp_types.specs.Prefixes.{PrefixValue, IsPrefix}
+use Rattle.bgp_story.proofs.WorkedStories.{peering_is}
+use Rattle.graft_steps.specs.declared.refusal.Refusal.TheVariants.{NotEstablished, RouterFull}
+use Rattle.graft_steps.specs.Refusals.{freeze_refusal}
+use Rattle.session_value.specs.Sessions.{state, hold_time}
+use Rattle.session_value.specs.Sets.{has}
+use Rattle.graft_model.specs.Setups.{MoveStep, PeeringSetup, IsPeeringSetup, IsSetup, IsStep, starting_at, room_of}
+use Rattle.graft_model.specs.First.{first_router, first_world}
+use Rattle.graft_model.specs.Points.{at}
+use Rattle.graft_model.specs.Parts.{Vacant, Live, Frozen, Shadow, OperatorPart, Moved, Back, World}
+use Rattle.graft_model.specs.RouterRows.{MeshIn, MeshTo, ReportOut}
+use Rattle.graft_model.specs.GraftRows.{Refuses, TurnsBack, Returns}
+use Rattle.graft_model.specs.OperatorRows.{OrderTo, OrdersGraft}
+use Rattle.graft_model.specs.Steps.{Order, Admit, Refuse, Freeze, Leave, TurnBack, Return, Run}
+use Rattle.graft_worked.specs.Base.{peering_c, base}
+use Rattle.graft_worked.specs.Places.{idle_router, holding, nothing}
+use Rattle.graft_worked.specs.First.{session_first, a_first, far_first, first}
+use Rattle.graft_worked.specs.Graft.{to_b}
+use Rattle.graft_worked.specs.Start.{a_with, session_joined, far_emitted, joined_world, joining_events}
+use Rattle.graft_worked.specs.Refused.{refusing, operator_moved, refusal_report, refused_events, with_refusal, away_events, returned_events, with_returned}
+use Rattle.graft_worked.proofs.Points.{at-at, at-same}
+use Rattle.graft_worked.proofs.Tens.{empty, some_in_none}
+use Rattle.graft_worked.proofs.Setup.{below_two}
+use Rattle.graft_worked.proofs.First.{first_is}
+use Rattle.graft_worked.proofs.Moves.{IsSmall, a_alone, a_to_b, a_ordered_by, a_ends, a_reports, b_sends_back, operator_orders}
+use Rattle.graft_worked.proofs.GraftRows.{no_move, admits, freezes, leaves}
+use Rattle.graft_worked.proofs.StartRun.{joins, joined}
+
+-- ---- the laboratory
+
+small : IsSmall refusing
+small = record { a = lit< tt; b = lit< tt; c = lit< tt }
+
+peering_is_sound : IsPeeringSetup refusing 0 peering_c
+peering_is_sound = record {
+  start = lit< tt;
+  number = refl;
+  home_as = refl;
+  identifier = refl;
+  valid = peering_is 0 (lit< tt) refl;
+  policies = refl;
+  next_hop = refl;
+  opening = lit≤ tt;
+  said = lit≤ tt;
+  beats = λ h. absurd (omega arith);
+}
+
+peerings_are_sound : (p : ℕ) (peering : PeeringSetup) → slice_get refusing.peerings p ≡ Some peering → IsPeeringSetup refusing p peering
+peerings_are_sound zero peering e = subst (λ x. IsPeeringSetup refusing 0 x) (ap (λ o. unwrap_or o peering_c) e) peering_is_sound
+peerings_are_sound (suc p) peering e = absurd cc
+
+pub refusing_is_sound : IsSetup refusing
+refusing_is_sound = record {
+  peerings = peerings_are_sound;
+  room = below_two (λ r. starting_at refusing r ≤ room_of refusing r) (lit≤ tt) (lit≤ tt);
+  networks = All-from_recursion (λ router. All IsPrefix router.networks) refusing.routers (All-nil IsPrefix, (All-nil IsPrefix, tt));
+  steps = All-from_recursion (IsStep refusing) refusing.steps (lit< tt, ((lit< tt, lit< tt), (tt, tt)));
+  ended = refl;
+}
+
+-- it begins as the one with room
+same_router : (r : ℕ) → first_router refusing r ≡ first_router base r
+same_router zero = refl
+same_router (suc zero) = refl
+same_router (suc (suc r)) = refl
+
+begins : first_world refusing ≡ first
+begins = (λ i. record (first_world base) { router = λ r. same_router r i }) ∙ first_is
+
+-- ---- the order
+
+orders : (issued : ℕ → Bool) → issued 1 ≡ false
+    → OrdersGraft refusing 1 (record { group = 0; issued = issued; source = λ k. None; outcome = λ k. None }) None (OrderTo 0 (record { graft = 1; peering = 0; target = 1 }) ∷ []) (operator_moved issued)
+orders issued unissued = record {
+  next = record { group = refl; unissued = unissued };
+  peering = 0;
+  target = 1;
+  is = refl;
+  earlier = λ m other lt e. absurd (by_step m other lt e);
+  takes = refl;
+  sends = refl;
+  effect = refl;
+} where
+  by_step : (m other : ℕ) → m < 1 → slice_get refusing.steps m ≡ Some (MoveStep 0 other) → ⊥
+  by_step zero other lt e = no_move (slice_get refusing.steps 0) 0 other refl e
+  by_step (suc m) other lt e = omega arith
+
+-- ---- refused at the source
+
+not_up : freeze_refusal (record { 0 = 0 }) (record { 0 = 1 }) (state session_first) (hold_time session_first) ≡ Some (NotEstablished OpenSent)
+unfolding message_of header_fault frame_at body_of open_of many many_within cap_at caps_of params_of
+not_up = refl
+
+refuses : Refuses 0 1 (holding idle_router (Live session_first (Some to_b))) None (ReportOut (refusal_report (NotEstablished OpenSent)) ∷ []) a_first
+refuses = record {
+  peering = 0;
+  target = 1;
+  session = session_first;
+  live = record { is = refl };
+  refusal = NotEstablished OpenSent;
+  cause = not_up;
+  takes = refl;
+  sends = refl;
+  effect = λ i. record a_first { places = sym (at-at (λ p. Vacant) 0 (Live session_first (Some to_b)) (Live session_first None)) i };
+}
+
+refused : Run refusing first refused_events with_refusal
+refused = (
+  _,
+  operator_orders refusing small a_first idle_router far_first (record { group = 0; issued = λ n. false; source = λ k. None; outcome = λ k. None }) nothing (Order 1) (operator_moved (λ n. false)) (record { graft = 1; peering = 0; target = 1 }) tt (inr (orders (λ n. false) refl)),
+  (
+    _,
+    a_ordered_by refusing small a_first idle_router far_first (operator_moved (λ n. false)) nothing (Admit 1) (holding idle_router (Live session_first (Some to_b))) (record { graft = 1; peering = 0; target = 1 }) [] (admits refusing (lit< tt) idle_router session_first),
+    (
+      _,
+      a_reports refusing small (holding idle_router (Live session_first (Some to_b))) idle_router far_first (operator_moved (λ n. false)) nothing (Refuse 1) a_first (refusal_report (NotEstablished OpenSent)) refuses,
+      refl,
+    ),
+  ),
+)
+
+pub refused_from_first : Run refusing (first_world refusing) refused_events with_refusal
+refused_from_first = subst (λ (w : World). Run refusing w refused_events with_refusal) (sym begins) refused
+
+-- ---- turned back by the target
+
+may_freeze : freeze_refusal (record { 0 = 0 }) (record { 0 = 1 }) (state session_joined) (hold_time session_joined) ≡ None
+unfolding message_of header_fault frame_at body_of open_of many many_within cap_at caps_of params_of
+may_freeze = refl
+
+turns_back : TurnsBack refusing 1 0 idle_router (Some (MeshIn 0 (Moved 1 0 session_joined))) (MeshTo 0 (Back 1 0 session_joined (RouterFull 0)) ∷ []) idle_router
+turns_back = record {
+  comes = record { graft = 1; peering = 0; session = session_joined; takes = refl; known = lit< tt; vacant = refl };
+  refusal = RouterFull 0;
+  cause = refl;
+  sends = refl;
+  stays = refl;
+}
+
+-- nothing was told on it, and there is no best route
+nothing_due : (x : PrefixValue) → has empty x ≡ (is_some (map.get session_joined.told x) || is_some (map.get idle_router.best x))
+nothing_due x = some_in_none _ x ∙ sym (ap (λ told. told || is_some (map.get idle_router.best x)) (some_in_none _ x) ∙ some_in_none _ x)
+
+returns : Returns 1 (holding idle_router (Shadow 1)) (Some (MeshIn 1 (Back 1 0 session_joined (RouterFull 0)))) (ReportOut (refusal_report (RouterFull 0)) ∷ []) (a_with session_joined)
+returns = record {
+  graft = 1;
+  peering = 0;
+  session = session_joined;
+  refusal = RouterFull 0;
+  takes = refl;
+  shadow = refl;
+  sends = refl;
+  due = record { members = nothing_due };
+  effect = λ i. record (a_with session_joined) { places = sym (at-at (λ p. Vacant) 0 (Shadow 1) (Live session_joined None)) i; due_out = sym (at-same empty 0) i };
+}
+
+abbrev moved : OperatorPart
+moved = operator_moved (at (λ n. false) 0 true)
+
+comes_back : Run refusing joined_world away_events with_returned
+comes_back = (
+  _,
+  operator_orders refusing small (a_with session_joined) idle_router far_emitted (record { group = 0; issued = at (λ n. false) 0 true; source = λ k. None; outcome = λ k. None }) nothing (Order 1) moved (record { graft = 1; peering = 0; target = 1 }) tt (inr (orders (at (λ n. false) 0 true) refl)),
+  (
+    _,
+    a_ordered_by refusing small (a_with session_joined) idle_router far_emitted moved nothing (Admit 1) (holding idle_router (Live session_joined (Some to_b))) (record { graft = 1; peering = 0; target = 1 }) [] (admits refusing (lit< tt) idle_router session_joined),
+    (
+      _,
+      a_alone refusing small (holding idle_router (Live session_joined (Some to_b))) idle_router far_emitted moved nothing (Freeze 1) (holding idle_router (Frozen session_joined to_b)) (freezes idle_router session_joined may_freeze),
+      (
+        _,
+        a_to_b refusing small (holding idle_router (Frozen session_joined to_b)) idle_router far_emitted moved nothing (Leave 1) (holding idle_router (Shadow 1)) (Moved 1 0 session_joined) (leaves idle_router session_joined (at-same empty 0)),
+        (
+          _,
+          b_sends_back refusing small (holding idle_router (Shadow 1)) idle_router far_emitted moved nothing (TurnBack 0) idle_router (Moved 1 0 session_joined) (Back 1 0 session_joined (RouterFull 0)) [] turns_back,
+          (
+            _,
+            a_ends refusing small (holding idle_router (Shadow 1)) idle_router far_emitted moved nothing (Return 1) (a_with session_joined) (Back 1 0 session_joined (RouterFull 0)) [] (refusal_report (RouterFull 0)) returns,
+            refl,
+          ),
+        ),
+      ),
+    ),
+  ),
+)
+
+pub returned_from_first : Run refusing (first_world refusing) returned_events with_returned
+returned_from_first = subst (λ (w : World). Run refusing w returned_events with_returned) (sym begins) (joined refusing first joined_world with_returned joining_events away_events (joins refusing small refl) comes_back)
