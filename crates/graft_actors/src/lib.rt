@@ -7,8 +7,8 @@ mod laws;
 mod notes;
 
 pub use known::Known;
-pub use notes::{note, note_sent};
 pub use laws::{
     acts_are_events, far_sides_take_what_comes, routers_take_what_comes,
     the_operator_takes_what_comes,
 };
+pub use notes::{note, note_sent};

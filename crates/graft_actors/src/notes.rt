@@ -8,13 +8,7 @@ use graft_edge::NoMemory;
 use ring_net::Post;
 
 /// Notes an event that sends nothing. What it takes is known to the caller.
-pub fn note<I: Drop>(
-    post: &mut Post<I>,
-    kind: u16,
-    a: u32,
-    b: u32,
-    c: u32,
-) -> Result<(), NoMemory>
+pub fn note<I: Drop>(post: &mut Post<I>, kind: u16, a: u32, b: u32, c: u32) -> Result<(), NoMemory>
     ensures ok { OnOk result (WroteOne post.old kind a b c [] post.new) }
     ensures edges { SameEdges post.old post.new }
 {
