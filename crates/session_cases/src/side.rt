@@ -1,0 +1,117 @@
+//! A session and its remote, step by step.
+
+use crate::calls::{Opening, arrive, begin, moved, offer, reach, remote, tick};
+use crate::texts::{number, octets, offered, read_text, segment_text, tick_text};
+use anyhow::{Context, Result, bail};
+use bgp_session::{OfferStop, Session};
+use std::alloc::Global;
+use std::str::SplitWhitespace;
+use tcp_end::End;
+
+/// The two ends of a connection, without a link between them: what one emits arrives at the other where a line says so.
+#[derive(Drop)]
+pub struct Side {
+    session: Session,
+    far: End,
+}
+
+impl Side {
+    pub fn begin(alloc: Global, words: &mut SplitWhitespace<'_>) -> Result<Side> {
+        let opening = Opening {
+            first: number(words)?,
+            offered: offered(words)?,
+            hold: number(words)?,
+        };
+        Ok(Side {
+            session: begin(alloc, opening)?,
+            far: remote(alloc, opening)?,
+        })
+    }
+
+    /// What all looks say.
+    pub fn looks(&self, alloc: Global) -> Result<String> {
+        let session = &self.session;
+        let (state, hold, put) = (session.state(), session.hold(), session.put_len());
+        let width = if session.wide() { "wide" } else { "narrow" };
+        let acked = session.all_acked();
+        let waits = session.frame_waits();
+        let identifier = session.remote_identifier().unwrap_or(0);
+        let (heard, told) = (session.heard().len(), session.told().len());
+        let peering = session.config().peering.0;
+        let lines = session.story().lines().len();
+        Ok(format!(in alloc;
+            "{state:?} {width} hold {hold} put {put} acked {acked} waits {waits} remote {identifier:X} heard {heard} told {told} peering {peering} lines {lines}"
+        )?)
+    }
+
+    /// The remote says something, which arrives.
+    fn say(&mut self, alloc: Global, bytes: &[u8]) -> Result<String> {
+        self.far.send(bytes)?;
+        let segment = self.far.next_segment()?.context("what is said")?;
+        let arrival = arrive(&mut self.session, &segment)?;
+        Ok(format!(in alloc; "{arrival:?}")?)
+    }
+
+    /// The session emits something, which arrives at the remote.
+    fn emit(&mut self, alloc: Global) -> Result<String> {
+        let segment = self.session.next_segment()?;
+        if let Some(segment) = &segment {
+            reach(&mut self.far, segment)?;
+        }
+        segment_text(alloc, &segment)
+    }
+
+    /// The remote answers, which arrives.
+    fn acknowledge(&mut self, alloc: Global) -> Result<String> {
+        let answer = self.far.answer().context("an answer that is owed")?;
+        let arrival = arrive(&mut self.session, &answer)?;
+        Ok(format!(in alloc; "{arrival:?}")?)
+    }
+
+    fn offer(&mut self, alloc: Global, bytes: &[u8]) -> Result<String> {
+        match offer(alloc, &mut self.session, bytes)? {
+            Ok(()) => Ok(format!(in alloc; "put")?),
+            Err(OfferStop::StreamFull { length }) => Ok(format!(in alloc; "full {length}")?),
+            Err(OfferStop::NoMemory) => bail!("no memory"),
+        }
+    }
+
+    /// The rounds from one to another pass.
+    fn tick(&mut self, alloc: Global, first: u32, last: u32) -> Result<String> {
+        let mut text = String::new(alloc);
+        for round in first..=last {
+            let answer = tick_text(alloc, &tick(&mut self.session, round)?)?;
+            text = format!(in alloc; "{text} {answer}")?;
+        }
+        Ok(format!(in alloc; "{}", text.as_str().trim_start())?)
+    }
+
+    /// The session moves. What is answered is the peering of its capsule, and how many lines its story has.
+    pub fn moved(self, alloc: Global) -> Result<(Side, String)> {
+        let Side { session, far } = self;
+        let session = moved(session);
+        let side = Side { session, far };
+        let answer = side.looks(alloc)?;
+        Ok((side, answer))
+    }
+
+    pub fn act(
+        &mut self,
+        alloc: Global,
+        command: &str,
+        words: &mut SplitWhitespace<'_>,
+    ) -> Result<String> {
+        match command {
+            "look" => self.looks(alloc),
+            "say" => self.say(alloc, octets(alloc, words)?.as_slice()),
+            "read" => read_text(alloc, &self.session.read()?),
+            "emit" => self.emit(alloc),
+            "turn" => segment_text(alloc, &self.session.turn()?),
+            "answer" => segment_text(alloc, &self.session.answer()),
+            "acknowledge" => self.acknowledge(alloc),
+            "tick" => self.tick(alloc, number(words)?, number(words)?),
+            "offer" => self.offer(alloc, octets(alloc, words)?.as_slice()),
+            _ => bail!("no such command"),
+        }
+    }
+}

@@ -1,0 +1,67 @@
+//! Words of lines, and texts of answers.
+
+use anyhow::{Context, Result, bail};
+use bgp_session::{ReadStep, TickStep};
+use bgp_types::Prefix;
+use std::alloc::Global;
+use std::str::SplitWhitespace;
+use tcp_seq::Segment;
+
+pub fn number(words: &mut SplitWhitespace<'_>) -> Result<u32> {
+    Ok(words.next().context("a number")?.parse::<u32>()?)
+}
+
+/// Octets in hexadecimal; `-` for none.
+pub fn octets(alloc: Global, words: &mut SplitWhitespace<'_>) -> Result<Vec<u8>> {
+    match words.next().context("octets")? {
+        "-" => Ok(Vec::new(alloc)),
+        word => Ok(hex::decode(alloc, word)?),
+    }
+}
+
+/// Whether the OPEN offers four-octet AS numbers.
+pub fn offered(words: &mut SplitWhitespace<'_>) -> Result<bool> {
+    match words.next().context("a width")? {
+        "narrow" => Ok(false),
+        "wide" => Ok(true),
+        _ => bail!("narrow or wide"),
+    }
+}
+
+fn listed(alloc: Global, word: &str, prefixes: &[Prefix]) -> Result<String> {
+    let mut text = format!(in alloc; "{word}")?;
+    for prefix in prefixes {
+        text = format!(in alloc; "{text} {prefix}")?;
+    }
+    Ok(text)
+}
+
+pub fn read_text(alloc: Global, step: &Option<ReadStep>) -> Result<String> {
+    match step {
+        None => listed(alloc, "nothing", &[]),
+        Some(ReadStep::Opened) => listed(alloc, "opened", &[]),
+        Some(ReadStep::Established) => listed(alloc, "established", &[]),
+        Some(ReadStep::Changed(prefixes)) => listed(alloc, "changed", prefixes.as_slice()),
+        Some(ReadStep::Closed(prefixes)) => listed(alloc, "closed", prefixes.as_slice()),
+    }
+}
+
+pub fn tick_text(alloc: Global, step: &TickStep) -> Result<String> {
+    match step {
+        TickStep::Plain => listed(alloc, "plain", &[]),
+        TickStep::Beat => listed(alloc, "beat", &[]),
+        TickStep::Expired(prefixes) => listed(alloc, "expired", prefixes.as_slice()),
+    }
+}
+
+/// The number and the acknowledgement of a segment, and its octets in hexadecimal.
+pub fn segment_text(alloc: Global, segment: &Option<Segment>) -> Result<String> {
+    match segment {
+        None => listed(alloc, "none", &[]),
+        Some(segment) => {
+            let (seq, ack) = (segment.seq.0, segment.ack.0);
+            let bytes = hex::encode_upper(alloc, segment.bytes.as_slice())?;
+            Ok(format!(in alloc; "{seq} {ack} [{bytes}]")?)
+        }
+    }
+}
