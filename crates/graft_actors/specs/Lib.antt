@@ -1,3 +1,4 @@
 pub mod Items
+pub mod Notes
 pub mod Acts
 pub mod Emissions

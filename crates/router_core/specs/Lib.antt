@@ -1,0 +1,12 @@
+pub mod Configs
+pub mod Places
+pub mod Parts
+pub mod Updates
+pub mod Rounds
+pub mod Rested
+pub mod Stages
+pub mod Begins
+pub mod Takes
+pub mod Turned
+pub mod FieldProps
+pub mod Routers

