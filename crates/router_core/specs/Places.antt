@@ -1,5 +1,5 @@
 -- A router's places as it keeps them.
-use Rattle.std.specs.Prelude.{ℕ, ◌≡◌, ◌<◌, List, Option, option_map, slice_index_or}
+use Rattle.std.specs.Prelude.{ℕ, ◌≡◌, ◌<◌, List, Option, Some, None, option_map, min, slice_index_or}
 use Rattle.bgp_session.specs.Running.{RunningSession}
 use Rattle.graft_steps.specs.declared.order.GraftIds.{GraftIds}
 use Rattle.graft_model.specs.Parts as model
@@ -22,3 +22,16 @@ place_at places p = slice_index_or places p Vacant
 -- a running session is live there, with this order
 pub record RunsAt (places : List Place) (p : ℕ) (running : RunningSession) (order : Option GraftIds) : Type 0 where
   pub is : place_at places p ≡ Live running order
+
+-- the graft that is stored at a place, or in which the session left it
+abbrev pub graft_in : Place → Option ℕ
+graft_in Vacant = None
+graft_in (Live running None) = None
+graft_in (Live running (Some ids)) = Some ids.graft
+graft_in (Shadow away) = Some away.graft
+
+-- the lower of two numbers, where there are any
+abbrev pub lower_of : Option ℕ → Option ℕ → Option ℕ
+lower_of None other = other
+lower_of (Some n) None = Some n
+lower_of (Some n) (Some m) = Some (min n m)

@@ -1,5 +1,5 @@
 -- A router: how it begins, and what is said of its calls.
-use Rattle.std.specs.Prelude.{ℕ, ◌≡◌, ◌<◌, ◌≢◌, List, Option, Some, None}
+use Rattle.std.specs.Prelude.{ℕ, ◌≡◌, ◌<◌, ◌≢◌, List, Option, Some, None, false}
 use Rattle.ring_net.specs.Deeds.{Deed}
 use Rattle.graft_steps.specs.declared.item.Item.{Item}
 use Rattle.graft_steps.specs.declared.order.GraftIds.{GraftIds}
@@ -25,14 +25,18 @@ abbrev pub own : routers.Router.Router → OwnPart
 own r = own_part r.fields
 
 abbrev pub IsNew : Setup → RouterConfig → routers.Router.Router → Type 0
-IsNew setup config router = BeginsAs setup config router.fields
+IsNew setup config router = BeginsAs setup config router.fields × Works router
+
+-- memory never ran out in a call of it
+abbrev pub Works : routers.Router.Router → Type 0
+Works r = r.has_failed ≡ false
 
 -- what is said of a take and of a turn beside their events
 abbrev pub took : routers.Router.Router → ℕ → Item RunningSession → List (Deed (Item RunningSession)) → routers.Router.Router → Type 0
-took old from item deeds new = Took old.fields from item deeds new.fields
+took old from item deeds new = Took old.fields from item deeds new.fields × Works new
 
 abbrev pub turned : routers.Router.Router → List (Deed (Item RunningSession)) → routers.Router.Router → Type 0
-turned old deeds new = Turned old.fields deeds new.fields
+turned old deeds new = Turned old.fields deeds new.fields × Works new
 
 -- ---- looks
 

@@ -46,6 +46,13 @@ impl DueSets {
         Ok(DueSets { sets })
     }
 
+    /// How many sets there are.
+    pub(crate) fn len(&self) -> usize
+        ensures { result ≡ length self.now }
+    {
+        self.sets.len()
+    }
+
     /// The set of a number, which there is.
     pub(crate) fn set(&self, n: usize) -> &TrieTable<()>
         requires { n < length self.now }

@@ -5,6 +5,7 @@ mod config;
 mod due;
 mod fields;
 mod place;
+mod rest;
 mod router;
 mod stages;
 mod takes;

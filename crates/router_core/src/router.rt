@@ -7,6 +7,7 @@ ghost use Rattle.router_core.specs.FieldProps.{Keeps-prop-if};
 use crate::config::RouterConfig;
 use crate::fields::Fields;
 use crate::place::Place;
+use crate::rest::{nothing_left, rest};
 use crate::stages::{stuck, turn};
 use crate::takes;
 use bgp_session::{Capsule, Session};
@@ -39,7 +40,7 @@ impl Router {
     ghost use Rattle.router_core.specs.Configs.{IsConfigOf};
     ghost use Rattle.router_core.specs.Parts.{carried};
     ghost use Rattle.router_core.specs.Places.{RunsAt};
-    ghost use Rattle.router_core.specs.Routers.{own, part_in, IsNew, IsHeldAt, took, turned};
+    ghost use Rattle.router_core.specs.Routers.{own, part_in, IsNew, IsHeldAt, Works, took, turned};
     ghost use Rattle.router_core.specs.Updates.{IsFirstStuck};
 
     /// The router that begins with this configuration, in the laboratory that it is of: its own networks are to be decided, and the sessions that start here
@@ -130,5 +131,15 @@ impl Router {
         ensures dirty { result.now.dirty ≡ (part_in self.now).dirty }
     {
         &self.fields.rib
+    }
+
+    /// What is left to do.
+    pub fn rest(&self) -> RouterRest
+        ensures { Works self.now → IsRouterRest self.now.fields.number.0 (part_in self.now) result }
+    {
+        if self.has_failed {
+            return nothing_left(self.fields.number);
+        }
+        rest(&self.fields)
     }
 }
