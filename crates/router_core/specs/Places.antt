@@ -23,13 +23,6 @@ place_at places p = slice_index_or places p Vacant
 pub record RunsAt (places : List Place) (p : ℕ) (running : RunningSession) (order : Option GraftIds) : Type 0 where
   pub is : place_at places p ≡ Live running order
 
--- the graft that is stored at a place, or in which the session left it
-abbrev pub graft_in : Place → Option ℕ
-graft_in Vacant = None
-graft_in (Live running None) = None
-graft_in (Live running (Some ids)) = Some ids.graft
-graft_in (Shadow away) = Some away.graft
-
 -- the lower of two numbers, where there are any
 abbrev pub lower_of : Option ℕ → Option ℕ → Option ℕ
 lower_of None other = other
