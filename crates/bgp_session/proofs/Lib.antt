@@ -1,5 +1,6 @@
 pub mod Ends
 pub mod Opens
+pub mod Numbers
 pub mod Got
 pub mod Reading
 pub mod Rounds

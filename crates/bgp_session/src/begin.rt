@@ -93,5 +93,6 @@ pub(crate) fn first_parts(alloc: Global, config: SessionConfig) -> Result<Parts,
         end,
         opened: None,
         left: 0,
+        next_round: 0,
     })
 }

@@ -1,1 +1,13 @@
 pub mod Dids
+pub mod RoundLists
+pub mod Standing
+pub mod VisitSteps
+pub mod PlaceSteps
+pub mod Careful
+pub mod EmitSteps
+pub mod SendSteps
+pub mod EachPlace
+pub mod LeaveSteps
+pub mod DecideSteps
+pub mod TellSteps
+pub mod TurnSteps

@@ -5,6 +5,11 @@ pub mod Updates
 pub mod Rounds
 pub mod Rested
 pub mod Stages
+pub mod Visits
+pub mod Sending
+pub mod Leaving
+pub mod Tellings
+pub mod Deciding
 pub mod Begins
 pub mod Takes
 pub mod Turned

@@ -47,10 +47,10 @@ IsLevel s u = u ≡ record s { acked_at_turn = s.session.end.acked }
 abbrev pub EmitsAll : RunningSession → RunningSession → Type 0
 EmitsAll s u = u ≡ record s { session = record s.session { end = record s.session.end { emitted = reach_of s.session.end; owed = false } } }
 
--- a round passed on the session where one may
-abbrev pub PassesWhereItMay : ℕ → ℕ → List RouterEvent → RunningSession → RunningSession → Type 0
-PassesWhereItMay round p events s u = PutsMore s u
-    × ((MayPass s.session round × (rounds_on p events ≡ round ∷ [])) ⊎ ((¬ MayPass s.session round) × (rounds_on p events ≡ []) × (u ≡ s)))
+-- a round passed on the session where one may, and no other
+abbrev pub PassesWhereItMay : (round : ℕ) → (rounds : List ℕ) → RunningSession → RunningSession → Type 0
+PassesWhereItMay round rounds s u = PutsMore s u
+    × ((MayPass s.session round × (rounds ≡ round ∷ [])) ⊎ ((¬ MayPass s.session round) × (rounds ≡ []) × (u ≡ s)))
 
 -- ---- the tallies
 
@@ -88,7 +88,7 @@ pub record SendsAgain (old : Fields) (before : Post (Item RunningSession)) (new 
 pub record PassesRounds (old : Fields) (before : Post (Item RunningSession)) (new : Fields) (after : Post (Item RunningSession)) : Type 0 where
   pub events : List RouterEvent
   pub did : (t : ℕ → Tally) → Did old before t events new after t
-  pub places : (p : ℕ) → PlaceGoes (PassesWhereItMay old.turns p events) (place_at old.places.items p) (place_at new.places.items p)
+  pub places : (p : ℕ) → PlaceGoes (PassesWhereItMay old.turns (rounds_on p events)) (place_at old.places.items p) (place_at new.places.items p)
   pub same : new ≡ record old { places = new.places; rib = new.rib; due_out = new.due_out }
   pub keeps : Keeps new
 

@@ -5,6 +5,7 @@ mod config;
 mod due;
 mod fields;
 mod place;
+mod probe;
 mod rest;
 mod router;
 mod stages;

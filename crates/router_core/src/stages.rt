@@ -7,6 +7,7 @@ mod emit;
 mod grafts;
 mod put;
 mod rounds;
+mod send;
 mod tell;
 
 pub(crate) use begin::begin;

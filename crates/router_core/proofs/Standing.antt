@@ -1,0 +1,39 @@
+-- What a router keeps while its stages change it.
+use Rattle.std.proofs.Common.{◌≡◌, ℕ, ◌≤◌, length, is_some, false, refl, sym, ap, subst, ◌∙◌}
+use Rattle.std.specs.FinMap as map
+use Rattle.rib_stages.specs.Values.{rib_of, table_at}
+use Rattle.router_core.specs.Configs.{IsRibOf}
+use Rattle.router_core.specs.Parts.{Keeps, KeepsPlace}
+use Rattle.router_core.specs.Places.{place_at}
+use Rattle.router_core.specs.declared.fields.Fields.{Fields}
+
+-- all but the places, the routes, what is due and the count of turns is as it was
+abbrev pub IsSteady : Fields → Fields → Type 0
+IsSteady f g = g ≡ record f { places = g.places; rib = g.rib; due_in = g.due_in; due_out = g.due_out; turns = g.turns }
+
+pub record SameSizes (f g : Fields) : Type 0 where
+  pub places : length g.places.items ≡ length f.places.items
+  pub due_in : length g.due_in ≡ length f.due_in
+  pub due_out : length g.due_out ≡ length f.due_out
+  pub config : g.rib.config ≡ f.rib.config
+  pub tellings : g.rib.tellings ≡ f.rib.tellings
+
+pub keeps_on : (f g : Fields) → Keeps f → IsSteady f g → SameSizes f g → ((p : ℕ) → KeepsPlace f.known.setup f.number.0 p ((rib_of g.rib).entries p) (table_at g.due_out p) (place_at g.places.items p)) → Keeps g
+keeps_on f g k steady sizes each = subst Keeps (sym steady) (record {
+  there = k.there;
+  routers = k.routers;
+  few_routers = k.few_routers;
+  few_peerings = k.few_peerings;
+  room = k.room;
+  policies = k.policies;
+  firsts = k.firsts;
+  rib = subst (λ config. IsRibOf f.known.setup f.number.0 config) (sym sizes.config) k.rib;
+  places = sizes.places ∙ k.places;
+  due_in = sizes.due_in ∙ k.due_in;
+  due_out = sizes.due_out ∙ k.due_out;
+  tellings = λ q from x. ap (λ tellings. is_some (map.get (table_at tellings q) x)) sizes.tellings ∙ k.tellings q from x;
+  each = each;
+})
+
+pub keeps_turns : (f : Fields) (n : ℕ) → Keeps f → Keeps (record f { turns = n })
+keeps_turns f n k = keeps_on f (record f { turns = n }) k refl (record { places = refl; due_in = refl; due_out = refl; config = refl; tellings = refl }) k.each

@@ -1,0 +1,66 @@
+-- How prefixes are gathered into UPDATEs, one by one.
+use Rattle.std.specs.Prelude.{ℕ, ◌≡◌, ◌≢◌, ◌≤◌, ◌<◌, ◌⊎◌, List, [], ◌∷◌, ◌++◌, length, Option, Some, None, Bool, All}
+use Rattle.std.specs.BTreeMap.{get}
+use Rattle.std.specs.Cmp.Lexicographic.{slice_cmp}
+use Rattle.std.specs.Ordering.{nat_cmp}
+use Rattle.bgp_types.specs.declared.attrs.Attrs.{Attrs}
+use Rattle.bgp_types.specs.Prefixes.{PrefixValue, IsPrefix}
+use Rattle.tell_plan.specs.declared.batch.Batch.{Batch}
+use Rattle.tell_plan.specs.declared.gather.Gathered.{Gathered}
+use Rattle.tell_plan.specs.declared.gather.Open.{Open}
+use Rattle.tell_plan.specs.Codes.{value_code}
+use Rattle.tell_plan.specs.Plans.{octets}
+
+-- no UPDATE tells this
+abbrev pub NoneTells : Option Attrs → List Batch → Type 0
+NoneTells attrs batches = All (λ batch. batch.attrs ≢ attrs) batches
+
+-- the last UPDATE that tells this
+pub record LastThatTells (attrs : Option Attrs) (batches before : List Batch) (batch : Batch) (after : List Batch) : Type 0 where
+  pub is : batches ≡ before ++ batch ∷ after
+  pub told : batch.attrs ≡ attrs
+  pub last : NoneTells attrs after
+
+-- a batch with one prefix more
+abbrev pub with_prefix : Batch → PrefixValue → Batch
+with_prefix batch prefix = record batch { prefixes = batch.prefixes ++ prefix ∷ [] }
+
+-- A prefix joins the last UPDATE that tells what is to be told of it, where 4,096 octets hold it.
+pub record Joins (wide : Bool) (attrs : Option Attrs) (prefix : PrefixValue) (old new : List Batch) : Type 0 where
+  pub before : List Batch
+  pub batch : Batch
+  pub after : List Batch
+  pub there : LastThatTells attrs old before batch after
+  pub fits : octets wide attrs (batch.prefixes ++ prefix ∷ []) ≤ 4096
+  pub effect : new ≡ before ++ with_prefix batch prefix ∷ after
+
+-- Where there is none, or where it is full, the prefix begins another behind all others.
+pub record Begins (wide : Bool) (attrs : Option Attrs) (prefix : PrefixValue) (old new : List Batch) : Type 0 where
+  pub full : (before : List Batch) (batch : Batch) (after : List Batch) → LastThatTells attrs old before batch after → 4096 < octets wide attrs (batch.prefixes ++ prefix ∷ [])
+  pub effect : new ≡ old ++ record { attrs = attrs; prefixes = prefix ∷ [] } ∷ []
+
+abbrev pub Adds : Bool → Option Attrs → PrefixValue → List Batch → List Batch → Type 0
+Adds wide attrs prefix old new = Joins wide attrs prefix old new ⊎ Begins wide attrs prefix old new
+
+-- ---- how the UPDATEs that may be joined are found
+
+-- where the last UPDATE that tells this stands, and how many octets it has
+pub record IsOpen (wide : Bool) (attrs : Option Attrs) (batches : List Batch) (open : Open) : Type 0 where
+  pub before : List Batch
+  pub batch : Batch
+  pub after : List Batch
+  pub there : LastThatTells attrs batches before batch after
+  pub place : open.place ≡ length before
+  pub octets : open.octets ≡ octets wide attrs batch.prefixes
+
+abbrev pub OpenFor : Bool → Option Attrs → List Batch → Option Open → Type 0
+OpenFor wide attrs batches None = NoneTells attrs batches
+OpenFor wide attrs batches (Some open) = IsOpen wide attrs batches open
+
+-- For each value that can be told, the last UPDATE that tells it is found by its code.
+abbrev pub Keeps : Gathered → Type 0
+Keeps gathered = (attrs : Option Attrs) → OpenFor gathered.wide attrs gathered.batches.items (get (slice_cmp nat_cmp) gathered.open (value_code attrs))
+
+-- All prefixes of UPDATEs are prefixes.
+abbrev pub AreSound : List Batch → Type 0
+AreSound batches = All (λ batch. All IsPrefix batch.prefixes) batches
