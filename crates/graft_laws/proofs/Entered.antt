@@ -1,5 +1,5 @@
 -- Each router has of a peering the entries that it is to have.
-use Rattle.std.proofs.Common.{◌≡◌, ◌≢◌, ◌==◌, ℕ, true, false, List, [], ◌∷◌, ◌++◌, Option, refl, sym, ap, ◌∙◌, subst, arith, ◌⊎◌, inl, inr}
+use Rattle.std.proofs.Common.{◌≡◌, ◌≢◌, ◌==◌, ℕ, true, false, List, [], ◌∷◌, ◌++◌, Option, Some, refl, sym, ap, ◌∙◌, subst, arith, ◌⊎◌, inl, inr}
 use Rattle.std.specs.Prelude.{option_map, unwrap_or}
 use Rattle.std.proofs.lemmas.Bool.{cases_eq}
 use Rattle.std.proofs.lemmas.Bool.Decides.{nat_tests}
@@ -12,19 +12,22 @@ use Rattle.bgp_types.specs.Prefixes.{PrefixValue}
 use Rattle.bgp_types.specs.Tables.{prefix_cmp}
 use Rattle.bgp_story.specs.declared.line.Line.{Line}
 use Rattle.bgp_story.specs.declared.line.Line.TheVariants.{Put, Got, Tick}
-use Rattle.bgp_story.specs.Legal.{Peering, got_open}
+use Rattle.bgp_story.specs.Legal.{Peering, got_open, is_up}
 use Rattle.session_value.specs.declared.config.SessionConfig.{SessionConfig}
-use Rattle.session_value.specs.Cases.{PutsUpdate}
-use Rattle.session_value.specs.Sessions.{SessionValue, peering_of, begun}
+use Rattle.bgp_types.specs.declared.message.SessionState.TheVariants.{Closed}
+use Rattle.session_value.specs.Cases.{GetsFrame, PassesRound, PutsUpdate}
+use Rattle.session_value.specs.Sessions.{SessionValue, peering_of, begun, state}
+use Rattle.session_value.specs.Ties.{IsOfStory}
 use Rattle.route_policy.specs.Candidates.{imported}
 use Rattle.graft_model.specs.Decisions.{entry_of, remote_identifier, session_route}
 use Rattle.graft_model.specs.Parts.{Order, Live, Entries, Entry, World}
-use Rattle.graft_model.specs.RouterRows.{BringsIn}
-use Rattle.graft_model.specs.Setups.{Setup, rules_for}
-use Rattle.graft_laws.specs.Keeps.{Keeps}
-use Rattle.graft_laws.specs.Life.{Change, Rests, Begins, Admits, Refuses, Freezes, Leaves, Lands, TurnsBack, Returns, Clears, NotesRefusal, NotesSuccess, Puts, Emits, Arrives, Gets, Ticks, Strays, IsToSay, FarActs, SameEntries, Enters}
+use Rattle.graft_model.specs.RouterRows.{BringsIn, FollowsHeard}
+use Rattle.graft_model.specs.Setups.{Setup, config_of, rules_for, start_of}
+use Rattle.graft_model.specs.First.{first_world}
+use Rattle.graft_laws.specs.Life.{Change, Rests, Begins, Admits, Refuses, Freezes, Leaves, Lands, TurnsBack, Returns, Clears, NotesRefusal, NotesSuccess, Puts, Emits, Arrives, Gets, Ticks, Strays, IsToSay, FarActs, SameEntries, EntersHeard}
 use Rattle.graft_laws.specs.Phases.{Ordered, Stored, Halted, Moving, Landed, Returning, Declined, Cleared, Phase, Idle, Busy, place_by, InBounds}
 use Rattle.graft_laws.specs.Tables.{has_entries, is_late, Entered}
+use Rattle.graft_laws.proofs.HeardNone.{GoesOn, entry_stays}
 
 -- ---- what a session brings in
 
@@ -82,6 +85,25 @@ live_has (Busy q k t (Returning refusal)) s o r e = absurd (grind (arith, nat_te
 live_has (Busy q k t (Declined refusal)) s o r e = (grind (arith, nat_tests), λ n other. grind (arith, nat_tests))
 live_has (Busy q k t Cleared) s o r e = (grind (arith, nat_tests), λ n other. grind (arith, nat_tests))
 
+-- ---- sessions that change by themselves
+
+gets_on : (s next : SessionValue) (bytes : List ℕ) → GetsFrame s bytes next → GoesOn s next
+gets_on s next bytes gets = record {
+  config = ap (λ (v : SessionValue). v.config) gets.effect;
+  more = Got bytes ∷ gets.answer;
+  story = ap (λ (v : SessionValue). v.story) gets.effect;
+}
+
+round_on : (s next : SessionValue) (round : ℕ) → PassesRound s round next → GoesOn s next
+round_on s next round passes = record {
+  config = ap (λ (v : SessionValue). v.config) passes.effect;
+  more = Tick round ∷ passes.answer;
+  story = ap (λ (v : SessionValue). v.story) passes.effect;
+}
+
+up_unclosed : (s : SessionValue) → is_up (state s) ≡ true → state s ≢ Closed
+up_unclosed s up closed = let u : is_up Closed ≡ true = ap is_up (sym closed) ∙ up in cc
+
 -- ---- changes
 
 module _ (setup : Setup) (w v : World) (p : ℕ) where
@@ -104,35 +126,40 @@ module _ (setup : Setup) (w v : World) (p : ℕ) where
   moves phase next s has late entries is = stays phase next s s has late (record { config = refl; heard = refl; got = refl }) entries is
 
   -- a live session changes by itself
-  follows : (phase : Phase) (s next : SessionValue) (o : Option Order) (r : ℕ) → place_by phase s r ≡ Live s o → Enters setup p r next w v → Entered setup w p phase s → Entered setup v p phase next
-  follows phase s next o r live enters is =
+  follows : (phase : Phase) (s next : SessionValue) (o : Option Order) (r : ℕ) → place_by phase s r ≡ Live s o → IsOfStory s → state s ≢ Closed → GoesOn s next → EntersHeard setup p r s next w v
+      → Entered setup w p phase s → Entered setup v p phase next
+  follows phase s next o r live story unclosed on enters is =
       let l = live_has phase s o r live in
       record {
         here = λ n there. by_number n there (cases_eq n r);
         elsewhere = λ n none early. enters.others n (λ e. let t : has_entries phase n ≡ true = ap (has_entries phase) e ∙ l.0 in let f : true ≡ false = sym t ∙ none in absurd cc) ∙ is.elsewhere n none early;
       }
     where
+      by_prefix : (x : PrefixValue) → FollowsHeard setup r s next ((w.router r).entries p) ((v.router r).entries p) x → map.get ((v.router r).entries p) x ≡ entry_of setup r next x
+      by_prefix x (inl same) = same.1 ∙ is.here r (live_has phase s o r live).0 x ∙ sym (entry_stays setup r s next x story unclosed on same.0)
+      by_prefix x (inr other) = other.1
+
       by_number : (n : ℕ) → has_entries phase n ≡ true → (n ≡ r) ⊎ (n ≢ r) → BringsIn setup n next ((v.router n).entries p)
-      by_number n there (inl e) = subst (λ (m : ℕ). BringsIn setup m next ((v.router m).entries p)) (sym e) enters.here
+      by_number n there (inl e) = subst (λ (m : ℕ). BringsIn setup m next ((v.router m).entries p)) (sym e) (λ x. by_prefix x (enters.here x))
       by_number n there (inr other) = let f : true ≡ false = sym there ∙ (live_has phase s o r live).1 n other in absurd cc
 
-  changes : (phase next : Phase) (s t : SessionValue) → InBounds setup phase → Change setup w v p phase s next t → Entered setup w p phase s → Entered setup v p next t
-  changes phase _ s _ bounds (Rests line entries) is = rests phase s entries is
-  changes _ _ s _ bounds (Begins {q = q} {k = k} {t = t} line entries) is = moves (Idle q) (Busy q k t Ordered) s (λ r. refl) (λ r e. refl) entries is
-  changes _ _ s _ bounds (Admits {q = q} {k = k} {t = t} line entries) is = moves (Busy q k t Ordered) (Busy q k t Stored) s (λ r. refl) (λ r e. refl) entries is
-  changes _ _ s _ bounds (Refuses {q = q} {k = k} {t = t} {refusal = refusal} cause line entries) is = moves (Busy q k t Stored) (Busy q k t (Declined refusal)) s (λ r. refl) (λ r e. refl) entries is
-  changes _ _ s _ bounds (Freezes {q = q} {k = k} {t = t} cause line entries) is = moves (Busy q k t Stored) (Busy q k t Halted) s (λ r. refl) (λ r e. refl) entries is
-  changes _ _ s _ bounds (Leaves {q = q} {k = k} {t = t} line entries) is = moves (Busy q k t Halted) (Busy q k t Moving) s (λ r. refl) (λ r e. refl) entries is
-  changes _ _ s _ bounds (Lands {q = q} {k = k} {t = t} admitted line enters) is = record {
+  changes : (phase next : Phase) (s t : SessionValue) → InBounds setup phase → IsOfStory s → Change setup w v p phase s next t → Entered setup w p phase s → Entered setup v p next t
+  changes phase _ s _ bounds story (Rests line entries) is = rests phase s entries is
+  changes _ _ s _ bounds story (Begins {q = q} {k = k} {t = t} line entries) is = moves (Idle q) (Busy q k t Ordered) s (λ r. refl) (λ r e. refl) entries is
+  changes _ _ s _ bounds story (Admits {q = q} {k = k} {t = t} line entries) is = moves (Busy q k t Ordered) (Busy q k t Stored) s (λ r. refl) (λ r e. refl) entries is
+  changes _ _ s _ bounds story (Refuses {q = q} {k = k} {t = t} {refusal = refusal} cause line entries) is = moves (Busy q k t Stored) (Busy q k t (Declined refusal)) s (λ r. refl) (λ r e. refl) entries is
+  changes _ _ s _ bounds story (Freezes {q = q} {k = k} {t = t} cause line entries) is = moves (Busy q k t Stored) (Busy q k t Halted) s (λ r. refl) (λ r e. refl) entries is
+  changes _ _ s _ bounds story (Leaves {q = q} {k = k} {t = t} line entries) is = moves (Busy q k t Halted) (Busy q k t Moving) s (λ r. refl) (λ r e. refl) entries is
+  changes _ _ s _ bounds story (Lands {q = q} {k = k} {t = t} admitted line enters) is = record {
     here = λ r there x. let e : r ≡ t = grind (arith, nat_tests) in subst (λ (m : ℕ). map.get ((v.router m).entries p) x ≡ entry_of setup m s x) (sym e) (enters.here x);
     elsewhere = λ r none early.
         let other : r ≢ t = grind (arith, nat_tests) in
         let old : (r == q) ≡ false = early in
         enters.others r other ∙ is.elsewhere r old refl;
   }
-  changes _ _ s _ bounds (TurnsBack {q = q} {k = k} {t = t} {refusal = refusal} cause line entries) is = moves (Busy q k t Moving) (Busy q k t (Returning refusal)) s (λ r. refl) (λ r e. refl) entries is
-  changes _ _ s _ bounds (Returns {q = q} {k = k} {t = t} {refusal = refusal} line entries) is = moves (Busy q k t (Returning refusal)) (Busy q k t (Declined refusal)) s (λ r. refl) (λ r e. refl) entries is
-  changes _ _ s _ bounds (Clears {q = q} {k = k} {t = t} line drops) is = record {
+  changes _ _ s _ bounds story (TurnsBack {q = q} {k = k} {t = t} {refusal = refusal} cause line entries) is = moves (Busy q k t Moving) (Busy q k t (Returning refusal)) s (λ r. refl) (λ r e. refl) entries is
+  changes _ _ s _ bounds story (Returns {q = q} {k = k} {t = t} {refusal = refusal} line entries) is = moves (Busy q k t (Returning refusal)) (Busy q k t (Declined refusal)) s (λ r. refl) (λ r e. refl) entries is
+  changes _ _ s _ bounds story (Clears {q = q} {k = k} {t = t} line drops) is = record {
     here = λ r there x.
         let e : r ≡ t = grind (arith, nat_tests) in
         let other : r ≢ q = λ f. bounds.2 (sym e ∙ f) in
@@ -143,16 +170,16 @@ module _ (setup : Setup) (w v : World) (p : ℕ) where
       by_number : (r : ℕ) → has_entries (Busy q k t Cleared) r ≡ false → (r ≡ q) ⊎ (r ≢ q) → (v.router r).entries p ≡ map.empty
       by_number r none (inl e) = ap (λ (m : ℕ). (v.router m).entries p) e ∙ drops.here
       by_number r none (inr other) = drops.others r other ∙ is.elsewhere r none (let f : (r == q) ≡ false = grind (arith, nat_tests) in f)
-  changes _ _ s _ bounds (NotesRefusal {q = q} {k = k} {t = t} {refusal = refusal} line entries) is = moves (Busy q k t (Declined refusal)) (Idle q) s (λ r. refl) (λ r e. refl) entries is
-  changes _ _ s _ bounds (NotesSuccess {q = q} {k = k} {t = t} line entries) is = moves (Busy q k t Cleared) (Idle t) s (λ r. refl) (λ r e. refl) entries is
-  changes phase _ s next bounds (Puts r order update live puts line entries) is = stays phase phase s next (λ n. refl) (λ n e. e) (puts_same s next update puts) entries is
-  changes phase _ s _ bounds (Emits r order from len segment end live emits line entries) is = stays phase phase s (record s { end = end }) (λ n. refl) (λ n e. e) (record { config = refl; heard = refl; got = refl }) entries is
-  changes phase _ s _ bounds (Arrives r order segment end live arrives line entries) is = stays phase phase s (record s { end = end }) (λ n. refl) (λ n e. e) (record { config = refl; heard = refl; got = refl }) entries is
-  changes phase _ s next bounds (Gets r order bytes live gets line enters) is = follows phase s next order r live enters is
-  changes phase _ s next bounds (Ticks r order round live passes line enters) is = follows phase s next order r live enters is
-  changes phase _ s _ bounds (Strays r segment line entries) is = rests phase s entries is
-  changes phase _ s _ bounds (IsToSay step line entries) is = rests phase s entries is
-  changes phase _ s _ bounds (FarActs event taken sent part row moved entries) is = rests phase s entries is
+  changes _ _ s _ bounds story (NotesRefusal {q = q} {k = k} {t = t} {refusal = refusal} line entries) is = moves (Busy q k t (Declined refusal)) (Idle q) s (λ r. refl) (λ r e. refl) entries is
+  changes _ _ s _ bounds story (NotesSuccess {q = q} {k = k} {t = t} line entries) is = moves (Busy q k t Cleared) (Idle t) s (λ r. refl) (λ r e. refl) entries is
+  changes phase _ s next bounds story (Puts r order update live puts line entries) is = stays phase phase s next (λ n. refl) (λ n e. e) (puts_same s next update puts) entries is
+  changes phase _ s _ bounds story (Emits r order from len segment end live emits line entries) is = stays phase phase s (record s { end = end }) (λ n. refl) (λ n e. e) (record { config = refl; heard = refl; got = refl }) entries is
+  changes phase _ s _ bounds story (Arrives r order segment end live arrives line entries) is = stays phase phase s (record s { end = end }) (λ n. refl) (λ n e. e) (record { config = refl; heard = refl; got = refl }) entries is
+  changes phase _ s next bounds story (Gets r order bytes live gets line enters) is = follows phase s next order r live story gets.unclosed (gets_on s next bytes gets) enters is
+  changes phase _ s next bounds story (Ticks r order round live passes line enters) is = follows phase s next order r live story (up_unclosed s passes.up) (round_on s next round passes) enters is
+  changes phase _ s _ bounds story (Strays r segment line entries) is = rests phase s entries is
+  changes phase _ s _ bounds story (IsToSay step line entries) is = rests phase s entries is
+  changes phase _ s _ bounds story (FarActs event taken sent part row moved entries) is = rests phase s entries is
 
 -- a session that has just begun brings nothing in
 nothing_yet : (setup : Setup) (r : ℕ) (config : SessionConfig) → BringsIn setup r (begun config) map.empty
@@ -162,8 +189,9 @@ nothing_yet setup r config x =
     (λ route. record { route = route; identifier = remote_identifier (begun config); address = config.remote_address })
     (imported setup.home_as x (session_route setup r (begun config) x) o)) (map.get-empty prefix_cmp x))
 
-pub keeps_entered : (setup : Setup) → Keeps setup (Entered setup)
-keeps_entered setup = record {
-  first = λ p config is. record { here = λ r there. nothing_yet setup r config; elsewhere = λ r none early. refl };
-  step = λ before after p phase next s t reached below stands stands' change is. changes setup before after p phase next s t stands.bounds change is;
-}
+pub first_entered : (setup : Setup) (p : ℕ) (config : SessionConfig) → config_of setup p ≡ Some config → Entered setup (first_world setup) p (Idle (start_of setup p)) (begun config)
+first_entered setup p config is = record { here = λ r there. nothing_yet setup r config; elsewhere = λ r none early. refl }
+
+pub entered_then : (setup : Setup) (before after : World) (p : ℕ) (phase next : Phase) (s t : SessionValue) → InBounds setup phase → IsOfStory s → Change setup before after p phase s next t
+    → Entered setup before p phase s → Entered setup after p next t
+entered_then setup before after p phase next s t bounds story change is = changes setup before after p phase next s t bounds story change is

@@ -8,13 +8,14 @@ use Rattle.tcp_seq.specs.Endpoint.{PlacedSegment}
 use Rattle.session_value.specs.Sessions.{SessionValue}
 use Rattle.graft_model.specs.Points.{at}
 use Rattle.graft_model.specs.Setups.{Setup}
-use Rattle.graft_model.specs.Parts.{Place, RouterPart, Outward, OperatorPart, World}
-use Rattle.graft_model.specs.RouterRows.{RouterTaken, RouterSent, BringsIn}
+use Rattle.graft_model.specs.Parts.{Place, RouterPart, Outward, OperatorPart, World, Entries}
+use Rattle.bgp_types.specs.Prefixes.{PrefixValue}
+use Rattle.graft_model.specs.RouterRows.{RouterTaken, RouterSent, BringsIn, FollowsHeard}
 use Rattle.graft_laws.specs.Phases.{Phase, only, only2, place_by, mesh_by, orders_by, reports_by, InBounds}
 use Rattle.graft_laws.specs.Log.{is_of, LogSays}
 use Rattle.graft_laws.specs.Owned.{is_on, mesh_of, orders_of, reports_of, Stands}
 use Rattle.graft_laws.specs.Moves.{mesh_taken, inward_taken, orders_taken, mesh_sent, outward_sent, reports_sent, RouterMoves}
-use Rattle.graft_laws.specs.Life.{SameLine, LineGets, LineGives, SameEntries, Enters, Drops, Change}
+use Rattle.graft_laws.specs.Life.{SameLine, LineGets, LineGives, SameEntries, Enters, EntersHeard, Drops, Change}
 use Rattle.graft_laws.proofs.Lists.{append_same}
 use Rattle.graft_laws.proofs.Others.{found_in}
 
@@ -154,6 +155,13 @@ entries_there w v p r part m x ne = ap (λ (f : ℕ → RouterPart). (f x).entri
 pub enters : (setup : Setup) (w v : World) (p r : ℕ) (s : SessionValue) (part : RouterPart) → v.router ≡ at w.router r part → BringsIn setup r s (part.entries p) → Enters setup p r s w v
 enters setup w v p r s part m brings = record {
   here = λ x. ap (λ (t : _). map.get t x) (entries_here w v p r part m) ∙ brings x;
+  others = entries_there w v p r part m;
+}
+
+pub enters_heard : (setup : Setup) (w v : World) (p r : ℕ) (s n : SessionValue) (part : RouterPart) → v.router ≡ at w.router r part
+    → ((x : PrefixValue) → FollowsHeard setup r s n ((w.router r).entries p) (part.entries p) x) → EntersHeard setup p r s n w v
+enters_heard setup w v p r s n part m follows = record {
+  here = λ x. subst (λ (t : Entries). FollowsHeard setup r s n ((w.router r).entries p) t x) (sym (entries_here w v p r part m)) (follows x);
   others = entries_there w v p r part m;
 }
 

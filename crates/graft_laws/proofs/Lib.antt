@@ -40,6 +40,7 @@ pub mod Entered
 pub mod Informed
 pub mod Dropped
 pub mod ToldNone
+pub mod HeardNone
 pub mod Answered
 pub mod TableLaws
 pub mod QuietPhases

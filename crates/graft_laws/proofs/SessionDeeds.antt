@@ -21,10 +21,10 @@ use Rattle.graft_laws.specs.Owned.{Stands, Owned}
 use Rattle.graft_laws.specs.Log.{graft_at}
 use Rattle.graft_laws.specs.Moves.{inward_taken, outward_sent, reports_sent, RouterMoves}
 use Rattle.graft_model.specs.Steps.{RouterEvent, Put, Emit, Arrive, Stray, Got, Decide, Tell, Hear, Admit, Refuse, Freeze, Leave, Land, TurnBack, Return, Clear, Tick, router_row}
-use Rattle.graft_laws.specs.Life.{SameLine, SameEntries, Enters, Change, Rests, Puts, Emits as ToEmit, Arrives as ToArrive, Gets, Ticks as ToTick, Strays as ToStray}
+use Rattle.graft_laws.specs.Life.{SameLine, SameEntries, EntersHeard, Change, Rests, Puts, Emits as ToEmit, Arrives as ToArrive, Gets, Ticks as ToTick, Strays as ToStray}
 use Rattle.graft_laws.proofs.Phases.{live_session}
 use Rattle.graft_laws.proofs.Others.{Untouched, AreOthers, absent_still, untouched_by_items}
-use Rattle.graft_laws.proofs.Following.{at_other, line_by_router, line_gets, line_gives, same_entries, enters}
+use Rattle.graft_laws.proofs.Following.{at_other, line_by_router, line_gets, line_gives, same_entries, enters_heard}
 use Rattle.graft_laws.proofs.Rests.{changed, stands_still}
 use Rattle.graft_laws.proofs.Room.{no_more_taken}
 use Rattle.graft_laws.proofs.Deeds.{known_place, equal_or_not, Deed, all_apart, own_or_apart, no_items, other_sent, other_taken, no_outward, no_inward}
@@ -147,7 +147,7 @@ module _ (setup : Setup) (w v : World) (r : ℕ) (owned : Owned setup w) where
 
   -- a session that changed by itself, as its entries follow
   follow_deed : (p : ℕ) (session next : SessionValue) (order : Option Order) (part : RouterPart) → before.places p ≡ Live session order → Follows setup r p before session next order part
-      → ((phase : Phase) (s : SessionValue) → s ≡ session → place_by phase s r ≡ Live s order → SameLine p w v → Enters setup p r next w v → Change setup w v p phase s phase next)
+      → ((phase : Phase) (s : SessionValue) → s ≡ session → place_by phase s r ≡ Live s order → SameLine p w v → EntersHeard setup p r s next w v → Change setup w v p phase s phase next)
       → RouterMoves r None [] part w v → Deed setup w v r None [] part
   follow_deed p session next order part is row change m =
       let places : part.places ≡ at before.places p (Live next order) = ap (λ (x : RouterPart). x.places) row.effect in
@@ -166,7 +166,7 @@ module _ (setup : Setup) (w v : World) (r : ℕ) (owned : Owned setup w) where
               next = phase;
               session = next;
               stands = changed setup w v p r None [] part phase s next order m (no_items setup p r) e.1 (place_here before part p _ places) b;
-              change = change phase s (sym e.0) e.1 (line_by_router w v p r None [] part m (λ a. refl) (λ a. refl)) (enters setup w v p r next part m.router row.entries);
+              change = change phase s (sym e.0) e.1 (line_by_router w v p r None [] part m (λ a. refl) (λ a. refl)) (subst (λ (x : SessionValue). EntersHeard setup p r x next w v) e.0 (enters_heard setup w v p r session next part m.router row.entries));
             });
         reports = λ a. tt;
         room = λ l. le_trans _ _ _ (no_more_taken setup before part p _ places (ap is_taken is)) l;

@@ -6,11 +6,11 @@ use Rattle.graft_model.specs.Parts.{Order, Live, World}
 use Rattle.graft_model.specs.Setups.{Setup, IsSetup, peerings_in}
 use Rattle.graft_laws.specs.Keeps.{Reached, Keeps, Has}
 use Rattle.graft_laws.specs.Streams.{IsUnbroken}
-use Rattle.graft_laws.specs.Tables.{Entered, Decided, Informed, Answered, IsWhole}
+use Rattle.graft_laws.specs.Tables.{Decided, Informed, Answered, IsWhole}
 use Rattle.graft_laws.proofs.Answered.{first_answered, answered_row}
 use Rattle.graft_laws.proofs.Decided.{first_decided, decided_row}
 use Rattle.graft_laws.proofs.Deeds.{known_place}
-use Rattle.graft_laws.proofs.Entered.{keeps_entered}
+use Rattle.graft_laws.proofs.Entered.{first_entered, entered_then}
 use Rattle.graft_laws.proofs.Informed.{informed}
 use Rattle.graft_laws.proofs.Phases.{live_session}
 use Rattle.graft_laws.proofs.Routers.{of_routers}
@@ -41,12 +41,11 @@ always_answered setup w sound reached r =
 keeps_whole : (setup : Setup) → IsSetup setup → Keeps setup (IsWhole setup)
 keeps_whole setup sound =
     let a : Keeps setup (IsUnbroken setup) = keeps_unbroken setup sound in
-    let b : Keeps setup (Entered setup) = keeps_entered setup in
     record {
-      first = λ p config is. record { unbroken = a.first p config is; entered = b.first p config is };
+      first = λ p config is. record { unbroken = a.first p config is; entered = first_entered setup p config is };
       step = λ before after p phase next s t reached below stands stands' change is. record {
         unbroken = a.step before after p phase next s t reached below stands stands' change is.unbroken;
-        entered = b.step before after p phase next s t reached below stands stands' change is.entered;
+        entered = entered_then setup before after p phase next s t stands.bounds is.unbroken.story change is.entered;
       };
     }
 

@@ -38,11 +38,11 @@ before_open e bytes (Ok KeepaliveMsg) answer next g f up closed = absurd (up (sy
 before_open e bytes (Ok (NoticeMsg n)) answer next g f up closed = absurd (closed (sym (ap (λ (x : List Line × SessionState). x.1) f)))
 before_open e bytes (Err n) answer next g f up closed = absurd (closed (sym (ap (λ (x : List Line × SessionState). x.1) f)))
 
-record Rounds (state next : SessionState) (answer : List Line) : Type 0 where
-  same : next ≡ state
-  none : AllByRecursion PutsNoUpdate answer
+pub record Rounds (state next : SessionState) (answer : List Line) : Type 0 where
+  pub same : next ≡ state
+  pub none : AllByRecursion PutsNoUpdate answer
 
-round_is : (a b : Bool) (now next : SessionState) (answer : List Line)
+pub round_is : (a b : Bool) (now next : SessionState) (answer : List Line)
     → ◌≡◌ {A = List Line × SessionState} (cond a (Put (NoticeMsg hold_expired) ∷ [], Closed) (cond b (Put KeepaliveMsg ∷ [], now) ([], now))) (answer, next) → next ≢ Closed → Rounds now next answer
 round_is true b now next answer e closed = absurd (closed (sym (ap (λ (x : List Line × SessionState). x.1) e)))
 round_is false true now next answer e closed = record { same = sym (ap (λ (x : List Line × SessionState). x.1) e); none = subst (λ (x : List Line). AllByRecursion PutsNoUpdate x) (ap (λ (x : List Line × SessionState). x.0) e) (tt, tt) }

@@ -2,6 +2,7 @@
 use Rattle.std.specs.Prelude.{ℕ, ◌≡◌, ◌≢◌, List, [], ◌∷◌, ◌++◌, Option, Some, None}
 use Rattle.std.specs.FinMap as map
 use Rattle.tcp_seq.specs.Endpoint.{Endpoint, PlacedSegment, TakesSegment}
+use Rattle.bgp_types.specs.Prefixes.{PrefixValue}
 use Rattle.bgp_types.specs.declared.message.Update.{Update}
 use Rattle.graft_steps.specs.declared.refusal.Refusal.{Refusal}
 use Rattle.graft_steps.specs.Refusals.{freeze_refusal}
@@ -10,7 +11,7 @@ use Rattle.session_value.specs.Cases.{GetsFrame, PutsUpdate, PassesRound}
 use Rattle.graft_model.specs.Slices.{EmitsAt}
 use Rattle.graft_model.specs.Setups.{Setup}
 use Rattle.graft_model.specs.Parts.{Order, Live, FarPart, Outward, Seg, PointAt, World}
-use Rattle.graft_model.specs.RouterRows.{BringsIn}
+use Rattle.graft_model.specs.RouterRows.{BringsIn, FollowsHeard}
 use Rattle.graft_model.specs.GraftRows.{refusal_of}
 use Rattle.graft_model.specs.FarRows.{FarTaken, FarSent}
 use Rattle.graft_model.specs.Steps.{FarEvent, far_row}
@@ -56,6 +57,11 @@ pub record Enters (setup : Setup) (p r : ℕ) (session : SessionValue) (before a
   pub here : BringsIn setup r session ((after.router r).entries p)
   pub others : (x : ℕ) → x ≢ r → (after.router x).entries p ≡ (before.router x).entries p
 
+-- the entries of the router r follow the session, and the others have what they had
+pub record EntersHeard (setup : Setup) (p r : ℕ) (session next : SessionValue) (before after : World) : Type 0 where
+  pub here : (x : PrefixValue) → FollowsHeard setup r session next ((before.router r).entries p) ((after.router r).entries p) x
+  pub others : (x : ℕ) → x ≢ r → (after.router x).entries p ≡ (before.router x).entries p
+
 -- the router r has no entries now, and the others have what they had
 pub record Drops (p r : ℕ) (before after : World) : Type 0 where
   pub here : (after.router r).entries p ≡ map.empty
@@ -93,9 +99,9 @@ pub data Change (setup : Setup) (before after : World) (p : ℕ) : Phase → Ses
   Arrives : {phase : Phase} {s : SessionValue} (r : ℕ) (order : Option Order) (segment : PlacedSegment) (end : Endpoint) → place_by phase s r ≡ Live s order
       → TakesSegment s.end segment end → LineGives p r segment before after → SameEntries p before after → Change setup before after p phase s phase (record s { end = end })
   Gets : {phase : Phase} {s next : SessionValue} (r : ℕ) (order : Option Order) (bytes : List ℕ) → place_by phase s r ≡ Live s order → GetsFrame s bytes next
-      → SameLine p before after → Enters setup p r next before after → Change setup before after p phase s phase next
+      → SameLine p before after → EntersHeard setup p r s next before after → Change setup before after p phase s phase next
   Ticks : {phase : Phase} {s next : SessionValue} (r : ℕ) (order : Option Order) (round : ℕ) → place_by phase s r ≡ Live s order → PassesRound s round next
-      → SameLine p before after → Enters setup p r next before after → Change setup before after p phase s phase next
+      → SameLine p before after → EntersHeard setup p r s next before after → Change setup before after p phase s phase next
   -- a segment finds no live session
   Strays : {phase : Phase} {s : SessionValue} (r : ℕ) (segment : PlacedSegment) → LineGives p r segment before after → SameEntries p before after → Change setup before after p phase s phase s
   -- a step is to be said, and the far side's own events
