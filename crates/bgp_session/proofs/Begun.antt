@@ -54,7 +54,7 @@ module _ (config : SessionConfig) (alloc : Global) (valid : IsPeering (peering_o
   first_state = fresh Remote config.peering config.send_first config.receive_first
 
   abbrev pub made : StoryValue → Routes → Routes → EndState → Parts
-  made story heard told end = record { alloc = alloc; config = config; story = story; heard = heard; told = told; end = end; opened = None; left = 0; next_round = 0 }
+  made story heard told end = record { alloc = alloc; config = config; story = story; heard = heard; told = told; end = end; opened = None; left = 0 }
 
   abbrev first_made : Parts
   first_made = made (record { lines = lines; remote_as = config.remote_as }) map.empty map.empty (with_sent first_state octets)
@@ -81,7 +81,6 @@ module _ (config : SessionConfig) (alloc : Global) (valid : IsPeering (peering_o
     remote_as = refl;
     opened = refl;
     left = omega arith;
-    next_round = refl;
   }
 
   pub begins : (story : StoryValue) (heard told : Routes) (end : EndState) → story ≡ record { lines = lines; remote_as = config.remote_as } → heard ≡ map.empty → told ≡ map.empty → end ≡ with_sent first_state octets → (value_of (made story heard told end) ≡ begun config) × Keeps (made story heard told end)

@@ -54,7 +54,6 @@ module _ (parts : Parts) (end : EndState) (e : Endpoint) (k : Keeps parts)
     remote_as = k.remote_as;
     opened = k.opened;
     left = k.left;
-    next_round = k.next_round;
   }
 
 -- ---- emission

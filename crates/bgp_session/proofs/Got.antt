@@ -33,9 +33,8 @@ use Rattle.session_value.proofs.GotTies.{gets_tied}
 use Rattle.session_value.proofs.Rooms.{got_has_room, most_any}
 use Rattle.bgp_session.specs.declared.parts.Opened.{Opened}
 use Rattle.bgp_session.specs.declared.parts.Parts.{Parts}
-use Rattle.bgp_session.specs.Inner.{AtFront, Keeps, after_line, hold_of, opened_by, reading, value_of}
+use Rattle.bgp_session.specs.Inner.{AtFront, Keeps, hold_of, opened_by, reading, value_of}
 use Rattle.bgp_session.proofs.Ends.{read_is, read_stands, sent_stands, with_read, with_sent}
-use Rattle.bgp_session.proofs.Numbers.{numbers_then}
 use Rattle.bgp_session.proofs.Opens.{hold_kept}
 
 -- ---- answers
@@ -71,14 +70,6 @@ reply_silent (Ok (UpdateMsg _)) = refl
 reply_silent (Ok (NoticeMsg _)) = refl
 reply_silent (Ok KeepaliveMsg) = refl
 reply_silent (Err n) = refl
-
--- none in it
-reply_numbers : (n : ℕ) (r : Result Message Notice) → fold after_line n (reply_to r).0 ≡ n
-reply_numbers n (Ok (OpenMsg _)) = refl
-reply_numbers n (Ok (UpdateMsg _)) = refl
-reply_numbers n (Ok (NoticeMsg _)) = refl
-reply_numbers n (Ok KeepaliveMsg) = refl
-reply_numbers n (Err _) = refl
 
 -- ---- the parts after something was got and answered
 
@@ -200,7 +191,6 @@ module _ (parts : Parts) (bytes : List ℕ) (answer : List Line) (next : Session
       remote_as = front.keeps.remote_as;
       opened = opens;
       left = omega (arith, lefts, hold_is, silent);
-      next_round = front.keeps.next_round ∙ sym (numbers_then lines (Got bytes) answer (λ n. ap (λ (xs : List Line). fold after_line n xs) (sym answer_is) ∙ reply_numbers n (reading parts bytes)));
     }
 
 -- ---- by the answer

@@ -1,6 +1,5 @@
 pub mod Ends
 pub mod Opens
-pub mod Numbers
 pub mod Got
 pub mod Reading
 pub mod Rounds

@@ -1,5 +1,5 @@
 -- An UPDATE that is put leaves a session that is tied.
-use Rattle.std.proofs.Common.{◌≡◌, ℕ, ◌+◌, ◌-◌, ◌^◌, ◌≤◌, min, Bool, true, List, [], ◌∷◌, ◌++◌, length, refl, sym, ap, ◌∙◌, subst, append-nil, arith}
+use Rattle.std.proofs.Common.{◌≡◌, ℕ, ◌+◌, ◌-◌, ◌^◌, ◌≤◌, min, Bool, true, List, [], ◌∷◌, ◌++◌, length, sym, ap, ◌∙◌, subst, append-nil, arith}
 use Rattle.std.specs.Option.{option_map}
 use Rattle.std.proofs.lemmas.List.Sums.{fold-append}
 use Rattle.bgp_types.specs.declared.message.Message.TheVariants.{UpdateMsg}
@@ -25,7 +25,6 @@ use Rattle.bgp_session.specs.declared.parts.Parts.{Parts}
 use Rattle.bgp_session.specs.Inner.{Keeps, opened_by, value_of}
 use Rattle.bgp_session.specs.Steps.{offered_length}
 use Rattle.bgp_session.proofs.Ends.{sent_stands, with_sent}
-use Rattle.bgp_session.proofs.Numbers.{numbers_then}
 
 -- the length of the stream
 pub length_is : (parts : Parts) (update : Update) → Keeps parts
@@ -33,6 +32,21 @@ pub length_is : (parts : Parts) (update : Update) → Keeps parts
 length_is parts update keeps = omega (arith, stream_is parts.end (value_of parts).end keeps.stands)
 
 -- the tables are no part of what is kept
+pub keeps_told : (parts : Parts) (told : Routes) → Keeps parts → Keeps (record parts { told = told })
+keeps_told parts told k = record {
+  stands = k.stands;
+  tied = record { allowed = k.tied.allowed; put = k.tied.put; room = k.tied.room; read = k.tied.read; got = k.tied.got };
+  peering = k.peering;
+  way = k.way;
+  send_first = k.send_first;
+  receive_first = k.receive_first;
+  send_fits = k.send_fits;
+  receive_fits = k.receive_fits;
+  remote_as = k.remote_as;
+  opened = k.opened;
+  left = k.left;
+}
+
 pub keeps_heard : (parts : Parts) (heard : Routes) → Keeps parts → Keeps (record parts { heard = heard })
 keeps_heard parts heard k = record {
   stands = k.stands;
@@ -46,7 +60,6 @@ keeps_heard parts heard k = record {
   remote_as = k.remote_as;
   opened = k.opened;
   left = k.left;
-  next_round = k.next_round;
 }
 
 -- the parts after an UPDATE was put
@@ -138,7 +151,6 @@ module _ (parts : Parts) (update : Update) (k : Keeps parts) (established : stat
       remote_as = k.remote_as;
       opened = k.opened ∙ ap (option_map (opened_by p.first)) (sym (open_stays p lines (Put (UpdateMsg update) ∷ []) (state_of lines) allowed up));
       left = omega (arith, k.left, silent, hold_stays p lines (Put (UpdateMsg update) ∷ []) (state_of lines) allowed up);
-      next_round = k.next_round ∙ sym (numbers_then lines (Put (UpdateMsg update)) [] (λ n. refl));
     }
 
 -- ---- by what the calls answer

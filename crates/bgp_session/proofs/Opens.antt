@@ -21,7 +21,7 @@ use Rattle.bgp_types.specs.Values.{is_no_host, is_short_hold}
 use Rattle.bgp_story.specs.declared.line.Line.{Line}
 use Rattle.bgp_story.specs.declared.line.Line.TheVariants.{Put, Got, Tick}
 use Rattle.bgp_story.specs.Legal.{Peering, Allowed, both_offer, expected_next, got_open, hold, is_wide, open_in, smaller_hold}
-use Rattle.bgp_story.specs.Opens.{offers}
+use Rattle.bgp_story.specs.Opens.{offers, home_open}
 use Rattle.bgp_story.proofs.Grows.{open_stays}
 use Rattle.bgp_story.proofs.HeaderKinds.{read_of}
 use Rattle.bgp_story.proofs.Ranges.{peering_of as its_peering}
@@ -30,13 +30,25 @@ use Rattle.session_value.proofs.Openings.{only_opened}
 use Rattle.session_value.proofs.Replies.{only_open}
 use Rattle.bgp_session.specs.declared.parts.Opened.{Opened}
 use Rattle.bgp_session.specs.declared.parts.Parts.{Parts}
-use Rattle.bgp_session.specs.Inner.{Keeps, opened_by, hold_of}
+use Rattle.bgp_session.specs.Inner.{Keeps, opened_by, hold_of, wide_of}
+use Rattle.bgp_session.specs.Steps.{identifier_of}
 
--- ---- what is kept says the hold time
+-- ---- what is kept says the hold time and the width
 
 pub hold_kept : (first : OpenMsg) (o : Option OpenMsg) → hold_of (option_map (opened_by first) o) ≡ smaller_hold first o
 hold_kept first None = refl
 hold_kept first (Some theirs) = refl
+
+pub wide_kept : (first : OpenMsg) (o : Option OpenMsg) → wide_of (option_map (opened_by first) o) ≡ both_offer first o
+wide_kept first None = refl
+wide_kept first (Some theirs) = refl
+
+abbrev pub their_identifier : Opened → ℕ
+their_identifier opened = opened.identifier
+
+pub identifier_kept : (first : OpenMsg) (o : Option OpenMsg) → option_map their_identifier (option_map (opened_by first) o) ≡ option_map identifier_of o
+identifier_kept first None = refl
+identifier_kept first (Some theirs) = refl
 
 -- ---- the OPEN that was got, after something more was got
 
@@ -142,5 +154,19 @@ hold_long p lines state l some = smaller_long p lines p.first (got_open p lines)
 
 -- ---- the same of the parts that keep it
 
-pub kept_hold : (parts : Parts) → Keeps parts → hold_of parts.opened ≡ hold (peering_of parts.config) parts.story.lines
-kept_hold parts k = ap hold_of k.opened ∙ hold_kept (peering_of parts.config).first (got_open (peering_of parts.config) parts.story.lines)
+module _ (parts : Parts) (k : Keeps parts) where
+  abbrev p : Peering
+  p = peering_of parts.config
+
+  pub kept_hold : hold_of parts.opened ≡ hold p parts.story.lines
+  kept_hold = ap hold_of k.opened ∙ hold_kept p.first (got_open p parts.story.lines)
+
+  pub kept_wide : wide_of parts.opened ≡ is_wide p parts.story.lines
+  kept_wide = ap wide_of k.opened ∙ wide_kept p.first (got_open p parts.story.lines)
+
+  pub kept_identifier : option_map their_identifier parts.opened ≡ option_map identifier_of (got_open p parts.story.lines)
+  kept_identifier = ap (option_map their_identifier) k.opened ∙ identifier_kept p.first (got_open p parts.story.lines)
+
+pub offers_home : (home_as hold identifier : ℕ) (offered : Bool) → offers (home_open home_as hold identifier offered) ≡ offered
+offers_home home_as hold identifier true = refl
+offers_home home_as hold identifier false = refl

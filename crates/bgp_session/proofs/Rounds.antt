@@ -34,11 +34,10 @@ use Rattle.session_value.proofs.Rooms.{passed_has_room, most_any}
 use Rattle.bgp_session.specs.declared.parts.Parts.{Parts}
 use Rattle.bgp_session.specs.declared.answers.TickStep.{TickStep}
 use Rattle.bgp_session.specs.declared.answers.TickStep.TheVariants as tick
-use Rattle.bgp_session.specs.Inner.{AtRound, Keeps, after_line, after_rounds, hold_of, opened_by, round_reply, running, value_of}
+use Rattle.bgp_session.specs.Inner.{AtRound, Keeps, hold_of, opened_by, round_reply, running, value_of}
 use Rattle.bgp_session.specs.Steps.{TellsRound, Ticks}
 use Rattle.bgp_session.proofs.Ends.{sent_stands, with_sent}
 use Rattle.bgp_session.proofs.Got.{keepalive_writable, same_line}
-use Rattle.bgp_session.proofs.Numbers.{number_least, numbers_then}
 use Rattle.bgp_session.proofs.Opens.{hold_long, kept_hold}
 
 -- ---- answers
@@ -63,11 +62,6 @@ round_silent : (state : SessionState) (answer : List Line) (next : SessionState)
 round_silent state _ _ n ends = refl
 round_silent state _ _ n beats = refl
 round_silent state _ _ n stays = refl
-
-round_numbers : (state : SessionState) (answer : List Line) (next : SessionState) (n : ℕ) → Answers state answer next → fold after_line n answer ≡ n
-round_numbers state _ _ n ends = refl
-round_numbers state _ _ n beats = refl
-round_numbers state _ _ n stays = refl
 
 -- ---- which answer it is
 
@@ -101,7 +95,6 @@ passed parts round answer heard told left = record parts {
   told = told;
   end = with_sent parts.end (flat_map (put_in false) answer);
   left = left;
-  next_round = round + 1;
 }
 
 module _ (parts : Parts) (round : ℕ) (answer : List Line) (next : SessionState) (at : AtRound parts round) (reply : round_reply parts round ≡ (answer, next)) where
@@ -127,10 +120,10 @@ module _ (parts : Parts) (round : ℕ) (answer : List Line) (next : SessionState
   octets_are = round_alike (is_wide p lines') (state_of lines) answer next answers
 
   put_is : put_bytes p lines' ≡ put_bytes p lines ++ octets
-  put_is = lines_passed.put_then p lines round answer next at.may.up at.may.runs at.may.later reply allowed ∙ ap (λ (xs : List ℕ). put_bytes p lines ++ xs) octets_are
+  put_is = lines_passed.put_then p lines round answer next at.up at.runs at.later reply allowed ∙ ap (λ (xs : List ℕ). put_bytes p lines ++ xs) octets_are
 
   got_is : got_bytes lines' ≡ got_bytes lines
-  got_is = lines_passed.got_then p lines round answer next at.may.up at.may.runs at.may.later reply allowed
+  got_is = lines_passed.got_then p lines round answer next at.up at.runs at.later reply allowed
 
   pub round_writable : (m : Option Message) → answer ≡ answered m → IfSome m (λ x. IsWritable x false)
   round_writable m e = round_writable_by (state_of lines) answer next m answers e
@@ -141,12 +134,12 @@ module _ (parts : Parts) (round : ℕ) (answer : List Line) (next : SessionState
     remote = sym at.keeps.remote_as;
     rest = [];
     state = next;
-    legal = subst (λ (xs : List Line). Allowed p xs next) (sym (append-nil lines')) (lines_passed.legal_next p lines round answer next at.may.up at.may.runs at.may.later reply (λ _ _. Unit {0}) allowed);
+    legal = subst (λ (xs : List Line). Allowed p xs next) (sym (append-nil lines')) (lines_passed.legal_next p lines round answer next at.up at.runs at.later reply (λ _ _. Unit {0}) allowed);
   }
 
   pub passed_room : stream_length parts.end + length octets ≤ 2 ^ 20
   passed_room =
-      let room = passed_has_room (value_of parts) round answer next at.may.up at.may.room reply in
+      let room = passed_has_room (value_of parts) round answer next at.up at.room reply in
       let most = most_any next in
       let size = ap (λ (xs : List ℕ). length xs) octets_are in
       let stream = stream_is parts.end (value_of parts).end at.keeps.stands in
@@ -173,10 +166,10 @@ module _ (parts : Parts) (round : ℕ) (answer : List Line) (next : SessionState
 
     pub passes : PassesRound (value_of parts) round (value_of after)
     passes = record {
-      up = at.may.up;
-      runs = at.may.runs;
-      later = at.may.later;
-      room = at.may.room;
+      up = at.up;
+      runs = at.runs;
+      later = at.later;
+      room = at.room;
       answer = answer;
       next = next;
       reply = reply;
@@ -189,13 +182,6 @@ module _ (parts : Parts) (round : ℕ) (answer : List Line) (next : SessionState
     silent : silence lines' ≡ silence lines + 1
     silent = fold-append count_round 0 lines (Tick round ∷ answer) ∙ round_silent (state_of lines) answer next (silence lines + 1) answers
 
-    -- it is above those of all rounds before
-    number_is : round + 1 ≡ after_rounds lines'
-    number_is =
-        let least = number_least round lines at.may.later in
-        let then' = numbers_then lines (Tick round) answer (λ n. round_numbers (state_of lines) answer next n answers) in
-        omega (arith, least, then')
-
     pub keeps : Keeps after
     keeps = record {
       stands = end_stands;
@@ -207,9 +193,8 @@ module _ (parts : Parts) (round : ℕ) (answer : List Line) (next : SessionState
       send_fits = at.keeps.send_fits;
       receive_fits = at.keeps.receive_fits;
       remote_as = at.keeps.remote_as;
-      opened = at.keeps.opened ∙ ap (option_map (opened_by p.first)) (sym (open_stays p lines (Tick round ∷ answer) (state_of lines) allowed at.may.up));
-      left = omega (arith, lefts, at.keeps.left, silent, hold_stays p lines (Tick round ∷ answer) (state_of lines) allowed at.may.up);
-      next_round = number_is;
+      opened = at.keeps.opened ∙ ap (option_map (opened_by p.first)) (sym (open_stays p lines (Tick round ∷ answer) (state_of lines) allowed at.up));
+      left = omega (arith, lefts, at.keeps.left, silent, hold_stays p lines (Tick round ∷ answer) (state_of lines) allowed at.up);
     }
 
   -- what the session is after the round
@@ -231,13 +216,13 @@ passed_down parts round answer = passed parts round answer parts.heard parts.tol
 module _ (parts : Parts) (round : ℕ) (at : AtRound parts round) where
   -- the hold time has a third
   pub tick_long : 3 ≤ hold_of parts.opened
-  tick_long = omega (arith, kept_hold parts at.keeps, hold_long (peering_of parts.config) parts.story.lines (state_of parts.story.lines) at.keeps.tied.allowed at.may.runs)
+  tick_long = omega (arith, kept_hold parts at.keeps, hold_long (peering_of parts.config) parts.story.lines (state_of parts.story.lines) at.keeps.tied.allowed at.runs)
 
   pub reply_of : (answer : Option Message) → (round_reply parts round).0 ≡ answered answer → round_reply parts round ≡ (answered answer, (round_reply parts round).1)
   reply_of answer e = ap (λ (x : List Line). let r : List Line × SessionState = (x, (round_reply parts round).1) in r) e
 
   up_unclosed : state_of parts.story.lines ≢ Closed
-  up_unclosed = up_open (state_of parts.story.lines) at.may.up
+  up_unclosed = up_open (state_of parts.story.lines) at.up
 
   pub beats_to : (mid : Parts) → round_reply parts round ≡ (Put KeepaliveMsg ∷ [], state_of parts.story.lines) → mid ≡ passed_down parts round (Put KeepaliveMsg ∷ []) → Ticks tick.Beat (running parts) round (running mid) × Keeps mid
   beats_to mid reply is = ticks parts round (Put KeepaliveMsg ∷ []) (state_of parts.story.lines) at reply tick.Beat mid is up_unclosed refl
@@ -252,7 +237,7 @@ module _ (parts : Parts) (round : ℕ) (at : AtRound parts round) where
       subst (λ (m : Parts). Ticks (tick.Expired prefixes) (running parts) round (running m) × Keeps m) (sym (drops ∙ ap (λ (m : Parts). let d : Parts = record m { heard = map.empty; told = map.empty } in d) is)) (
         record {
           passes = passes parts round answer Closed at reply map.empty map.empty (parts.left - 1) refl refl refl;
-          tells = (lines_passed.state_next (peering_of parts.config) parts.story.lines round answer Closed at.may.up at.may.runs at.may.later reply at.keeps.tied.allowed, same);
+          tells = (lines_passed.state_next (peering_of parts.config) parts.story.lines round answer Closed at.up at.runs at.later reply at.keeps.tied.allowed, same);
           same_turn = refl;
         },
         keeps parts round answer Closed at reply map.empty map.empty (parts.left - 1) refl refl refl,

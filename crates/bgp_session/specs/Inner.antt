@@ -1,5 +1,5 @@
 -- The session that its parts are, and what they keep.
-use Rattle.std.specs.Prelude.{◌≡◌, ◌≢◌, ℕ, ◌+◌, ◌-◌, ◌^◌, ◌<◌, min, max, List, ◌++◌, length, Option, Some, None, Result, fold, ◌&&◌}
+use Rattle.std.specs.Prelude.{◌≡◌, ◌≢◌, ℕ, ◌+◌, ◌-◌, ◌^◌, ◌<◌, ◌≤◌, min, List, ◌++◌, length, Option, Some, None, Result, Bool, true, false, ◌&&◌, All}
 use Rattle.std.specs.Option.{option_map}
 use Rattle.bgp_types.specs.declared.message.Message.{Message}
 use Rattle.bgp_types.specs.declared.message.Notice.{Notice}
@@ -11,15 +11,13 @@ use Rattle.tcp_seq.specs.declared.segment.Way.TheVariants.{Remote}
 use Rattle.tcp_end.specs.Standing.{EndStands}
 use Rattle.tcp_end.specs.Whole.{endpoint_of}
 use Rattle.bgp_story.specs.declared.line.Line.{Line}
-use Rattle.bgp_story.specs.declared.line.Line.TheVariants.{Put, Got, Tick}
-use Rattle.bgp_story.specs.Legal.{IsGot, expected_next, got_open, reply_at, silence}
+use Rattle.bgp_story.specs.Legal.{IsGot, IsEarlier, expected_next, got_open, is_up, reply_at, silence}
 use Rattle.bgp_story.specs.Opens.{offers}
 use Rattle.bgp_story.specs.Readings.{put_bytes, got_bytes}
 use Rattle.bgp_story.specs.States.{state_of}
 use Rattle.session_value.specs.Sessions.{SessionValue, peering_of, hold_time}
 use Rattle.session_value.specs.Ties.{IsTied}
 use Rattle.bgp_session.specs.Running.{RunningSession}
-use Rattle.bgp_session.specs.Steps.{MayPass}
 use Rattle.bgp_session.specs.declared.parts.Opened.{Opened}
 use Rattle.bgp_session.specs.declared.parts.Parts.{Parts}
 
@@ -44,14 +42,9 @@ abbrev pub hold_of : Option Opened → ℕ
 hold_of None = 0
 hold_of (Some opened) = opened.hold
 
--- the least number above those of all rounds that passed
-abbrev pub after_line : ℕ → Line → ℕ
-after_line n (Put _) = n
-after_line n (Got _) = n
-after_line n (Tick round) = max n (round + 1)
-
-abbrev pub after_rounds : List Line → ℕ
-after_rounds lines = fold after_line 0 lines
+abbrev pub wide_of : Option Opened → Bool
+wide_of None = false
+wide_of (Some opened) = opened.wide
 
 -- The end stands for the endpoint, which is tied to the story, and what is kept beside the story is as it says.
 pub record Keeps (parts : Parts) : Type 0 where
@@ -67,7 +60,6 @@ pub record Keeps (parts : Parts) : Type 0 where
   pub opened : parts.opened ≡ option_map (opened_by (peering_of parts.config).first) (got_open (peering_of parts.config) parts.story.lines)
   -- the rounds that are left until the hold time is over
   pub left : parts.left ≡ hold_time (value_of parts) - silence parts.story.lines
-  pub next_round : parts.next_round ≡ after_rounds parts.story.lines
 
 -- ---- what is got
 
@@ -89,7 +81,10 @@ pub record AtFront (parts : Parts) (bytes : List ℕ) : Type 0 where
 abbrev pub round_reply : Parts → ℕ → List Line × SessionState
 round_reply parts round = reply_at (hold_time (value_of parts)) (silence parts.story.lines + 1) round (state_of parts.story.lines)
 
--- A round passes that may.
+-- A round passes on a session whose hold time runs.
 pub record AtRound (parts : Parts) (round : ℕ) : Type 0 where
   pub keeps : Keeps parts
-  pub may : MayPass (value_of parts) round
+  pub up : is_up (state_of parts.story.lines) ≡ true
+  pub runs : 0 < hold_time (value_of parts)
+  pub later : All (IsEarlier round) parts.story.lines
+  pub room : length (value_of parts).end.stream ≤ 1044461

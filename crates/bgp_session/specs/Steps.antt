@@ -1,5 +1,5 @@
 -- What the calls of a session answer, and the case by which it changes.
-use Rattle.std.specs.Prelude.{◌≡◌, ◌⊎◌, ℕ, ◌+◌, ◌<◌, ◌≤◌, List, [], ◌∷◌, ◌++◌, length, All, Option, Some, None, IsSome, true}
+use Rattle.std.specs.Prelude.{◌≡◌, ◌⊎◌, ℕ, ◌+◌, ◌<◌, ◌≤◌, List, [], ◌∷◌, ◌++◌, length, Option, Some, None, IsSome}
 use Rattle.std.specs.FinMap as map
 use Rattle.bgp_types.specs.declared.message.Message.TheVariants.{UpdateMsg, KeepaliveMsg}
 use Rattle.bgp_types.specs.declared.message.OpenMsg.{OpenMsg}
@@ -14,10 +14,10 @@ use Rattle.tcp_seq.specs.Placed.{placed}
 use Rattle.tcp_end.specs.declared.arrival.Arrival.{Arrival}
 use Rattle.tcp_end.specs.declared.arrival.Arrival.TheVariants.{Outside, Ahead, Duplicate, Accepted}
 use Rattle.bgp_story.specs.declared.line.Line.TheVariants.{Put, Tick}
-use Rattle.bgp_story.specs.Legal.{IsEarlier, got_open, is_up, is_wide}
+use Rattle.bgp_story.specs.Legal.{got_open, is_wide}
 use Rattle.adj_rib.specs.Changes.{Changed as ChangedRoutes}
 use Rattle.session_value.specs.declared.config.SessionConfig.{SessionConfig}
-use Rattle.session_value.specs.Sessions.{SessionValue, peering_of, state, hold_time}
+use Rattle.session_value.specs.Sessions.{SessionValue, peering_of, state}
 use Rattle.session_value.specs.Cases.{GetsFrame, PassesRound}
 use Rattle.bgp_session.specs.Running.{RunningSession}
 use Rattle.bgp_session.specs.Fronts.{CantRead}
@@ -48,14 +48,6 @@ Reads None before after = CantRead before.session × (after ≡ before)
 Reads (Some step) before after = ReadsFrame step before after
 
 -- ---- rounds
-
--- A round of this number may pass: in OpenConfirm or Established, while a hold time runs, after each round that passed, and with room for a
--- KEEPALIVE of 19 bytes and a NOTIFICATION behind it.
-pub record MayPass (session : SessionValue) (round : ℕ) : Type 0 where
-  pub up : is_up (state session) ≡ true
-  pub runs : 0 < hold_time session
-  pub later : All (IsEarlier round) session.story
-  pub room : length session.end.stream ≤ 1044461
 
 -- what is answered of a round: what it put
 abbrev pub TellsRound : TickStep → SessionValue → ℕ → SessionValue → Type 0

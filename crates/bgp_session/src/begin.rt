@@ -93,6 +93,5 @@ pub(crate) fn first_parts(alloc: Global, config: SessionConfig) -> Result<Parts,
         end,
         opened: None,
         left: 0,
-        next_round: 0,
     })
 }

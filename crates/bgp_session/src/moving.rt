@@ -2,11 +2,9 @@
 //! box, whatever the session holds.
 
 ghost use Rattle.std.specs.Prelude.{◌≡◌};
-ghost use Rattle.session_value.specs.Sessions.{state};
 
 use crate::session::Session;
 use bgp_story::Story;
-use bgp_types::SessionState;
 use session_value::SessionConfig;
 use std::marker::Model;
 
@@ -67,13 +65,6 @@ impl Capsule {
     {
         let Capsule { session } = self;
         session
-    }
-
-    /// The state of the session (RFC 4271, section 8.2.2).
-    pub fn state(&self) -> SessionState
-        ensures { result ≡ state self.now.session }
-    {
-        self.session.state()
     }
 
     /// The story of the session.

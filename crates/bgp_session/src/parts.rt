@@ -41,8 +41,6 @@ pub(crate) struct Parts {
     pub opened: Option<Opened>,
     /// How many rounds are left until the hold time is over.
     pub left: u32,
-    /// The least number that the next round may have: above those of all that passed.
-    pub next_round: u64,
 }
 
 /// Sends octets for which the stream has room. If memory runs out, nothing changes.

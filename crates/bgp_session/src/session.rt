@@ -1,16 +1,16 @@
 //! Sessions.
 
-ghost use Rattle.std.specs.Prelude.{ℕ, ◌≡◌, ◌<◌, ◌≤◌, ◌^◌, ◌+◌, ◌↔◌, ◌⊎◌, min, length, true, IsTrue, IsNone, IfNone, IsSome, IfOk, OnOk, MatchBool};
+ghost use Rattle.std.specs.Prelude.{ℕ, ◌≡◌, ◌<◌, ◌≤◌, ◌^◌, ◌↔◌, ◌⊎◌, length, true, All, IsTrue, IsNone, IsSome, IfOk, OnOk, MatchBool};
 ghost use Rattle.std.specs.Option.{option_map};
 ghost use Rattle.bgp_types.specs.declared.message.SessionState.TheVariants as states;
 ghost use Rattle.tcp_seq.specs.declared.segment.Way.TheVariants as ways;
 ghost use Rattle.tcp_seq.specs.Endpoint.{EmitsNext, EmitsAgain, EmitsAnswer, EmitsSlice, IsInStreams, again_length, next_length};
-ghost use Rattle.bgp_story.specs.Legal.{IsPeering, IsOneWay, is_wide};
+ghost use Rattle.bgp_story.specs.Legal.{IsPeering, IsOneWay, IsEarlier, is_up, is_wide};
 ghost use Rattle.session_value.specs.Sessions.{state, hold_time, peering_of, begun};
 ghost use Rattle.session_value.specs.Cases.{Changes, PutsUpdate};
 ghost use Rattle.session_value.specs.Ties.{IsTied};
 ghost use Rattle.bgp_session.specs.Fronts.{CanRead, CantRead};
-ghost use Rattle.bgp_session.specs.Steps.{Reads, MayPass, Ticks, EmitsBy, Arrives, identifier_of, offered_length, received_as, remote_open};
+ghost use Rattle.bgp_session.specs.Steps.{Reads, Ticks, EmitsBy, Arrives, identifier_of, offered_length, received_as, remote_open};
 
 use crate::answers::{OfferStop, ReadStep, TickStep};
 use crate::begin::first_parts;
@@ -98,17 +98,13 @@ impl Session {
         self.parts.offer(update)
     }
 
-    /// Whether a round of this number may pass. The session is in OpenConfirm or Established and has a hold time, the number is
-    /// above that of each round that passed, and at most 1,044,461 bytes were put.
-    pub fn may_pass(&self, round: u32) -> bool
-        ensures { MatchBool result (MayPass self.now.session round) (¬ MayPass self.now.session round) }
-    {
-        self.parts.may_pass(round)
-    }
-
-    /// A round of one second passes, which may (RFC 4271, sections 4.4, 6.5 and 10).
+    /// A round of one second passes, whose number is above that of each earlier one of this session: it is in OpenConfirm or
+    /// Established, has a hold time, and put at most 1,044,461 bytes (RFC 4271, sections 4.4, 6.5 and 10).
     pub fn tick(&mut self, round: u32) -> Result<TickStep, NoMemory>
-        requires { MayPass self.old.session round }
+        requires up { is_up (state self.old.session) ≡ true }
+        requires runs { 0 < hold_time self.old.session }
+        requires later { All (IsEarlier round) self.old.session.story }
+        requires room { length self.old.session.end.stream ≤ 1044461 }
         ensures { IfOk result (λ step. Ticks step self.old round self.new) }
     {
         self.parts.tick(round)
@@ -117,7 +113,6 @@ impl Session {
     /// The next bytes of the stream that were never emitted, at most 1,024 and as many as the flight of 15,360 leaves.
     pub fn next_segment(&mut self) -> Result<Option<Segment>, NoMemory>
         ensures none { IfOk result (λ answer. IsNone answer ↔ (next_length self.old.session.end ≡ 0)) }
-        ensures all { IfOk result (λ answer. IfNone answer (self.old.session.end.emitted ≡ min (length self.old.session.end.stream) (self.old.session.end.acked + 15360))) }
         ensures step { IfOk result (λ answer. EmitsBy EmitsNext self.old.session answer self.new.session) }
         ensures slice { IfOk result (λ answer. EmitsBy EmitsSlice self.old.session answer self.new.session) }
         ensures same_turn { OnOk result (self.new.acked_at_turn ≡ self.old.acked_at_turn) }
@@ -129,7 +124,6 @@ impl Session {
     /// turn.
     pub fn turn(&mut self) -> Result<Option<Segment>, NoMemory>
         ensures none { IfOk result (λ answer. IsNone answer ↔ ((again_length self.old.session.end ≡ 0) ⊎ (self.old.acked_at_turn < self.old.session.end.acked))) }
-        ensures within { self.old.session.end.emitted ≤ length self.old.session.end.stream }
         ensures step { IfOk result (λ answer. EmitsBy EmitsAgain self.old.session answer self.new.session) }
         ensures slice { IfOk result (λ answer. EmitsBy EmitsSlice self.old.session answer self.new.session) }
         ensures turned { OnOk result (self.new.acked_at_turn ≡ self.old.session.end.acked) }

@@ -1,6 +1,6 @@
 //! Rounds that pass while a hold time runs (RFC 4271, sections 4.4, 6.5 and 10).
 
-ghost use Rattle.std.specs.Prelude.{◌≡◌, ◌+◌, ◌-◌, ◌++◌, ◌∷◌, [], false, IfOk, OnOk, OnErr, MatchBool};
+ghost use Rattle.std.specs.Prelude.{◌≡◌, ◌-◌, ◌++◌, ◌∷◌, [], false, IfOk, OnOk, OnErr};
 ghost use Rattle.std.specs.List.{flat_map};
 ghost use Rattle.bgp_types.specs.declared.message.Message.TheVariants as messages;
 ghost use Rattle.bgp_types.specs.declared.message.SessionState.TheVariants as states;
@@ -8,21 +8,18 @@ ghost use Rattle.bgp_story.specs.declared.line.Line.TheVariants as lines;
 ghost use Rattle.bgp_story.specs.Legal.{hold_expired};
 ghost use Rattle.bgp_story.specs.Readings.{put_in};
 ghost use Rattle.bgp_story.specs.States.{answered, state_of};
-ghost use Rattle.bgp_session.specs.Steps.{MayPass, Ticks};
-ghost use Rattle.bgp_session.specs.Inner.{AtRound, Keeps, round_reply, running, value_of};
+ghost use Rattle.bgp_session.specs.Steps.{Ticks};
+ghost use Rattle.bgp_session.specs.Inner.{AtRound, Keeps, round_reply, running};
 
 use crate::answers::TickStep;
 use crate::parts::{Parts, written};
 use crate::routes::prefixes_of;
 use bgp_story::Line;
-use bgp_types::{Message, NoMemory, Notice, Octets, SessionState};
+use bgp_types::{Message, NoMemory, Notice, Octets};
 use std::alloc::Global;
 
 /// The code of Hold Timer Expired.
 const HOLD_EXPIRED: u8 = 4;
-
-/// How many bytes a session put at most when a round passes: a KEEPALIVE has 19, and what is put stays at 1,044,480 at most.
-const MOST_PUT: u32 = 1_044_461;
 
 /// Hold Timer Expired.
 fn hold_over(alloc: Global) -> Notice
@@ -40,13 +37,12 @@ impl Parts {
     fn pass_down(&mut self, round: u32, answer: Option<Message>) -> Result<(), NoMemory>
         requires at { AtRound self.old round }
         requires reply { (round_reply self.old round).0 ≡ answered answer }
-        ensures ok { OnOk result (self.new ≡ record self.old { story = record self.old.story { lines = self.old.story.lines ++ lines.Tick round ∷ answered answer }; end = record self.old.end { waiting = self.old.end.waiting ++ flat_map (put_in false) (answered answer) }; left = self.old.left - 1; next_round = round + 1 }) }
+        ensures ok { OnOk result (self.new ≡ record self.old { story = record self.old.story { lines = self.old.story.lines ++ lines.Tick round ∷ answered answer }; end = record self.old.end { waiting = self.old.end.waiting ++ flat_map (put_in false) (answered answer) }; left = self.old.left - 1 }) }
         ensures err { OnErr result (self.new ≡ self.old) }
     {
         let octets = written(self.alloc, &answer)?;
         self.write_down(octets.as_slice(), Line::Tick(round), answer)?;
         self.left = self.left.saturating_sub(1);
-        self.next_round = u64::from(round) + 1;
         Ok(())
     }
 
@@ -84,19 +80,6 @@ impl Parts {
     {
         self.pass_down(round, None)?;
         Ok(TickStep::Plain)
-    }
-
-    /// Whether a round of this number may pass.
-    pub(crate) fn may_pass(&self, round: u32) -> bool
-        requires { Keeps self.now }
-        ensures { MatchBool result (MayPass (value_of self.now) round) (¬ MayPass (value_of self.now) round) }
-    {
-        let state = self.story.state();
-        let is_up = state == SessionState::OpenConfirm || state == SessionState::Established;
-        is_up
-            && self.hold_so_far() > 0
-            && u64::from(round) >= self.next_round
-            && self.end.stream_len() <= MOST_PUT
     }
 
     /// A round passes.

@@ -138,10 +138,10 @@ add_keeps : (setup : Setup) (r p : ℕ) (entries : Entries) (due more : Prefixes
 add_keeps setup r p entries due more prefix Vacant keeps adds = (keeps.0, λ y. adds.members y ∙ none_added (has due y) (same_prefix prefix y) (keeps.1 y))
 add_keeps setup r p entries due more prefix (Live s o) keeps adds = (
   keeps.0,
-  keeps.1.0,
-  keeps.1.1.0,
+  keeps.1,
+  keeps.2,
   λ y has_more. elim (added_or (has due y) (same_prefix prefix y && is_established (state s.session)) (sym (adds.members y) ∙ has_more)) [
-    | inl there ↦ keeps.1.1.1 y there
+    | inl there ↦ keeps.3 y there
     | inr new ↦ up_is (state s.session) (both_true (same_prefix prefix y) (is_established (state s.session)) new)
   ],
 )

@@ -1,18 +1,21 @@
 -- Grafts begin at their source: each is refused, or the session leaves in it.
-use Rattle.std.proofs.Common.{◌≡◌, ◌≢◌, ℕ, ◌+◌, ◌<◌, List, [], ◌∷◌, length, Option, option_map, Some, None, false, ◌⊎◌, inl, inr, refl, sym, ap, subst, ◌∙◌, arith, set}
+use Rattle.std.proofs.Common.{◌≡◌, ◌≢◌, ℕ, ◌+◌, ◌<◌, List, [], ◌∷◌, length, Option, option_map, Some, None, Bool, true, false, ◌==◌, ◌⊎◌, inl, inr, refl, sym, ap, subst, ◌∙◌, arith, set}
+use Rattle.std.specs.Prelude.{if◌then◌else◌}
 use Rattle.std.specs.FinMap as map
 use Rattle.std.proofs.lemmas.List.{length-set}
 use Rattle.ring_net.specs.Posts.{actor_of}
 use Rattle.ring_net.specs.declared.post.Post.{Post}
 use Rattle.ring_net.proofs.PostLaws.{wrote_then}
-use Rattle.bgp_types.specs.declared.message.SessionState.TheVariants.{Established}
+use Rattle.bgp_types.specs.declared.message.SessionState.{SessionState}
+use Rattle.bgp_types.specs.declared.message.SessionState.TheVariants.{OpenSent, OpenConfirm, Established, Closed}
 use Rattle.bgp_types.specs.Prefixes.{PrefixValue}
 use Rattle.graft_steps.specs.declared.item.Item.{Item}
 use Rattle.graft_steps.specs.declared.item.Item.TheVariants as items
 use Rattle.graft_steps.specs.declared.order.GraftIds.{GraftIds}
 use Rattle.graft_steps.specs.declared.refusal.Refusal.{Refusal}
 use Rattle.graft_steps.specs.declared.refusal.Outcome.TheVariants as outcomes
-use Rattle.graft_steps.specs.Refusals.{freeze_refusal}
+use Rattle.graft_steps.specs.declared.refusal.Refusal.TheVariants as refusals
+use Rattle.graft_steps.specs.Refusals.{freeze_refusal, session_refusal}
 use Rattle.graft_edge.specs.declared.ids.RouterId.{RouterId}
 use Rattle.session_value.specs.Sessions.{SessionValue, state, hold_time}
 use Rattle.session_value.specs.Sets.{Prefixes, has}
@@ -27,6 +30,7 @@ use Rattle.graft_model.specs.RouterRows.{MeshTo, ReportOut}
 use Rattle.graft_model.specs.Steps.{RouterEvent, Refuse, Freeze, Leave}
 use Rattle.graft_runs.specs.Actors.{Router, RouterIs, Operator, MeshItem}
 use Rattle.graft_actors.specs.Emissions.{Tally}
+use Rattle.graft_actors.specs.Items.{home_first, remote_first}
 use Rattle.graft_actors.specs.Notes.{deed_of, WroteOne}
 use Rattle.router_core.specs.Leaving.{BegunAs}
 use Rattle.router_core.specs.Parts.{router_part, own_part, carried, Keeps, KeepsPlace, IsGraftOf}
@@ -41,19 +45,30 @@ use Rattle.router_core.specs.declared.stages.grafts.Begun.{Begun}
 use Rattle.router_core.specs.declared.stages.grafts.Begun.TheVariants.{Nothing, Refused, Left}
 use Rattle.router_core.proofs.Dids.{Sends, did_sent, sends_at, sends_is, sends_name}
 use Rattle.router_core.proofs.PlaceSteps.{at_own, elsewhere, here, keeps_at, part_at, visits_same}
-use Rattle.router_core.proofs.Standing.{keeps_on}
+use Rattle.router_core.proofs.Standing.{keeps_on, none_in}
 use Rattle.router_core.proofs.VisitSteps.{same_or_not, at_here, at_other, set_here, set_other, set_at}
 
 -- a graft of this router has it for its source
 source_is : (f : Fields) (n : ℕ) (ids : GraftIds) → IsGraftOf f.known.setup f.number.0 n ids → (let r : RouterId = record { 0 = f.number.0 } in r) ≡ ids.source
 source_is f n ids of = λ i. record { 0 = sym of.source i }
 
+-- a session that isn't refused is established
+unrefused : (source target : RouterId) (from : SessionState) (hold : ℕ) → freeze_refusal source target from hold ≡ None → from ≡ Established
+unrefused source target from hold none = by_router (target.0 == source.0) from none
+  where
+    by_router : (b : Bool) (from : SessionState) → (if b then Some refusals.SameRouter else session_refusal from hold) ≡ None → from ≡ Established
+    by_router true from e = absurd (let x : ⊥ = cc in x)
+    by_router false OpenSent e = absurd (let x : ⊥ = cc in x)
+    by_router false OpenConfirm e = absurd (let x : ⊥ = cc in x)
+    by_router false Established e = refl
+    by_router false Closed e = absurd (let x : ⊥ = cc in x)
+
 module _ (f g : Fields) (p q : Post (Item RunningSession)) (n : ℕ) (s : RunningSession) (ids : GraftIds) (keeps : Keeps f) (there : n < length f.places.items) (is : place_at f.places.items n ≡ Live s (Some ids)) where
   place_is : KeepsPlace f.known.setup f.number.0 n ((rib_of f.rib).entries n) (table_at f.due_out n) (Live s (Some ids))
   place_is = subst (KeepsPlace f.known.setup f.number.0 n ((rib_of f.rib).entries n) (table_at f.due_out n)) is (keeps.each n)
 
   graft_is : IsGraftOf f.known.setup f.number.0 n ids
-  graft_is = place_is.1.1.0
+  graft_is = place_is.2
 
   part_is : (router_part f).places n ≡ model.Live s.session (Some (order_of ids))
   part_is = ap place_of is
@@ -90,13 +105,13 @@ module _ (f g : Fields) (p q : Post (Item RunningSession)) (n : ℕ) (s : Runnin
       goes = (refl, subst (λ (x : Place). GraftGoes x (place_at g.places.items n)) (sym is) (inl (here f g n (Live s None) there same items_are)));
       others = λ k not. (elsewhere f g n (Live s None) there same items_are k not, refl);
       same = subst (λ (h : Fields). h ≡ record f { places = h.places; due_out = h.due_out }) (sym same) refl;
-      keeps = keeps_at f g n (Live s None) there same items_are keeps (place_is.0, place_is.1.0, tt, place_is.1.1.1);
+      keeps = keeps_at f g n (Live s None) there same items_are keeps (place_is.0, place_is.1, tt, place_is.3);
     }
 
   -- ---- the session leaves
 
   -- frozen, between the two events
-  mid : RouterPart
+  abbrev mid : RouterPart
   mid = record (router_part f) { places = at (router_part f).places n (model.Frozen s.session (order_of ids)) }
 
   module _ (m : Post (Item RunningSession)) (no_cause : freeze_refusal ids.source ids.target (state s.session) (hold_time s.session) ≡ None) (same : SameButLeaving f g) (items_are : g.places.items ≡ set f.places.items n (Shadow ids))
@@ -132,13 +147,17 @@ module _ (f g : Fields) (p q : Post (Item RunningSession)) (n : ℕ) (s : Runnin
       effect = effect;
     }
 
+    -- only an established session leaves
+    established_is : state s.session ≡ Established
+    established_is = unrefused ids.source ids.target (state s.session) (hold_time s.session) no_cause
+
     sends_moved : Sends f ids.target.0 (items.Moved ids.graft s) (MeshTo ids.target.0 (Moved ids.graft n s.session))
     sends_moved = record {
       name = Router ids.target.0;
       known = graft_is.target;
       number = refl;
       thing = ap (λ (k : ℕ). (Router ids.target.0, MeshItem (Moved ids.graft k s.session))) (sym place_is.0.peering);
-      may = tt;
+      may = record { established = established_is; sends = place_is.0.sends ∙ ap (home_first f.known.setup) (sym place_is.0.peering); receives = place_is.0.receives ∙ ap (remote_first f.known.setup) (sym place_is.0.peering) };
     }
 
     did_leave : (t : ℕ → Tally) → Did f p t (Freeze ids.graft ∷ Leave ids.graft ∷ []) g q t
@@ -146,8 +165,8 @@ module _ (f g : Fields) (p q : Post (Item RunningSession)) (n : ℕ) (s : Runnin
       router = same_router;
       deeds = deed_of p 11 ids.graft 0 0 None [] ∷ deed_of m 12 ids.graft 0 0 None ((ids.target.0, items.Moved ids.graft s) ∷ []) ∷ [];
       wrote = wrote_then p m q _ _ (first None) (second None);
-      none = (refl, refl, tt);
-      coded = (record { kind = refl; a = refl; b = refl; c = refl }, record { kind = refl; a = refl; b = refl; c = refl }, tt);
+      none = (refl, (refl, tt));
+      coded = (record { kind = refl; a = refl; b = refl; c = refl }, (record { kind = refl; a = refl; b = refl; c = refl }, tt));
       replay = (
         record { setup = f.known.setup; name = Router f.number.0; part = RouterIs mid },
         record {
@@ -159,8 +178,7 @@ module _ (f g : Fields) (p q : Post (Item RunningSession)) (n : ℕ) (s : Runnin
             fit = tt;
           });
         },
-        own_part g,
-        record {
+        (own_part g, record {
           setup = same_router.setup;
           name = ap (λ k. Router k.0) same_router.number;
           does = inl (record {
@@ -177,8 +195,7 @@ module _ (f g : Fields) (p q : Post (Item RunningSession)) (n : ℕ) (s : Runnin
             };
             fit = ((sends_moved.name, sends_at f ids.target.0 (items.Moved ids.graft s) (MeshTo ids.target.0 (Moved ids.graft n s.session)) sends_moved, sends_moved.may), tt);
           });
-        },
-        refl,
+        }, refl),
       );
       round = (None, [], mid, freezes, tt, (None, MeshTo ids.target.0 (Moved ids.graft n s.session) ∷ [], router_part g, leaves, tt, (refl, refl)));
     }
@@ -202,7 +219,7 @@ module _ (f g : Fields) (p q : Post (Item RunningSession)) (n : ℕ) (s : Runnin
           | inl e ↦
               subst (λ (j : ℕ). KeepsPlace f.known.setup f.number.0 j ((rib_of f.rib).entries j) (at (table_at f.due_out) n map.empty j) (place_at (set f.places.items n (Shadow ids)) j)) (sym e)
               (subst (λ (x : Place). KeepsPlace f.known.setup f.number.0 n ((rib_of f.rib).entries n) (at (table_at f.due_out) n map.empty n) x) (sym (set_here f.places.items n (Shadow ids) there))
-              (graft_is, λ x. ap (λ (d : Prefixes). has d x) (at_here (table_at f.due_out) n map.empty n refl)))
+              (graft_is, λ x. ap (λ (d : Prefixes). has d x) (at_here (table_at f.due_out) n map.empty n refl) ∙ none_in x))
           | inr not ↦
               subst (λ (x : Place). KeepsPlace f.known.setup f.number.0 k ((rib_of f.rib).entries k) (at (table_at f.due_out) n map.empty k) x) (sym (set_other f.places.items n (Shadow ids) there k not))
               (subst (λ (d : Prefixes). KeepsPlace f.known.setup f.number.0 k ((rib_of f.rib).entries k) d (place_at f.places.items k)) (sym (at_other (table_at f.due_out) n map.empty k not)) (keeps.each k))
@@ -238,7 +255,7 @@ module _ (f g : Fields) (p q : Post (Item RunningSession)) (n : ℕ) (x : Place)
       → (y : Place) → place_at f.places.items n ≡ y → BegunAs y (Refused named refusal) x → Visits beginning_grafts n f p g q
   begins_refused same items_are named refusal wrote Vacant is begun = absurd begun
   begins_refused same items_are named refusal wrote (Live s None) is begun = absurd begun
-  begins_refused same items_are named refusal wrote (Live s (Some ids)) is begun = refused f g p q n s ids keeps there is refusal begun.1.0 same (items_are ∙ ap (set f.places.items n) begun.1.1)
+  begins_refused same items_are named refusal wrote (Live s (Some ids)) is begun = refused f g p q n s ids keeps there is refusal begun.1 same (items_are ∙ ap (set f.places.items n) begun.2)
       (subst (λ (k : GraftIds). WroteOne p 10 k.graft 0 0 ((routers_in f.known.setup + peerings_in f.known.setup, items.Report k.graft (outcomes.Refused refusal)) ∷ []) q) begun.0 wrote)
   begins_refused same items_are named refusal wrote (Shadow away) is begun = absurd begun
 
@@ -247,8 +264,8 @@ module _ (f g : Fields) (p q : Post (Item RunningSession)) (n : ℕ) (x : Place)
       → (y : Place) → place_at f.places.items n ≡ y → BegunAs y (Left named capsule) x → Visits beginning_grafts n f p g q
   begins_left m same items_are due sizes named capsule first second Vacant is begun = absurd begun
   begins_left m same items_are due sizes named capsule first second (Live s None) is begun = absurd begun
-  begins_left m same items_are due sizes named capsule first second (Live s (Some ids)) is begun = left f g p q n s ids keeps there is m begun.1.0 same (items_are ∙ ap (set f.places.items n) begun.1.1.1) due sizes
+  begins_left m same items_are due sizes named capsule first second (Live s (Some ids)) is begun = left f g p q n s ids keeps there is m begun.1 same (items_are ∙ ap (set f.places.items n) begun.3) due sizes
       (subst (λ (k : GraftIds). WroteOne p 11 k.graft 0 0 [] m) begun.0 first)
-      (subst (λ (c : RunningSession). WroteOne m 12 ids.graft 0 0 ((ids.target.0, items.Moved ids.graft c) ∷ []) q) begun.1.1.0
+      (subst (λ (c : RunningSession). WroteOne m 12 ids.graft 0 0 ((ids.target.0, items.Moved ids.graft c) ∷ []) q) begun.2
       (subst (λ (k : GraftIds). WroteOne m 12 k.graft 0 0 ((k.target.0, items.Moved k.graft capsule) ∷ []) q) begun.0 second))
   begins_left m same items_are due sizes named capsule first second (Shadow away) is begun = absurd begun

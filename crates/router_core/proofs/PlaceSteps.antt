@@ -1,5 +1,5 @@
 -- One place of a router changes.
-use Rattle.std.proofs.Common.{◌≡◌, ◌≢◌, ℕ, ◌<◌, List, [], length, Option, option_map, refl, sym, ap, subst, ◌∙◌, set, true}
+use Rattle.std.proofs.Common.{◌≡◌, ◌≢◌, ℕ, ◌<◌, List, [], length, Option, option_map, inl, inr, refl, sym, ap, subst, ◌∙◌, set, true}
 use Rattle.std.proofs.lemmas.List.{length-set}
 use Rattle.ring_net.specs.declared.post.Post.{Post}
 use Rattle.graft_steps.specs.declared.item.Item.{Item}
@@ -42,9 +42,9 @@ keeps_live setup r p entries due s u o keeps config story rest = (
     sends = ap (λ (c : SessionConfig). c.send_first.0) config ∙ keeps.0.sends;
     receives = ap (λ (c : SessionConfig). c.receive_first.0) config ∙ keeps.0.receives;
   },
-  λ open. subst BeginsNothing (sym rest) (keeps.1.0 (λ closed. open (ap state_of story ∙ closed))),
-  keeps.1.1.0,
-  λ x has. ap state_of story ∙ keeps.1.1.1 x has,
+  λ unclosed. subst BeginsNothing (sym rest) (keeps.1 (λ closed. unclosed (ap state_of story ∙ closed))),
+  keeps.2,
+  λ x has. ap state_of story ∙ keeps.3 x has,
 )
 
 -- the places are another list, which has another place at a number

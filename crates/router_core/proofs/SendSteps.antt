@@ -32,8 +32,11 @@ use Rattle.router_core.proofs.Careful.{at_again, at_answer, at_next, careful_aga
 use Rattle.router_core.proofs.EmitSteps.{Gives, visits_emitted}
 use Rattle.router_core.proofs.PlaceSteps.{keeps_live, visits_same}
 
-none_some : {A : Type 0} → IsSome (let o : Option A = None in o) → ⊥
-none_some h = h
+false_true : ◌≡◌ {A = Bool} false true → ⊥
+false_true e = let y : ⊥ = cc in y
+
+is_none_some : {A : Type 0} (x : A) → IsNone (Some x) → ⊥
+is_none_some x e = let y : ⊥ = cc in y
 
 pub some_none : {A : Type 0} (x : A) → Some x ≡ None → ⊥
 some_none x e = let y : ⊥ = cc in y
@@ -87,15 +90,15 @@ none_is : (s : RunningSession) (o : Option GraftIds) → (again_length s.session
 none_is s o (inr raised) = ap (λ (b : Bool). let n : ℕ = if b then 0 else (if nat_lt 0 (again_length s.session.end) then 1 else 0) in n) (lt-ltb s.acked_at_turn s.session.end.acked raised)
 none_is s o (inl none) = by_flag (nat_lt s.acked_at_turn s.session.end.acked)
   where
-    nothing_out : (if nat_lt 0 (again_length s.session.end) then 1 else 0) ≡ 0
+    nothing_out : ◌≡◌ {A = ℕ} (if nat_lt 0 (again_length s.session.end) then 1 else 0) 0
     nothing_out = ap (λ (b : Bool). let n : ℕ = if b then 1 else 0 in n) (le-ltb 0 (again_length s.session.end) (omega (arith, none)))
-    by_flag : (b : Bool) → (if b then 0 else (if nat_lt 0 (again_length s.session.end) then 1 else 0)) ≡ 0
+    by_flag : (b : Bool) → ◌≡◌ {A = ℕ} (if b then 0 else (if nat_lt 0 (again_length s.session.end) then 1 else 0)) 0
     by_flag true = refl
     by_flag false = nothing_out
 
 -- a turn that sends is late: nothing was acknowledged since the last one
 late_for : (s : RunningSession) (segment : Segment) → (IsNone (Some segment) ↔ ((again_length s.session.end ≡ 0) ⊎ (s.acked_at_turn < s.session.end.acked))) → s.session.end.acked ≤ s.acked_at_turn
-late_for s segment none = elim (cases_lt s.acked_at_turn s.session.end.acked) [ inl raised ↦ absurd (some_none segment (none.1 (inr raised))) | inr late ↦ late ]
+late_for s segment none = elim (cases_lt s.acked_at_turn s.session.end.acked) [ inl raised ↦ absurd (is_none_some segment (none.1 (inr raised))) | inr late ↦ late ]
 
 plus_again : (t : Tally) (n : ℕ) → n ≡ 0 → (let u : Tally = record t { again = t.again + n } in u) ≡ t
 plus_again t n is = ap (λ (m : ℕ). let u : Tally = record t { again = m } in u) (let e : t.again + n ≡ t.again = omega (arith, is) in e)
@@ -202,7 +205,7 @@ module _ (f g : Fields) (p q : Post (Item RunningSession)) (n : ℕ) (x : Place)
       (λ t. plus_answers t (answer_at (Live s o)) (ap (λ (b : Bool). let m : ℕ = if b then 1 else 0 in m) not))
     where
       by_owed : (b : Bool) → s.session.end.owed ≡ b → s.session.end.owed ≡ false
-      by_owed true is = absurd (none_some (sent.some.1 is))
+      by_owed true is = absurd (false_true (sent.some.1 is))
       by_owed false is = is
   answer_none (Shadow away) is at = visits_idle answering same (Shadow away) is at.1 (refl, refl) (λ t. plus_answers t 0 refl)
 

@@ -1,11 +1,18 @@
 -- What a router keeps while its stages change it.
 use Rattle.std.proofs.Common.{◌≡◌, ℕ, ◌≤◌, length, is_some, false, refl, sym, ap, subst, ◌∙◌}
 use Rattle.std.specs.FinMap as map
+use Rattle.bgp_types.specs.Prefixes.{PrefixValue}
+use Rattle.bgp_types.specs.Tables.{prefix_cmp}
+use Rattle.session_value.specs.Sets.{has}
 use Rattle.rib_stages.specs.Values.{rib_of, table_at}
 use Rattle.router_core.specs.Configs.{IsRibOf}
 use Rattle.router_core.specs.Parts.{Keeps, KeepsPlace}
 use Rattle.router_core.specs.Places.{place_at}
 use Rattle.router_core.specs.declared.fields.Fields.{Fields}
+
+-- no prefix is in the empty set
+pub none_in : (x : PrefixValue) → has map.empty x ≡ false
+none_in x = ap is_some (map.get-empty prefix_cmp x)
 
 -- all but the places, the routes, what is due and the count of turns is as it was
 abbrev pub IsSteady : Fields → Fields → Type 0

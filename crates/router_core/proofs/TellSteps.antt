@@ -31,7 +31,7 @@ use Rattle.router_core.specs.Turned.{rounds_on}
 use Rattle.router_core.specs.declared.fields.Fields.{Fields}
 use Rattle.router_core.proofs.Dids.{Sends, did_same, did_then, did_sent}
 use Rattle.router_core.proofs.RoundLists.{rounds_on-append}
-use Rattle.router_core.proofs.Standing.{keeps_on}
+use Rattle.router_core.proofs.Standing.{keeps_on, none_in}
 use Rattle.router_core.proofs.VisitSteps.{same_or_not, at_here, at_other}
 
 -- what is due to routers changes, and nothing else
@@ -49,7 +49,7 @@ keeps_due_in f g keeps same sizes = keeps_on f g keeps
 
 -- nothing is dirty
 not_dirty : (dirty : Prefixes) (x : PrefixValue) → dirty ≡ map.empty → has dirty x ≡ false
-not_dirty dirty x none = ap (λ (d : Prefixes). has d x) none
+not_dirty dirty x none = ap (λ (d : Prefixes). has d x) none ∙ none_in x
 
 module _ (f g : Fields) (p q : Post (Item RunningSession)) (to : ℕ) (prefix : PrefixValue) (route : Option Route) (keeps : Keeps f) (clean : f.rib.dirty ≡ map.empty) (there : to < length f.due_in)
     (due : has (table_at f.due_in to) prefix ≡ true) (is : route ≡ tell_in (map.get f.rib.best prefix)) (same : g ≡ record f { due_in = g.due_in }) (sizes : length g.due_in ≡ length f.due_in)

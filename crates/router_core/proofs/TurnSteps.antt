@@ -1,5 +1,5 @@
 -- A turn is its stages, one after another.
-use Rattle.std.proofs.Common.{◌≡◌, ℕ, zero, suc, ◌+◌, ◌<◌, ◌≤◌, List, [], ◌∷◌, ◌++◌, Option, Some, None, Bool, true, false, ¬◌, refl, sym, ap, subst, ◌∙◌, arith, inl, inr, ◌⊎◌, append_assoc}
+use Rattle.std.proofs.Common.{◌≡◌, ℕ, zero, suc, ◌+◌, ◌<◌, ◌≤◌, List, [], ◌∷◌, ◌++◌, Option, option_map, Some, None, Bool, true, false, refl, sym, ap, subst, ◌∙◌, arith, inl, inr, ◌⊎◌, append_assoc}
 use Rattle.std.proofs.lemmas.List.{append-nil}
 use Rattle.std.specs.Prelude.{nat_lt, if◌then◌else◌}
 use Rattle.std.specs.FinMap as map
@@ -11,14 +11,14 @@ use Rattle.graft_steps.specs.declared.order.GraftIds.{GraftIds}
 use Rattle.session_value.specs.Sessions.{SessionValue}
 use Rattle.session_value.specs.Sets.{Entries, Prefixes}
 use Rattle.bgp_session.specs.Running.{RunningSession}
-use Rattle.bgp_session.specs.Steps.{MayPass}
+use Rattle.router_core.specs.MayPassing.{MayPass}
 use Rattle.graft_model.specs.Setups.{Setup}
 use Rattle.graft_model.specs.Parts as model
 use Rattle.graft_model.specs.Parts.{RouterPart}
 use Rattle.graft_model.specs.Steps.{RouterEvent}
 use Rattle.graft_actors.specs.Emissions.{Tally, IsRested, nothing, reach_of}
 use Rattle.router_core.specs.Parts.{router_part, Keeps, KeepsPlace}
-use Rattle.router_core.specs.Places.{place_of, place_at, RunsAt}
+use Rattle.router_core.specs.Places.{place_of, place_at, order_of, RunsAt}
 use Rattle.router_core.specs.Rested.{IsDone, IsQuietPlace, RestedRouter}
 use Rattle.router_core.specs.Rounds.{SameRouter, Did}
 use Rattle.router_core.specs.Stages.{PlaceGoes, GraftGoes, PutsMore, IsLevel, EmitsAll, PassesWhereItMay, again_at, answer_at, with_again, with_answers, SendsAgain, PassesRounds, BeginsGrafts, DecidesAll, TellsAll, PutsAll, Emits}
@@ -38,18 +38,18 @@ rounds_before p es fs none = rounds_on-append p es fs ∙ ap (λ (xs : List ℕ)
 
 -- ---- a place through the stages
 
-NotLive : Place → Type 0
+abbrev NotLive : Place → Type 0
 NotLive Vacant = Unit {0}
 NotLive (Live s o) = ⊥
 NotLive (Shadow away) = Unit {0}
 
 -- no graft is stored for its session
-NoOrder : Place → Type 0
+abbrev NoOrder : Place → Type 0
 NoOrder Vacant = Unit {0}
 NoOrder (Live s o) = o ≡ None
 NoOrder (Shadow away) = Unit {0}
 
-AllOut : Place → Type 0
+abbrev AllOut : Place → Type 0
 AllOut Vacant = Unit {0}
 AllOut (Live s o) = IsRested s.session.end
 AllOut (Shadow away) = Unit {0}
@@ -78,7 +78,7 @@ all_out (Shadow away) y goes = subst AllOut (sym goes) tt
 
 quiet : (setup : Setup) (r p : ℕ) (entries : Entries) (due : Prefixes) (x : Place) → KeepsPlace setup r p entries due x → NoOrder x → AllOut x → IsQuietPlace (place_of x)
 quiet setup r p entries due Vacant keeps none out = tt
-quiet setup r p entries due (Live s None) keeps none out = (refl, keeps.1.0, out)
+quiet setup r p entries due (Live s None) keeps none out = (refl, keeps.1, out)
 quiet setup r p entries due (Live s (Some ids)) keeps none out = absurd (let e : ⊥ = cc in e)
 quiet setup r p entries due (Shadow away) keeps none out = tt
 
@@ -101,12 +101,12 @@ done_on : (setup : Setup) (r p : ℕ) (part : RouterPart) (places : ℕ → mode
 done_on setup r p part places Vacant y goes done = subst (λ (z : Place). IsDone setup r (record part { places = places }) p (place_of z)) (sym goes) done
 done_on setup r p part places (Live s o) y (u, is, becomes) done =
     subst (λ (z : Place). IsDone setup r (record part { places = places }) p (place_of z)) (sym (is ∙ ap (λ (v : RunningSession). Live v o) becomes))
-    (done_live setup r p part places s.session _ (reach_of s.session.end) false done)
+    (done_live setup r p part places s.session (option_map order_of o) (reach_of s.session.end) false done)
 done_on setup r p part places (Shadow away) y goes done = subst (λ (z : Place). IsDone setup r (record part { places = places }) p (place_of z)) (sym goes) done
 
 -- ---- a session through the stages
 
-session_in : RunningSession → Place → RunningSession
+abbrev session_in : RunningSession → Place → RunningSession
 session_in x Vacant = x
 session_in x (Live s o) = s
 session_in x (Shadow away) = x
@@ -128,7 +128,7 @@ record LivesOn (round : ℕ) (rounds : List ℕ) (s u : RunningSession) : Type 0
 level_rounds : (round : ℕ) (rounds : List ℕ) (s u v : RunningSession) → IsLevel s u → (MayPass u.session round × (rounds ≡ round ∷ [])) ⊎ ((¬ MayPass u.session round) × (rounds ≡ []) × (v ≡ u))
     → (MayPass s.session round × (rounds ≡ round ∷ [])) ⊎ ((¬ MayPass s.session round) × (rounds ≡ []))
 level_rounds round rounds s u v level (inl h) = inl (subst (λ (x : SessionValue). MayPass x round) (ap (λ (x : RunningSession). x.session) level) h.0, h.1)
-level_rounds round rounds s u v level (inr h) = inr (subst (λ (x : SessionValue). ¬ MayPass x round) (ap (λ (x : RunningSession). x.session) level) h.0, h.1.0)
+level_rounds round rounds s u v level (inr h) = inr (subst (λ (x : SessionValue). ¬ MayPass x round) (ap (λ (x : RunningSession). x.session) level) h.0, h.1)
 
 -- a place before the turn, after each stage that changes places, and at the end
 lives_on : (round : ℕ) (rounds : List ℕ) (a b c d h k : Place) (s u : RunningSession) (o q : Option GraftIds) → a ≡ Live s o → k ≡ Live u q → PlaceGoes IsLevel a b → PlaceGoes (PassesWhereItMay round rounds) b c → GraftGoes c d
@@ -205,13 +205,10 @@ module _ (f a b c d e g h k : Fields) (p0 p1 p2 p3 p4 p5 p6 p7 : Post (Item Runn
   g_places : (p : ℕ) → place_at g.places.items p ≡ place_at d.places.items p
   g_places p = ap (λ (x : Fields). place_at x.places.items p) g_same
 
-  events : List RouterEvent
+  abbrev events : List RouterEvent
   events = again.events ++ (rounds.events ++ (grafts.events ++ (decides.events ++ (tells.events ++ (puts.events ++ emits.events)))))
 
-  first : ℕ → Tally
-  first p = nothing
-
-  tally : ℕ → Tally
+  abbrev tally : ℕ → Tally
   tally = with_answers h (with_again a (λ p. nothing))
 
   did_all : Did f p0 (λ p. nothing) events k p7 tally

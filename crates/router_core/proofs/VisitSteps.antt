@@ -34,7 +34,7 @@ same_or_not p q = elim (cases_lt q p) [
 
 -- ---- counts
 
-counted_by : (stage : Stage) → List Place → (ℕ → Tally) → ℕ → ℕ → Tally
+abbrev counted_by : (stage : Stage) → List Place → (ℕ → Tally) → ℕ → ℕ → Tally
 counted_by stage places t n p = if nat_lt p n then stage.count (place_at places p) (t p) else t p
 
 counted_below : (stage : Stage) (places : List Place) (t : ℕ → Tally) (n p : ℕ) → p < n → counted_by stage places t n p ≡ stage.count (place_at places p) (t p)
@@ -109,7 +109,7 @@ module _ (stage : Stage) (a b c : Fields) (p q r : Post (Item RunningSession)) (
 pub visited_first : (stage : Stage) (f : Fields) (p : Post (Item RunningSession)) → stage.Same f f → Keeps f → Visited stage zero f p f p
 visited_first stage f p same keeps = record {
   events = [];
-  did = λ t. did_same f f p t (record { setup = refl; number = refl }) refl;
+  did = λ t. subst (λ (u : ℕ → Tally). Did f p t [] f p u) (λ i k. sym (counted_from stage f.places.items t 0 k (omega arith)) i) (did_same f f p t (record { setup = refl; number = refl }) refl);
   done = λ k below. absurd (omega (arith, below));
   left = λ k from. (refl, refl);
   same = same;

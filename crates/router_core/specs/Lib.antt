@@ -4,6 +4,7 @@ pub mod Parts
 pub mod Updates
 pub mod Rounds
 pub mod Rested
+pub mod MayPassing
 pub mod Stages
 pub mod Visits
 pub mod Sending

@@ -1,13 +1,13 @@
 -- The stages of a router's turn, in their order: segments are sent again, rounds pass, grafts begin, prefixes are decided, routers and sessions are told, and all is
 -- emitted that may be.
-use Rattle.std.specs.Prelude.{ℕ, ◌≡◌, ◌⊎◌, ◌+◌, ◌<◌, nat_lt, if◌then◌else◌, List, [], ◌∷◌, Option, Some, None}
+use Rattle.std.specs.Prelude.{ℕ, ◌≡◌, ◌⊎◌, ◌+◌, ◌<◌, nat_lt, if◌then◌else◌, false, List, [], ◌∷◌, Option, Some, None}
 use Rattle.std.specs.FinMap as map
 use Rattle.ring_net.specs.declared.post.Post.{Post}
 use Rattle.tcp_seq.specs.Endpoint.{again_length}
 use Rattle.graft_steps.specs.declared.item.Item.{Item}
 use Rattle.graft_steps.specs.declared.order.GraftIds.{GraftIds}
 use Rattle.bgp_session.specs.Running.{RunningSession}
-use Rattle.bgp_session.specs.Steps.{MayPass}
+use Rattle.router_core.specs.MayPassing.{MayPass}
 use Rattle.graft_model.specs.Steps.{RouterEvent}
 use Rattle.graft_actors.specs.Emissions.{Tally, reach_of}
 use Rattle.router_core.specs.Parts.{router_part, Keeps}

@@ -1,4 +1,1 @@
 pub mod Plans
-pub mod ToTell
-pub mod Codes
-pub mod Gathering

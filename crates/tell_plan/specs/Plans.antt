@@ -7,6 +7,7 @@ use Rattle.bgp_types.specs.declared.message.Message.TheVariants.{UpdateMsg}
 use Rattle.bgp_types.specs.Prefixes.{PrefixValue, same_prefix}
 use Rattle.bgp_types.specs.Spelling.{spell}
 use Rattle.bgp_types.specs.Tables.{prefix_cmp}
+use Rattle.bgp_types.specs.Writable.{IsWritableAttrs}
 use Rattle.session_value.specs.Cases.{update_for}
 use Rattle.session_value.specs.Sets.{Lists}
 use Rattle.tell_plan.specs.declared.batch.Batch.{Batch}
@@ -49,3 +50,11 @@ Without Is prefixes x = Is x × (list_any (same_prefix x) prefixes ≡ false)
 abbrev pub IsPlan : (PrefixValue → Type 0) → (PrefixValue → Option Attrs) → Bool → List Batch → Type 0
 IsPlan Is to_tell wide [] = (x : PrefixValue) → Is x → ⊥
 IsPlan Is to_tell wide (batch ∷ batches) = IsNext Is to_tell wide batch × IsPlan (Without Is batch.prefixes) to_tell wide batches
+
+-- the attributes that it tells can be written, if it tells any
+abbrev pub is_writable_for : Option Attrs → Type 0
+is_writable_for None = Unit {0}
+is_writable_for (Some attrs) = IsWritableAttrs attrs
+
+abbrev pub IsWritableFor : Batch → Type 0
+IsWritableFor batch = is_writable_for batch.attrs

@@ -1,8 +1,6 @@
 //! What one UPDATE tells.
 
-ghost use Rattle.std.specs.Prelude.{◌≡◌, List, Option};
-ghost use Rattle.bgp_types.specs.declared.attrs.Attrs as attributes;
-ghost use Rattle.bgp_types.specs.Prefixes.{PrefixValue};
+ghost use Rattle.std.specs.Prelude.{◌≡◌};
 ghost use Rattle.session_value.specs.Cases.{update_for};
 
 use bgp_types::{Attrs, Items, PrefixList, Update};
@@ -31,22 +29,6 @@ impl Batch {
                 withdrawn: Items::new(alloc),
                 attrs: Some(attrs),
                 nlri: prefixes,
-            },
-        }
-    }
-
-    /// What an UPDATE tells that either withdraws or announces.
-    pub(crate) fn of(update: Update) -> Batch
-        ensures { (attrs : Option attributes.Attrs) (prefixes : List PrefixValue) → update ≡ update_for attrs prefixes → result ≡ record { attrs = attrs; prefixes = prefixes } }
-    {
-        match update.attrs {
-            None => Batch {
-                attrs: None,
-                prefixes: update.withdrawn,
-            },
-            Some(attrs) => Batch {
-                attrs: Some(attrs),
-                prefixes: update.nlri,
             },
         }
     }

@@ -1,15 +1,6 @@
-//! What a router says in a turn of what is due to a receiver: on a session, one UPDATE carries as many prefixes that are to be told the
-//! same as 4,096 octets hold (RFC 4271, sections 4.1, 4.3 and 9.2).
+//! A part of `tell_plan`, for checks of what stands on it.
 #![tactic(auto)]
 
 mod batch;
-mod code;
-mod gather;
-mod laws;
-mod planning;
-mod walk;
 
 pub use batch::Batch;
-pub use laws::{first_batch_changes, first_batch_is_one_way, rest_is_planned};
-pub use planning::plan;
-pub use walk::next_waiting;
