@@ -1,5 +1,5 @@
 -- Events that don't occur in the worked run.
-use Rattle.std.proofs.Common.{◌≡◌, ℕ, ◌<◌, ◌||◌, ◌++◌, Bool, true, false, [], ◌∷◌, Some, None, is_some, refl, sym, ap, ◌∙◌, lit<, lit≤, arith, unwrap_or}
+use Rattle.std.proofs.Common.{inl, ◌≡◌, ℕ, ◌<◌, ◌||◌, ◌++◌, Bool, true, false, [], ◌∷◌, Some, None, is_some, refl, sym, ap, ◌∙◌, lit<, lit≤, arith, unwrap_or}
 use Rattle.std.specs.FinMap as map
 use Rattle.bgp_types.specs.Prefixes.{PrefixValue}
 use Rattle.bgp_types.specs.Spelling.{spell}
@@ -7,7 +7,7 @@ use Rattle.bgp_story.specs.WorkedSessions.{keepalive_bytes, joined_lines}
 use Rattle.graft_steps.specs.declared.refusal.Refusal.TheVariants.{SameRouter, RouterFull}
 use Rattle.graft_steps.specs.declared.refusal.Outcome.TheVariants.{Refused}
 use Rattle.graft_model.specs.Parts.{Place, Vacant, Live, Frozen, Shadow, Moved, Back, World}
-use Rattle.graft_model.specs.RouterRows.{SegmentIn, MeshIn, MeshTo, ReportOut, Strays, Ticks, BringsIn}
+use Rattle.graft_model.specs.RouterRows.{SegmentIn, MeshIn, MeshTo, ReportOut, Strays, Ticks}
 use Rattle.graft_model.specs.GraftRows.{Refuses, TurnsBack, Returns, is_taken}
 use Rattle.graft_model.specs.FarRows.{Homeward, Loses, Beats}
 use Rattle.graft_model.specs.Laws.{MayStillHappen}
@@ -17,7 +17,6 @@ use Rattle.graft_worked.proofs.GraftEnds.{quiet_after}
 use Rattle.session_value.specs.Sessions.{hold_time}
 use Rattle.session_value.specs.Cases.{PassesRound}
 use Rattle.session_value.specs.Sets.{has}
-use Rattle.std.specs.Prelude.{option_map}
 use Rattle.std.proofs.lemmas.List.Elements.{All-from_recursion}
 use Rattle.bgp_story.specs.Legal.{IsEarlier}
 use Rattle.bgp_types.specs.declared.message.SessionState.TheVariants.{Established}
@@ -25,8 +24,6 @@ use Rattle.bgp_types.specs.FirstFault.{body_of, message_of}
 use Rattle.bgp_types.specs.Header.{header_fault, frame_at}
 use Rattle.bgp_types.specs.Many.{many, many_within}
 use Rattle.bgp_types.specs.OpenBody.{cap_at, caps_of, params_of, open_of}
-use Rattle.route_policy.specs.Candidates.{imported}
-use Rattle.graft_model.specs.Decisions.{remote_identifier, session_route}
 use Rattle.graft_worked.proofs.StartRows.{marks_none}
 use Rattle.graft_model.specs.Steps.{Event, Tick, Stray, Refuse, TurnBack, Return, Lose, Go, Beat, ByRouter, ByFar, ByOperator, Step}
 use Rattle.graft_worked.specs.Base.{base}
@@ -36,7 +33,7 @@ use Rattle.graft_worked.specs.Graft.{ten_alone, over_peering, session, a_before,
 use Rattle.graft_worked.specs.Start.{a_with, ack_segment, far_sent, far_emitted}
 use Rattle.graft_worked.specs.Others.{with_stray, without_stray, a_to_itself, full_at_b, with_session, with_turned, beating, with_beat, session_timed, session_ticked, with_round_due, with_round, with_back, a_returned, with_segment, without_segment}
 use Rattle.graft_worked.proofs.Points.{at-at, at-same, two-0, two-1, two2-0, two2-1}
-use Rattle.graft_worked.proofs.Tens.{empty, got_none, some_at_ten, some_in_none}
+use Rattle.graft_worked.proofs.Tens.{empty, some_at_ten, some_in_none}
 use Rattle.graft_worked.proofs.Moves.{a_ends, a_reports, a_from_far, far_alone}
 
 strays : Strays 0 a_after (Some (SegmentIn 0 ack_segment)) [] a_after
@@ -159,9 +156,6 @@ may_beat = record {
   is = λ i. record before_graft { far = sym (at-at (λ p. idle_far) 0 far_before (record far_before { end = record remote_end { stream = said_all ++ keepalive_bytes }; beats = 1; last_beat = 30 })) i };
 }
 
-brings_nothing : BringsIn beating 0 session_ticked empty
-brings_nothing x = got_none x ∙ sym (ap (λ attrs. option_map (λ route. record { route = route; identifier = remote_identifier session_ticked; address = session_ticked.config.remote_address }) (imported 65000 x (session_route beating 0 session_ticked x) attrs)) (got_none x))
-
 round_passes : PassesRound session_timed 1 session_ticked
 unfolding message_of header_fault frame_at body_of open_of many many_within cap_at caps_of params_of
 round_passes = record {
@@ -185,7 +179,7 @@ ticks = record {
   next = session_ticked;
   passes = round_passes;
   follows = record {
-    entries = brings_nothing;
+    entries = λ x. inl (refl, refl);
     dirty = marks_none;
     due = refl;
     effect = λ i. record (a_with session_ticked) { places = sym (at-at (λ p. Vacant) 0 (Live session_timed None) (Live session_ticked None)) i; entries = sym (at-same empty 0) i; due_out = sym (at-same empty 0) i };

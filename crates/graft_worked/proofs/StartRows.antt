@@ -21,7 +21,6 @@ use Rattle.bgp_types.specs.UpdateBody.{fields_of, all_known, update_of}
 use Rattle.bgp_types.specs.WireAttrs.{attr_at}
 use Rattle.bgp_story.specs.declared.line.Line.TheVariants.{Put}
 use Rattle.bgp_story.specs.WorkedSessions.{open_bytes, keepalive_bytes, update_bytes}
-use Rattle.bgp_story.specs.Readings.{Routes}
 use Rattle.route_policy.specs.Candidates.{imported}
 use Rattle.tcp_seq.specs.Endpoint.{Bytes, bytes_in_order, run_from}
 use Rattle.session_value.specs.Sessions.{SessionValue}
@@ -30,7 +29,7 @@ use Rattle.session_value.specs.Sets.{Marks}
 use Rattle.graft_model.specs.Points.{at}
 use Rattle.graft_model.specs.Parts.{Live, Vacant, Entry, RouterPart, Seg}
 use Rattle.graft_model.specs.Decisions.{remote_identifier, session_route}
-use Rattle.graft_model.specs.RouterRows.{OutwardTo, Emits, GetsNext, BringsIn}
+use Rattle.graft_model.specs.RouterRows.{OutwardTo, Emits, GetsNext, BringsIn, FollowsHeard}
 use Rattle.graft_model.specs.FarRows.{OutwardIn, SayIn, Says, SendsSegment, TakesIn, Passes}
 use Rattle.graft_model.specs.OperatorRows.{SayTo, OrdersSay}
 use Rattle.graft_worked.specs.Base.{base}
@@ -137,9 +136,6 @@ brought x attrs = option_map (λ route. record { route = route; identifier = rem
 pub marks_none : Marks empty (empty {A = Entry}) (empty {A = Entry}) empty
 marks_none = record { marked = λ x e. inl e; others = λ x e. (e, refl) }
 
-brings_none : (held : SessionValue) → held.heard ≡ map.empty → BringsIn base 0 held empty
-brings_none held e x = got_none x ∙ sym (ap (λ attrs. option_map (λ route. record { route = route; identifier = remote_identifier held; address = held.config.remote_address }) (imported base.home_as x (session_route base 0 held x) attrs)) (ap (λ (t : Routes). map.get t x) e ∙ got_none x))
-
 abbrev a_arrived : RouterPart
 a_arrived = a_with session_arrived
 
@@ -196,7 +192,7 @@ got_open_row = record {
   next = session_confirmed;
   gets = gets_open;
   follows = record {
-    entries = brings_none session_confirmed refl;
+    entries = λ x. inl (refl, refl);
     dirty = marks_none;
     due = refl;
     effect = λ i. record (a_with session_confirmed) { places = sym (moved session_arrived session_confirmed) i; entries = sym (at-same empty 0) i; due_out = sym (at-same empty 0) i };
@@ -214,7 +210,7 @@ got_keepalive_row = record {
   next = session_joined;
   gets = gets_keepalive;
   follows = record {
-    entries = brings_none session_joined refl;
+    entries = λ x. inl (refl, refl);
     dirty = marks_none;
     due = λ x. some_in_none _ x ∙ sym (some_in_none _ x);
     effect = λ i. record (a_with session_joined) { places = sym (moved session_confirmed session_joined) i; entries = sym (at-same empty 0) i; due_out = sym (at-same empty 0) i };
@@ -229,6 +225,19 @@ brings_ten : BringsIn base 0 session_heard (at_ten entry)
 unfolding brought message_of header_fault frame_at body_of open_of many many_within cap_at caps_of params_of
 brings_ten x = got_ten entry x ∙ sym (ap (brought x) (got_ten heard_attrs x) ∙ map_cond (brought x) (is_ten x) heard_attrs entry refl refl)
 
+-- another route is heard for that prefix alone
+follows_ten : (x : PrefixValue) → FollowsHeard base 0 session_joined session_heard empty (at_ten entry) x
+follows_ten x = by_test (is_ten x) refl where
+  by_test : (t : Bool) → is_ten x ≡ t → FollowsHeard base 0 session_joined session_heard empty (at_ten entry) x
+  by_test true e = inr (
+    λ same. (let f : Some heard_attrs ≡ None = sym (got_ten heard_attrs x ∙ ap (λ t. cond t (Some heard_attrs) None) e) ∙ same ∙ got_none x in cc),
+    brings_ten x,
+  )
+  by_test false e = inl (
+    got_ten heard_attrs x ∙ ap (λ t. cond t (Some heard_attrs) None) e ∙ sym (got_none x),
+    got_ten entry x ∙ ap (λ t. cond t (Some entry) None) e ∙ sym (got_none x),
+  )
+
 pub got_update_row : GetsNext base 0 0 (a_with session_joined) None [] (a_got session_heard)
 unfolding header_fault
 got_update_row = record {
@@ -240,7 +249,7 @@ got_update_row = record {
   next = session_heard;
   gets = gets_update;
   follows = record {
-    entries = brings_ten;
+    entries = follows_ten;
     dirty = marks_new entry;
     due = refl;
     effect = λ i. record (a_got session_heard) { places = sym (moved session_joined session_heard) i; due_out = sym (at-same empty 0) i };

@@ -1,0 +1,12 @@
+pub mod Ends
+pub mod Opens
+pub mod Numbers
+pub mod Got
+pub mod Reading
+pub mod Rounds
+pub mod Offered
+pub mod Exchanged
+pub mod Arrivals
+pub mod Fronts
+pub mod Listed
+pub mod Begun

@@ -1,0 +1,129 @@
+-- What the calls of a session answer, and the case by which it changes.
+use Rattle.std.specs.Prelude.{◌≡◌, ◌⊎◌, ℕ, ◌+◌, ◌<◌, ◌≤◌, List, [], ◌∷◌, ◌++◌, length, All, Option, Some, None, IsSome, true}
+use Rattle.std.specs.FinMap as map
+use Rattle.bgp_types.specs.declared.message.Message.TheVariants.{UpdateMsg, KeepaliveMsg}
+use Rattle.bgp_types.specs.declared.message.OpenMsg.{OpenMsg}
+use Rattle.bgp_types.specs.declared.message.SessionState.TheVariants as states
+use Rattle.bgp_types.specs.declared.message.Update.{Update}
+use Rattle.bgp_types.specs.Spelling.{spell}
+use Rattle.tcp_seq.specs.declared.segment.Segment.{Segment}
+use Rattle.tcp_seq.specs.declared.segment.Way.TheVariants.{Remote}
+use Rattle.tcp_seq.specs.declared.seq.Seq.{Seq}
+use Rattle.tcp_seq.specs.Endpoint.{Endpoint, PlacedSegment, IsInStreams, IsAcceptable, IsBeyond, byte_brought, TakesSegment}
+use Rattle.tcp_seq.specs.Placed.{placed}
+use Rattle.tcp_end.specs.declared.arrival.Arrival.{Arrival}
+use Rattle.tcp_end.specs.declared.arrival.Arrival.TheVariants.{Outside, Ahead, Duplicate, Accepted}
+use Rattle.bgp_story.specs.declared.line.Line.TheVariants.{Put, Tick}
+use Rattle.bgp_story.specs.Legal.{IsEarlier, got_open, is_up, is_wide}
+use Rattle.adj_rib.specs.Changes.{Changed as ChangedRoutes}
+use Rattle.session_value.specs.declared.config.SessionConfig.{SessionConfig}
+use Rattle.session_value.specs.Sessions.{SessionValue, peering_of, state, hold_time}
+use Rattle.session_value.specs.Cases.{GetsFrame, PassesRound}
+use Rattle.bgp_session.specs.Running.{RunningSession}
+use Rattle.bgp_session.specs.Fronts.{CantRead}
+use Rattle.bgp_session.specs.declared.answers.ReadStep.{ReadStep}
+use Rattle.bgp_session.specs.declared.answers.ReadStep.TheVariants.{Opened, Established, Changed, Closed}
+use Rattle.bgp_session.specs.declared.answers.TickStep.{TickStep}
+use Rattle.bgp_session.specs.declared.answers.TickStep.TheVariants.{Plain, Beat, Expired}
+
+-- ---- what is read
+
+-- What is answered of a message, or a faulty header, that a session got: the states before and after it, and the prefixes whose routes
+-- changed, or those that had routes when the session closed, in rising order.
+abbrev pub Tells : ReadStep → SessionValue → SessionValue → Type 0
+Tells Opened before after = (state before ≡ states.OpenSent) × (state after ≡ states.OpenConfirm)
+Tells Established before after = (state before ≡ states.OpenConfirm) × (state after ≡ states.Established)
+Tells (Changed prefixes) before after = (state before ≡ states.Established) × (state after ≡ states.Established) × ChangedRoutes before.heard after.heard prefixes
+Tells (Closed prefixes) before after = (state after ≡ states.Closed) × (prefixes ≡ map.keys before.heard)
+
+pub record ReadsFrame (step : ReadStep) (before after : RunningSession) : Type 0 where
+  pub bytes : List ℕ
+  pub gets : GetsFrame before.session bytes after.session
+  pub tells : Tells step before.session after.session
+  pub same_turn : after.acked_at_turn ≡ before.acked_at_turn
+
+-- One message or faulty header is got; none exactly where the session is closed or nothing whole is there, and then it stays as it is.
+abbrev pub Reads : Option ReadStep → RunningSession → RunningSession → Type 0
+Reads None before after = CantRead before.session × (after ≡ before)
+Reads (Some step) before after = ReadsFrame step before after
+
+-- ---- rounds
+
+-- A round of this number may pass: in OpenConfirm or Established, while a hold time runs, after each round that passed, and with room for a
+-- KEEPALIVE of 19 bytes and a NOTIFICATION behind it.
+pub record MayPass (session : SessionValue) (round : ℕ) : Type 0 where
+  pub up : is_up (state session) ≡ true
+  pub runs : 0 < hold_time session
+  pub later : All (IsEarlier round) session.story
+  pub room : length session.end.stream ≤ 1044461
+
+-- what is answered of a round: what it put
+abbrev pub TellsRound : TickStep → SessionValue → ℕ → SessionValue → Type 0
+TellsRound Plain before round after = after.story ≡ before.story ++ Tick round ∷ []
+TellsRound Beat before round after = after.story ≡ before.story ++ Tick round ∷ Put KeepaliveMsg ∷ []
+TellsRound (Expired prefixes) before round after = (state after ≡ states.Closed) × (prefixes ≡ map.keys before.heard)
+
+pub record Ticks (step : TickStep) (before : RunningSession) (round : ℕ) (after : RunningSession) : Type 0 where
+  pub passes : PassesRound before.session round after.session
+  pub tells : TellsRound step before.session round after.session
+  pub same_turn : after.acked_at_turn ≡ before.acked_at_turn
+
+-- ---- what is put and emitted
+
+-- the length of the stream with an UPDATE at its end
+abbrev pub offered_length : SessionValue → Update → ℕ
+offered_length session update = length session.end.stream + length (spell (UpdateMsg update) (is_wide (peering_of session.config) session.story))
+
+-- a segment that a session sends stands for this one, by the places of the two streams
+abbrev pub sent_as : SessionConfig → Segment → PlacedSegment
+sent_as config segment = placed config.send_first.0 config.receive_first.0 segment
+
+-- a segment that arrives at it stands for this one
+abbrev pub received_as : SessionConfig → Segment → PlacedSegment
+received_as config segment = placed config.receive_first.0 config.send_first.0 segment
+
+-- The endpoint makes a step that emits the segment for which this one stands, on the way to the remote and with a window of 16,384.
+pub record Emits (Step : Endpoint → PlacedSegment → Endpoint → Type 0) (before : SessionValue) (segment : Segment) (after : SessionValue) : Type 0 where
+  pub end : Endpoint
+  pub step : Step before.end (sent_as before.config segment) end
+  pub in_streams : IsInStreams (sent_as before.config segment)
+  pub peering : segment.peering ≡ before.config.peering
+  pub way : segment.way ≡ Remote
+  pub window : segment.window ≡ 16384
+  pub effect : after ≡ record before { end = end }
+
+-- with no segment the session stays as it is
+abbrev pub EmitsBy : (Endpoint → PlacedSegment → Endpoint → Type 0) → SessionValue → Option Segment → SessionValue → Type 0
+EmitsBy Step before None after = after ≡ before
+EmitsBy Step before (Some segment) after = Emits Step before segment after
+
+-- ---- what arrives
+
+-- a segment brings a byte to a place that has none
+pub record BringsTo (e : Endpoint) (segment : PlacedSegment) : Type 0 where
+  pub place : ℕ
+  pub empty : map.get e.arrived place ≡ None
+  pub some : IsSome (byte_brought e segment place)
+
+-- what an arriving segment is to an endpoint (RFC 9293, section 3.10.7.4)
+abbrev pub ArrivesAs : Arrival → Endpoint → PlacedSegment → Seq → Type 0
+ArrivesAs Outside e segment ack = ¬ IsAcceptable e segment
+ArrivesAs (Ahead told) e segment ack = IsAcceptable e segment × IsBeyond e segment × (told ≡ ack)
+ArrivesAs Duplicate e segment ack = IsAcceptable e segment × (¬ IsBeyond e segment) × (segment.ack ≤ e.acked) × (¬ BringsTo e segment)
+ArrivesAs Accepted e segment ack = IsAcceptable e segment × (¬ IsBeyond e segment) × ((e.acked < segment.ack) ⊎ BringsTo e segment)
+
+-- The endpoint takes the segment for which this one stands.
+pub record Arrives (arrival : Arrival) (before : RunningSession) (segment : Segment) (after : RunningSession) : Type 0 where
+  pub is : ArrivesAs arrival before.session.end (received_as before.session.config segment) segment.ack
+  pub end : Endpoint
+  pub takes : TakesSegment before.session.end (received_as before.session.config segment) end
+  pub effect : after ≡ record before { session = record before.session { end = end } }
+
+-- ---- looks
+
+-- the OPEN of the remote, once it was taken
+abbrev pub remote_open : SessionValue → Option OpenMsg
+remote_open session = got_open (peering_of session.config) session.story
+
+abbrev pub identifier_of : OpenMsg → ℕ
+identifier_of theirs = theirs.identifier

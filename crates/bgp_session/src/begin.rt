@@ -1,0 +1,98 @@
+//! A session begins: its OPEN is put.
+
+ghost use Rattle.std.specs.Prelude.{◌≡◌, ◌≤◌, ◌^◌, length, false, IfOk};
+ghost use Rattle.bgp_types.specs.Spelling.{spell};
+ghost use Rattle.bgp_types.specs.declared.message.Message.TheVariants as messages;
+ghost use Rattle.tcp_seq.specs.declared.segment.Way.TheVariants as ways;
+ghost use Rattle.tcp_end.specs.State.{fresh};
+ghost use Rattle.bgp_story.specs.Legal.{IsPeering};
+ghost use Rattle.bgp_story.specs.Opens.{as_cap as as_cap_lem};
+ghost use Rattle.session_value.specs.Sessions.{begun, peering_of};
+ghost use Rattle.bgp_session.specs.Inner.{Keeps, value_of};
+
+use crate::parts::{Parts, send};
+use adj_rib::AdjRib;
+use bgp_story::Story;
+use bgp_types::{Cap, Items, Message, NoMemory, Octets, OpenMsg, narrow_as};
+use bgp_wire::write_message;
+use session_value::SessionConfig;
+use std::alloc::Global;
+use tcp_end::End;
+use tcp_seq::Way;
+
+/// The code of the capability of four-octet AS numbers (RFC 6793, section 9).
+const FOUR_OCTET_AS: u8 = 65;
+
+/// The capability of four-octet AS numbers, which says the AS.
+fn as_cap(alloc: Global, as_number: u32) -> Result<Cap, NoMemory>
+    ensures { IfOk result (λ cap. cap ≡ as_cap_lem as_number) }
+{
+    Ok(Cap {
+        code: FOUR_OCTET_AS,
+        bytes: Octets::from_slice(alloc, &as_number.to_be_bytes())?,
+    })
+}
+
+/// The OPEN that the session puts.
+fn first_open(alloc: Global, config: &SessionConfig) -> Result<OpenMsg, NoMemory>
+    ensures { IfOk result (λ first. first ≡ (peering_of config.now).first) }
+{
+    let mut caps = Items::new(alloc);
+    if config.offered {
+        caps.push(as_cap(alloc, config.home_as)?)?;
+    }
+    Ok(OpenMsg {
+        as_number: u32::from(narrow_as(config.home_as)),
+        hold: config.home_hold,
+        identifier: config.identifier,
+        caps,
+    })
+}
+
+/// The octets of that OPEN.
+fn first_octets(alloc: Global, config: &SessionConfig) -> Result<Octets, NoMemory>
+    requires { IsPeering (peering_of config.now) }
+    ensures { IfOk result (λ octets. octets ≡ spell (messages.OpenMsg (peering_of config.now).first) false) }
+{
+    let open = first_open(alloc, config)?;
+    write_message(alloc, &Message::OpenMsg(open), false)
+}
+
+/// The endpoint of the session, which sends these octets first.
+fn first_end(alloc: Global, config: &SessionConfig, octets: &[u8]) -> Result<End, NoMemory>
+    requires { length octets.now ≤ 2 ^ 20 }
+    ensures { IfOk result (λ end. end ≡ record (fresh ways.Remote config.now.peering config.now.send_first config.now.receive_first) { waiting = octets.now }) }
+{
+    let mut end = End::new(
+        alloc,
+        Way::Remote,
+        config.peering,
+        config.send_first,
+        config.receive_first,
+    )?;
+    send(&mut end, octets)?;
+    Ok(end)
+}
+
+/// The parts of a session that has put its OPEN.
+pub(crate) fn first_parts(alloc: Global, config: SessionConfig) -> Result<Parts, NoMemory>
+    requires { IsPeering (peering_of config) }
+    ensures value { IfOk result (λ parts. value_of parts ≡ begun config) }
+    ensures keeps { IfOk result Keeps }
+{
+    let octets = first_octets(alloc, &config)?;
+    let end = first_end(alloc, &config, octets.as_slice())?;
+    let open = first_open(alloc, &config)?;
+    let story = Story::begin(alloc, open, config.remote_as)?;
+    Ok(Parts {
+        alloc,
+        config,
+        story,
+        heard: AdjRib::new(alloc),
+        told: AdjRib::new(alloc),
+        end,
+        opened: None,
+        left: 0,
+        next_round: 0,
+    })
+}

@@ -1,0 +1,58 @@
+//! UPDATEs that a session puts.
+
+ghost use Rattle.std.specs.Prelude.{ℕ, ◌≡◌, ◌<◌, Ok, OnOk};
+ghost use Rattle.bgp_types.specs.declared.message.SessionState.TheVariants as states;
+ghost use Rattle.bgp_story.specs.Legal.{IsOneWay, is_wide};
+ghost use Rattle.bgp_story.specs.Readings.{apply_if, update_in};
+ghost use Rattle.bgp_story.specs.States.{state_of};
+ghost use Rattle.session_value.specs.Sessions.{peering_of};
+ghost use Rattle.session_value.specs.Cases.{Changes, PutsUpdate};
+ghost use Rattle.bgp_session.specs.Steps.{offered_length};
+ghost use Rattle.bgp_session.specs.Inner.{Keeps, value_of};
+
+use crate::answers::OfferStop;
+use crate::parts::Parts;
+use adj_rib::AdjRib;
+use bgp_story::Line;
+use bgp_types::{Message, NoMemory, Update, message_len};
+use bgp_wire::write_message;
+
+/// How many bytes a session puts at most as long as it isn't closed, so that a NOTIFICATION has room behind them in a stream of
+/// 1,048,576.
+const MOST_PUT: usize = 1_044_480;
+
+/// What a message tells is told.
+fn tell(told: &mut AdjRib, message: &Message) -> Result<(), NoMemory>
+    ensures { OnOk result (told.new ≡ apply_if told.old (update_in (Ok message.now))) }
+{
+    if let Message::UpdateMsg(update) = message {
+        told.apply(update)?;
+    }
+    Ok(())
+}
+
+impl Parts {
+    /// Puts an UPDATE.
+    pub(crate) fn offer(&mut self, update: Update) -> Result<(), OfferStop>
+        requires keeps { Keeps self.old }
+        requires established { state_of self.old.story.lines ≡ states.Established }
+        requires one_way { IsOneWay update (is_wide (peering_of self.old.config) self.old.story.lines) }
+        requires changes { Changes self.old.told update }
+        ensures ok { OnOk result (PutsUpdate (value_of self.old) update (value_of self.new)) }
+        ensures full { 1044480 < offered_length (value_of self.old) update → result ≡ Err (OfferStop.StreamFull (offered_length (value_of self.old) update)) }
+        ensures only_full { (n : ℕ) → result ≡ Err (OfferStop.StreamFull n) → (n ≡ offered_length (value_of self.old) update) × (1044480 < n) × (self.new ≡ self.old) }
+        ensures same_turn { self.new.end.acked_at_turn ≡ self.old.end.acked_at_turn }
+        ensures keeps { Keeps self.new }
+    {
+        let message = Message::UpdateMsg(update);
+        let wide = self.wide();
+        let length = self.end.stream_len() as usize + message_len(&message, wide);
+        if length > MOST_PUT {
+            return Err(OfferStop::StreamFull { length });
+        }
+        let octets = write_message(self.alloc, &message, wide)?;
+        tell(&mut self.told, &message)?;
+        self.write_down(octets.as_slice(), Line::Put(message), None)?;
+        Ok(())
+    }
+}

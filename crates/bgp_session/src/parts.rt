@@ -1,0 +1,152 @@
+//! What a session is made of, and how its story and its endpoint change together.
+
+ghost use Rattle.std.specs.Prelude.{◌≡◌, ◌≤◌, ◌+◌, ◌^◌, ◌++◌, ◌∷◌, false, length, OnOk, OnErr, IfOk, IfSome};
+ghost use Rattle.std.specs.List.{flat_map};
+ghost use Rattle.std.specs.Option.{option_map};
+ghost use Rattle.bgp_types.specs.Writable.{IsWritable};
+ghost use Rattle.tcp_end.specs.State.{stream_length};
+ghost use Rattle.bgp_story.specs.Legal.{expected_next, got_open, hold as hold_lem, is_wide};
+ghost use Rattle.bgp_story.specs.Readings.{put_in};
+ghost use Rattle.bgp_story.specs.States.{Begins, answered, state_of};
+ghost use Rattle.session_value.specs.Sessions.{peering_of};
+
+use adj_rib::AdjRib;
+use bgp_story::{Line, Story};
+use bgp_types::{Expected, Message, NoMemory, Octets};
+use bgp_wire::write_message;
+use session_value::SessionConfig;
+use std::alloc::Global;
+use tcp_end::{End, SendStop};
+
+/// What the two OPENs settled, once the remote's was taken.
+#[derive(Clone, Copy, Debug)]
+pub(crate) struct Opened {
+    /// The BGP Identifier of the remote.
+    pub identifier: u32,
+    /// The hold time in seconds, the smaller of the two. 0 is none.
+    pub hold: u16,
+    /// Whether AS numbers have four octets.
+    pub wide: bool,
+}
+
+/// What a session is made of. What was acknowledged and what was read stand in the story alone.
+#[derive(Drop)]
+pub(crate) struct Parts {
+    pub alloc: Global,
+    pub config: SessionConfig,
+    pub story: Story,
+    pub heard: AdjRib,
+    pub told: AdjRib,
+    pub end: End,
+    pub opened: Option<Opened>,
+    /// How many rounds are left until the hold time is over.
+    pub left: u32,
+    /// The least number that the next round may have: above those of all that passed.
+    pub next_round: u64,
+}
+
+/// Sends octets for which the stream has room. If memory runs out, nothing changes.
+pub(crate) fn send(end: &mut End, octets: &[u8]) -> Result<(), NoMemory>
+    requires { stream_length end.old + length octets.now ≤ 2 ^ 20 }
+    ensures ok { OnOk result (end.new ≡ record end.old { waiting = end.old.waiting ++ octets.now }) }
+    ensures err { OnErr result (end.new ≡ end.old) }
+{
+    match end.send(octets) {
+        Ok(()) => Ok(()),
+        Err(SendStop::NoMemory) => Err(NoMemory),
+        Err(SendStop::Full { .. }) => unreachable!(),
+    }
+}
+
+/// The octets of an answer, which are the same in each width of AS numbers.
+pub(crate) fn written(alloc: Global, answer: &Option<Message>) -> Result<Octets, NoMemory>
+    requires { IfSome answer.now (λ message. IsWritable message false) }
+    ensures { IfOk result (λ octets. octets ≡ flat_map (put_in false) (answered answer.now)) }
+{
+    match answer {
+        Some(message) => write_message(alloc, message, false),
+        None => Ok(Octets::new(alloc)),
+    }
+}
+
+impl Parts {
+    ghost use Rattle.bgp_session.specs.Inner.{Keeps, hold_of};
+    ghost use Rattle.bgp_session.specs.Steps.{identifier_of};
+
+    /// Sends octets, and adds to the story the line, and the message in answer to it, that put them. If memory runs out,
+    /// nothing changes.
+    pub(crate) fn write_down(
+        &mut self,
+        octets: &[u8],
+        line: Line,
+        answer: Option<Message>,
+    ) -> Result<(), NoMemory>
+        requires begins { Begins self.old.story.remote_as (self.old.story.lines ++ line ∷ answered answer) }
+        requires room { stream_length self.old.end + length octets.now ≤ 2 ^ 20 }
+        requires emitted { self.old.end.sent ≤ stream_length self.old.end }
+        ensures ok { OnOk result (self.new ≡ record self.old { story = record self.old.story { lines = self.old.story.lines ++ line ∷ answered answer }; end = record self.old.end { waiting = self.old.end.waiting ++ octets.now } }) }
+        ensures err { OnErr result (self.new ≡ self.old) }
+    {
+        send(&mut self.end, octets)?;
+        match self.story.add(line, answer) {
+            Ok(()) => Ok(()),
+            Err(error) => {
+                self.end.take_back(octets.len());
+                Err(error)
+            }
+        }
+    }
+
+    /// Whether AS numbers have four octets.
+    pub(crate) fn wide(&self) -> bool
+        requires { Keeps self.now }
+        ensures { result ≡ is_wide (peering_of self.now.config) self.now.story.lines }
+    {
+        match self.opened {
+            Some(opened) => opened.wide,
+            None => false,
+        }
+    }
+
+    /// The hold time that the OPENs settled, 0 before.
+    pub(crate) fn hold_so_far(&self) -> u32
+        ensures { result ≡ hold_of self.now.opened }
+    {
+        match self.opened {
+            Some(opened) => u32::from(opened.hold),
+            None => 0,
+        }
+    }
+
+    /// The hold time.
+    pub(crate) fn hold(&self) -> u32
+        requires { Keeps self.now }
+        ensures { result ≡ hold_lem (peering_of self.now.config) self.now.story.lines }
+    {
+        self.hold_so_far()
+    }
+
+    /// The BGP Identifier of the remote.
+    pub(crate) fn remote_identifier(&self) -> Option<u32>
+        requires { Keeps self.now }
+        ensures { result ≡ option_map identifier_of (got_open (peering_of self.now.config) self.now.story.lines) }
+    {
+        match self.opened {
+            Some(opened) => Some(opened.identifier),
+            None => None,
+        }
+    }
+
+    /// What is expected next.
+    pub(crate) fn expected(&self) -> Expected
+        requires { Keeps self.now }
+        ensures { result ≡ expected_next (peering_of self.now.config) self.now.story.lines (state_of self.now.story.lines) }
+    {
+        Expected {
+            state: self.story.state(),
+            remote_as: self.config.remote_as,
+            offered: self.config.offered,
+            wide: self.wide(),
+        }
+    }
+}

@@ -1,0 +1,236 @@
+//! What a session reads, and how it answers (RFC 4271, sections 6 and 8.2.2).
+
+ghost use Rattle.std.specs.Prelude.{◌≡◌, ◌≢◌, ◌≤◌, ◌++◌, ◌∷◌, [], true, false, length, take, drop, Ok, Err, Some, is_some, IfOk, OnOk, OnErr, MatchBool};
+ghost use Rattle.std.specs.FinMap as map;
+ghost use Rattle.std.specs.List.{flat_map};
+ghost use Rattle.bgp_types.specs.declared.message.Message.TheVariants as messages;
+ghost use Rattle.bgp_types.specs.declared.message.SessionState.TheVariants as states;
+ghost use Rattle.bgp_types.specs.Header.{header_fault, frame_at};
+ghost use Rattle.bgp_types.specs.OpenBody.{as_said};
+ghost use Rattle.tcp_seq.specs.Numbers.{plus};
+ghost use Rattle.bgp_story.specs.declared.line.Line.TheVariants as lines;
+ghost use Rattle.bgp_story.specs.Legal.{reply_to};
+ghost use Rattle.bgp_story.specs.Readings.{put_in};
+ghost use Rattle.bgp_story.specs.States.{answered, state_of};
+ghost use Rattle.session_value.specs.Sessions.{peering_of};
+ghost use Rattle.bgp_session.specs.Fronts.{CanRead, CantRead};
+ghost use Rattle.bgp_session.specs.Steps.{Reads, ReadsFrame};
+ghost use Rattle.bgp_session.specs.Inner.{AtFront, Keeps, running, value_of, reading, opened_by, hold_of};
+
+use crate::answers::ReadStep;
+use crate::parts::{Opened, Parts, written};
+use crate::routes::prefixes_of;
+use bgp_frame::first_frame;
+use bgp_story::Line;
+use bgp_types::{
+    Cap, HEADER, HeaderFault, Items, Message, NoMemory, Notice, Octets, OpenMsg, PrefixList,
+    SessionState, Update,
+};
+use bgp_wire::{CodecFault, header_notice, read_message};
+
+/// The code of the capability of four-octet AS numbers, and its length (RFC 6793, section 3).
+const FOUR_OCTET_AS: u8 = 65;
+
+const FOUR_OCTETS: usize = 4;
+
+/// Whether the capabilities of an OPEN offer AS numbers of four octets.
+fn offers(caps: &[Cap]) -> bool
+    ensures { result ≡ is_some (as_said caps.now) }
+{
+    for cap in caps {
+        if cap.code == FOUR_OCTET_AS && cap.bytes.len() == FOUR_OCTETS {
+            return true;
+        }
+    }
+    false
+}
+
+impl Parts {
+    /// The first bytes that are ready.
+    fn first_ready(&self, len: usize) -> Result<Octets, NoMemory>
+        requires { len ≤ length self.now.end.ready }
+        ensures { IfOk result (λ bytes. bytes ≡ take len self.now.end.ready) }
+    {
+        Octets::from_slice(self.alloc, &self.end.ready()[..len])
+    }
+
+    /// Writes down what is got with its answer. If memory runs out, nothing changes.
+    fn take_down(&mut self, bytes: Octets, answer: Option<Message>) -> Result<(), NoMemory>
+        requires front { AtFront self.old bytes }
+        requires reply { (reply_to (reading self.old bytes)).0 ≡ answered answer }
+        ensures ok { OnOk result (self.new ≡ record self.old { story = record self.old.story { lines = self.old.story.lines ++ lines.Got bytes ∷ answered answer }; end = record self.old.end { waiting = self.old.end.waiting ++ flat_map (put_in false) (answered answer); taken = plus self.old.end.taken (length bytes); ready = drop (length bytes) self.old.end.ready }; left = hold_of self.old.opened }) }
+        ensures err { OnErr result (self.new ≡ self.old) }
+    {
+        let octets = written(self.alloc, &answer)?;
+        let len = bytes.len();
+        self.write_down(octets.as_slice(), Line::Got(bytes), answer)?;
+        self.end.read(len);
+        self.left = self.hold_so_far();
+        Ok(())
+    }
+
+    /// What an OPEN settles.
+    fn opened_with(&self, theirs: &OpenMsg) -> Opened
+        requires { Keeps self.now }
+        ensures { result ≡ opened_by (peering_of self.now.config).first theirs.now }
+    {
+        Opened {
+            identifier: theirs.identifier,
+            hold: self.config.home_hold.min(theirs.hold),
+            wide: self.config.offered && offers(&theirs.caps),
+        }
+    }
+
+    /// An OPEN is answered by a KEEPALIVE.
+    fn confirm(&mut self, bytes: Octets, theirs: &OpenMsg) -> Result<ReadStep, NoMemory>
+        requires front { AtFront self.old bytes }
+        requires reading { reading self.old bytes ≡ Ok (messages.OpenMsg theirs.now) }
+        ensures step { IfOk result (λ step. ReadsFrame step (running self.old) (running self.new)) }
+        ensures keeps { Keeps self.new }
+    {
+        let opened = self.opened_with(theirs);
+        self.take_down(bytes, Some(Message::KeepaliveMsg))?;
+        self.opened = Some(opened);
+        self.left = u32::from(opened.hold);
+        Ok(ReadStep::Opened)
+    }
+
+    /// A KEEPALIVE has no answer, and establishes the session where it isn't yet.
+    fn establish(&mut self, bytes: Octets) -> Result<ReadStep, NoMemory>
+        requires front { AtFront self.old bytes }
+        requires reading { reading self.old bytes ≡ Ok messages.KeepaliveMsg }
+        ensures step { IfOk result (λ step. ReadsFrame step (running self.old) (running self.new)) }
+        ensures keeps { Keeps self.new }
+    {
+        let state = self.story.state();
+        self.take_down(bytes, None)?;
+        if state == SessionState::OpenConfirm {
+            Ok(ReadStep::Established)
+        } else {
+            Ok(ReadStep::Changed(Items::new(self.alloc)))
+        }
+    }
+
+    /// An UPDATE has no answer, and changes the routes that were heard.
+    fn hear(&mut self, bytes: Octets, update: &Update) -> Result<ReadStep, NoMemory>
+        requires front { AtFront self.old bytes }
+        requires reading { reading self.old bytes ≡ Ok (messages.UpdateMsg update.now) }
+        ensures step { IfOk result (λ step. ReadsFrame step (running self.old) (running self.new)) }
+        ensures keeps { Keeps self.new }
+    {
+        self.take_down(bytes, None)?;
+        Ok(ReadStep::Changed(self.heard.apply(update)?))
+    }
+
+    /// All routes go.
+    pub(crate) fn drop_routes(&mut self)
+        ensures { self.new ≡ record self.old { heard = map.empty; told = map.empty } }
+    {
+        self.heard.clear();
+        self.told.clear();
+    }
+
+    /// A NOTIFICATION has no answer, and closes the session.
+    fn close(&mut self, bytes: Octets) -> Result<ReadStep, NoMemory>
+        requires front { AtFront self.old bytes }
+        requires reply { reply_to (reading self.old bytes) ≡ ([], states.Closed) }
+        ensures step { IfOk result (λ step. ReadsFrame step (running self.old) (running self.new)) }
+        ensures keeps { Keeps self.new }
+    {
+        let heard = prefixes_of(self.alloc, &self.heard)?;
+        self.take_down(bytes, None)?;
+        self.drop_routes();
+        Ok(ReadStep::Closed(heard))
+    }
+
+    /// What is faulty is answered by a NOTIFICATION, which closes the session.
+    fn refuse(&mut self, bytes: Octets, notice: Notice) -> Result<ReadStep, NoMemory>
+        requires front { AtFront self.old bytes }
+        requires fault { reading self.old bytes ≡ Err notice }
+        ensures step { IfOk result (λ step. ReadsFrame step (running self.old) (running self.new)) }
+        ensures keeps { Keeps self.new }
+    {
+        let heard = prefixes_of(self.alloc, &self.heard)?;
+        self.take_down(bytes, Some(Message::NoticeMsg(notice)))?;
+        self.drop_routes();
+        Ok(ReadStep::Closed(heard))
+    }
+
+    /// Acts on a message that is read.
+    fn take(&mut self, bytes: Octets, message: Message) -> Result<ReadStep, NoMemory>
+        requires front { AtFront self.old bytes }
+        requires reading { reading self.old bytes ≡ Ok message }
+        ensures step { IfOk result (λ step. ReadsFrame step (running self.old) (running self.new)) }
+        ensures keeps { Keeps self.new }
+    {
+        match message {
+            Message::OpenMsg(theirs) => self.confirm(bytes, &theirs),
+            Message::KeepaliveMsg => self.establish(bytes),
+            Message::UpdateMsg(update) => self.hear(bytes, &update),
+            Message::NoticeMsg(_) => self.close(bytes),
+        }
+    }
+
+    /// Reads a whole frame, and acts on it.
+    fn read_frame(&mut self, len: usize) -> Result<ReadStep, NoMemory>
+        requires keeps { Keeps self.old }
+        requires unclosed { state_of self.old.story.lines ≢ states.Closed }
+        requires within { len ≤ length self.old.end.ready }
+        requires whole { frame_at (take len self.old.end.ready) ≡ Some (take len self.old.end.ready, []) }
+        ensures step { IfOk result (λ step. ReadsFrame step (running self.old) (running self.new)) }
+        ensures keeps { Keeps self.new }
+    {
+        let bytes = self.first_ready(len)?;
+        let expected = self.expected();
+        match read_message(self.alloc, bytes.as_slice(), &expected) {
+            Ok(message) => self.take(bytes, message),
+            Err(CodecFault::Wire(notice)) => self.refuse(bytes, notice),
+            Err(CodecFault::NoMemory) => Err(NoMemory),
+        }
+    }
+
+    /// Refuses the faulty header at the front.
+    fn refuse_header(&mut self, fault: HeaderFault) -> Result<ReadStep, NoMemory>
+        requires keeps { Keeps self.old }
+        requires unclosed { state_of self.old.story.lines ≢ states.Closed }
+        requires long { 19 ≤ length self.old.end.ready }
+        requires fault { header_fault self.old.end.ready ≡ Some fault }
+        ensures step { IfOk result (λ step. ReadsFrame step (running self.old) (running self.new)) }
+        ensures keeps { Keeps self.new }
+    {
+        let notice = header_notice(self.alloc, fault)?;
+        let bytes = self.first_ready(HEADER)?;
+        self.refuse(bytes, notice)
+    }
+
+    /// Reads the message at the front of what is ready, or its faulty header, and answers it.
+    pub(crate) fn read(&mut self) -> Result<Option<ReadStep>, NoMemory>
+        requires { Keeps self.old }
+        ensures step { IfOk result (λ step. Reads step (running self.old) (running self.new)) }
+        ensures keeps { Keeps self.new }
+    {
+        if self.story.state() == SessionState::Closed {
+            return Ok(None);
+        }
+        match first_frame(self.end.ready()) {
+            Ok(None) => Ok(None),
+            Ok(Some(front)) => Ok(Some(self.read_frame(front.len)?)),
+            Err(fault) => Ok(Some(self.refuse_header(fault)?)),
+        }
+    }
+
+    /// Whether there is something to read.
+    pub(crate) fn frame_waits(&self) -> bool
+        requires { Keeps self.now }
+        ensures { MatchBool result (CanRead (value_of self.now)) (CantRead (value_of self.now)) }
+    {
+        if self.story.state() == SessionState::Closed {
+            return false;
+        }
+        match first_frame(self.end.ready()) {
+            Ok(None) => false,
+            Ok(Some(_front)) => true,
+            Err(_fault) => true,
+        }
+    }
+}

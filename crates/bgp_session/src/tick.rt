@@ -1,0 +1,132 @@
+//! Rounds that pass while a hold time runs (RFC 4271, sections 4.4, 6.5 and 10).
+
+ghost use Rattle.std.specs.Prelude.{◌≡◌, ◌+◌, ◌-◌, ◌++◌, ◌∷◌, [], false, IfOk, OnOk, OnErr, MatchBool};
+ghost use Rattle.std.specs.List.{flat_map};
+ghost use Rattle.bgp_types.specs.declared.message.Message.TheVariants as messages;
+ghost use Rattle.bgp_types.specs.declared.message.SessionState.TheVariants as states;
+ghost use Rattle.bgp_story.specs.declared.line.Line.TheVariants as lines;
+ghost use Rattle.bgp_story.specs.Legal.{hold_expired, is_up as is_up_lem};
+ghost use Rattle.bgp_story.specs.Readings.{put_in};
+ghost use Rattle.bgp_story.specs.States.{answered, state_of};
+ghost use Rattle.bgp_session.specs.Steps.{MayPass, Ticks};
+ghost use Rattle.bgp_session.specs.Inner.{AtRound, Keeps, round_reply, running, value_of};
+
+use crate::answers::TickStep;
+use crate::parts::{Parts, written};
+use crate::routes::prefixes_of;
+use bgp_story::Line;
+use bgp_types::{Message, NoMemory, Notice, Octets, SessionState};
+use std::alloc::Global;
+
+/// The code of Hold Timer Expired.
+const HOLD_EXPIRED: u8 = 4;
+
+/// How many bytes a session put at most when a round passes: a KEEPALIVE has 19, and what is put stays at 1,044,480 at most.
+const MOST_PUT: u32 = 1_044_461;
+
+/// Whether a hold time may run in a state.
+fn is_up(state: SessionState) -> bool
+    ensures { result ≡ is_up_lem state }
+{
+    match state {
+        SessionState::OpenConfirm | SessionState::Established => true,
+        SessionState::OpenSent | SessionState::Closed => false,
+    }
+}
+
+/// Hold Timer Expired.
+fn hold_over(alloc: Global) -> Notice
+    ensures { result ≡ hold_expired }
+{
+    Notice {
+        code: HOLD_EXPIRED,
+        subcode: 0,
+        info: Octets::new(alloc),
+    }
+}
+
+impl Parts {
+    /// Writes a round down with its answer. If memory runs out, nothing changes.
+    fn pass_down(&mut self, round: u32, answer: Option<Message>) -> Result<(), NoMemory>
+        requires at { AtRound self.old round }
+        requires reply { (round_reply self.old round).0 ≡ answered answer }
+        ensures ok { OnOk result (self.new ≡ record self.old { story = record self.old.story { lines = self.old.story.lines ++ lines.Tick round ∷ answered answer }; end = record self.old.end { waiting = self.old.end.waiting ++ flat_map (put_in false) (answered answer) }; left = self.old.left - 1; next_round = round + 1 }) }
+        ensures err { OnErr result (self.new ≡ self.old) }
+    {
+        let octets = written(self.alloc, &answer)?;
+        self.write_down(octets.as_slice(), Line::Tick(round), answer)?;
+        self.left = self.left.saturating_sub(1);
+        self.next_round = u64::from(round) + 1;
+        Ok(())
+    }
+
+    /// The hold time is over: a NOTIFICATION is put, and the session closes.
+    fn expire(&mut self, round: u32) -> Result<TickStep, NoMemory>
+        requires at { AtRound self.old round }
+        requires reply { round_reply self.old round ≡ (lines.Put (messages.NoticeMsg hold_expired) ∷ [], states.Closed) }
+        ensures step { IfOk result (λ step. Ticks step (running self.old) round (running self.new)) }
+        ensures keeps { Keeps self.new }
+    {
+        let heard = prefixes_of(self.alloc, &self.heard)?;
+        let notice = hold_over(self.alloc);
+        self.pass_down(round, Some(Message::NoticeMsg(notice)))?;
+        self.drop_routes();
+        Ok(TickStep::Expired(heard))
+    }
+
+    /// A KEEPALIVE is put.
+    fn beat(&mut self, round: u32) -> Result<TickStep, NoMemory>
+        requires at { AtRound self.old round }
+        requires reply { round_reply self.old round ≡ (lines.Put messages.KeepaliveMsg ∷ [], state_of self.old.story.lines) }
+        ensures step { IfOk result (λ step. Ticks step (running self.old) round (running self.new)) }
+        ensures keeps { Keeps self.new }
+    {
+        self.pass_down(round, Some(Message::KeepaliveMsg))?;
+        Ok(TickStep::Beat)
+    }
+
+    /// Nothing is put.
+    fn pass(&mut self, round: u32) -> Result<TickStep, NoMemory>
+        requires at { AtRound self.old round }
+        requires reply { round_reply self.old round ≡ ([], state_of self.old.story.lines) }
+        ensures step { IfOk result (λ step. Ticks step (running self.old) round (running self.new)) }
+        ensures keeps { Keeps self.new }
+    {
+        self.pass_down(round, None)?;
+        Ok(TickStep::Plain)
+    }
+
+    /// Whether a round of this number may pass.
+    pub(crate) fn may_pass(&self, round: u32) -> bool
+        requires { Keeps self.now }
+        ensures { MatchBool result (MayPass (value_of self.now) round) (¬ MayPass (value_of self.now) round) }
+    {
+        if !is_up(self.story.state()) {
+            return false;
+        }
+        if self.hold_so_far() == 0 {
+            return false;
+        }
+        if u64::from(round) < self.next_round {
+            return false;
+        }
+        self.end.stream_len() <= MOST_PUT
+    }
+
+    /// A round passes.
+    pub(crate) fn tick(&mut self, round: u32) -> Result<TickStep, NoMemory>
+        requires { AtRound self.old round }
+        ensures step { IfOk result (λ step. Ticks step (running self.old) round (running self.new)) }
+        ensures keeps { Keeps self.new }
+    {
+        if self.left == 1 {
+            return self.expire(round);
+        }
+        let beat = self.hold_so_far() / 3;
+        if round % beat == 0 {
+            self.beat(round)
+        } else {
+            self.pass(round)
+        }
+    }
+}

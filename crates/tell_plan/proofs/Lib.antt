@@ -1,0 +1,13 @@
+pub mod CodeLaws
+pub mod Sizes
+pub mod Places
+pub mod Lasts
+pub mod Adding
+pub mod Listed
+pub mod Plans
+pub mod Fits
+pub mod Sound
+pub mod Walks
+pub mod Told
+pub mod PlanLaws
+pub mod Others

@@ -1,0 +1,71 @@
+-- How prefixes are gathered into UPDATEs, one by one.
+use Rattle.std.specs.Prelude.{◌≡◌, ◌≢◌, ◌≤◌, ◌<◌, ◌⊎◌, List, [], ◌∷◌, ◌++◌, length, Option, Some, None, Bool, All}
+use Rattle.std.specs.BTreeMap.{get}
+use Rattle.std.specs.Cmp.Lexicographic.{slice_cmp}
+use Rattle.std.specs.Ordering.{nat_cmp}
+use Rattle.bgp_types.specs.declared.attrs.Attrs.{Attrs}
+use Rattle.bgp_types.specs.Prefixes.{PrefixValue, IsPrefix}
+use Rattle.tell_plan.specs.declared.batch.Batch.{Batch}
+use Rattle.tell_plan.specs.declared.gather.Gathered.{Gathered}
+use Rattle.tell_plan.specs.declared.gather.Place.{Place}
+use Rattle.tell_plan.specs.Codes.{value_code}
+use Rattle.tell_plan.specs.Plans.{octets}
+
+-- no UPDATE tells this
+abbrev pub NoneTells : Option Attrs → List Batch → Type 0
+NoneTells attrs batches = All (λ batch. batch.attrs ≢ attrs) batches
+
+-- the last UPDATE that tells this
+pub record LastThatTells (attrs : Option Attrs) (batches before : List Batch) (batch : Batch) (after : List Batch) : Type 0 where
+  pub is : batches ≡ before ++ batch ∷ after
+  pub told : batch.attrs ≡ attrs
+  pub last : NoneTells attrs after
+
+-- a batch with one prefix more
+abbrev pub with_prefix : Batch → PrefixValue → Batch
+with_prefix batch prefix = record batch { prefixes = batch.prefixes ++ prefix ∷ [] }
+
+-- A prefix joins the last UPDATE that tells what is to be told of it, where 4,096 octets hold it.
+pub record Joins (wide : Bool) (attrs : Option Attrs) (prefix : PrefixValue) (old new : List Batch) : Type 0 where
+  pub before : List Batch
+  pub batch : Batch
+  pub after : List Batch
+  pub there : LastThatTells attrs old before batch after
+  pub fits : octets wide attrs (batch.prefixes ++ prefix ∷ []) ≤ 4096
+  pub effect : new ≡ before ++ with_prefix batch prefix ∷ after
+
+-- Where there is none, or where it is full, the prefix begins another behind all others.
+pub record Begins (wide : Bool) (attrs : Option Attrs) (prefix : PrefixValue) (old new : List Batch) : Type 0 where
+  pub full : (before : List Batch) (batch : Batch) (after : List Batch) → LastThatTells attrs old before batch after → 4096 < octets wide attrs (batch.prefixes ++ prefix ∷ [])
+  pub effect : new ≡ old ++ record { attrs = attrs; prefixes = prefix ∷ [] } ∷ []
+
+abbrev pub Adds : Bool → Option Attrs → PrefixValue → List Batch → List Batch → Type 0
+Adds wide attrs prefix old new = Joins wide attrs prefix old new ⊎ Begins wide attrs prefix old new
+
+-- Where a prefix was told as it is to be told, nothing changes. Else it is added.
+abbrev pub Gathers : Bool → Option Attrs → (PrefixValue → Option Attrs) → PrefixValue → List Batch → List Batch → Type 0
+Gathers wide told to_tell prefix old new = ((told ≡ to_tell prefix) × (new ≡ old)) ⊎ ((told ≢ to_tell prefix) × Adds wide (to_tell prefix) prefix old new)
+
+-- ---- how the UPDATEs that may be joined are found
+
+-- where the last UPDATE that tells this stands, and how many octets it has
+pub record IsPlace (wide : Bool) (attrs : Option Attrs) (batches : List Batch) (place : Place) : Type 0 where
+  pub before : List Batch
+  pub batch : Batch
+  pub after : List Batch
+  pub there : LastThatTells attrs batches before batch after
+  pub number : place.number ≡ length before
+  pub counted : place.octets ≡ octets wide attrs batch.prefixes
+  pub fits : place.octets ≤ 4096
+
+abbrev pub PlaceFor : Bool → Option Attrs → List Batch → Option Place → Type 0
+PlaceFor wide attrs batches None = NoneTells attrs batches
+PlaceFor wide attrs batches (Some place) = IsPlace wide attrs batches place
+
+-- For each value that can be told, the last UPDATE that tells it is found by its code.
+pub record Keeps (gathered : Gathered) : Type 0 where
+  pub found : (attrs : Option Attrs) → PlaceFor gathered.wide attrs gathered.batches.items (get (slice_cmp nat_cmp) gathered.places (value_code attrs))
+
+-- All prefixes of UPDATEs are prefixes.
+abbrev pub AreSound : List Batch → Type 0
+AreSound batches = All (λ batch. All IsPrefix batch.prefixes) batches

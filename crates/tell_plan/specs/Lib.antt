@@ -1,0 +1,4 @@
+pub mod Plans
+pub mod ToTell
+pub mod Codes
+pub mod Gathering

@@ -1,0 +1,21 @@
+-- What a router is to tell on a session (RFC 4271, section 9.2).
+use Rattle.std.specs.Prelude.{◌≡◌, ◌≢◌, Option, true, false}
+use Rattle.std.specs.FinMap as map
+use Rattle.bgp_types.specs.declared.attrs.Attrs.{Attrs}
+use Rattle.bgp_types.specs.Prefixes.{PrefixValue}
+use Rattle.bgp_story.specs.Readings.{Routes}
+use Rattle.route_policy.specs.Telling.{OutSide, tell_out}
+use Rattle.session_value.specs.Sets.{Prefixes, has}
+use Rattle.rib_stages.specs.Values.{RibValue}
+
+-- due, and not to be decided again
+abbrev pub Waits : Prefixes → Prefixes → PrefixValue → Type 0
+Waits due dirty prefix = (has due prefix ≡ true) × (has dirty prefix ≡ false)
+
+-- and told otherwise than it is to be told now
+abbrev pub IsToTell : Prefixes → Prefixes → Routes → (PrefixValue → Option Attrs) → PrefixValue → Type 0
+IsToTell due dirty told to_tell prefix = Waits due dirty prefix × (map.get told prefix ≢ to_tell prefix)
+
+-- what a router tells of a prefix on a session
+abbrev pub to_tell : RibValue → OutSide → PrefixValue → Option Attrs
+to_tell rib out prefix = tell_out rib.config.home_as out prefix (map.get rib.best prefix)

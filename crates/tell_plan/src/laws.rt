@@ -1,0 +1,33 @@
+//! What holds of a plan as it is carried out.
+
+ghost use Rattle.std.specs.Prelude.{◌≡◌, ◌∷◌, List, Option, Bool, not, ◌&&◌, All};
+ghost use Rattle.std.specs.List.{list_any};
+ghost use Rattle.bgp_types.specs.declared.attrs.Attrs.{Attrs};
+ghost use Rattle.bgp_types.specs.Prefixes.{PrefixValue, IsPrefix, same_prefix};
+ghost use Rattle.bgp_story.specs.Legal.{IsOneWay};
+ghost use Rattle.bgp_story.specs.Readings.{Routes, apply};
+ghost use Rattle.session_value.specs.Cases.{Changes, update_for};
+ghost use Rattle.session_value.specs.Sets.{Prefixes, has};
+ghost use Rattle.tell_plan.specs.declared.batch.Batch.{Batch};
+ghost use Rattle.tell_plan.specs.Plans.{IsNext, IsPlan, IsWritableFor};
+ghost use Rattle.tell_plan.specs.ToTell.{IsToTell};
+
+/// The next UPDATE changes what was told for each of its prefixes.
+pub fn next_update_changes()
+    ensures { (due dirty : Prefixes) (told : Routes) (to_tell : PrefixValue → Option Attrs) (wide : Bool) (batch : Batch)
+        → IsNext (IsToTell due dirty told to_tell) to_tell wide batch → Changes told (update_for batch.attrs batch.prefixes) }
+{}
+
+/// It either withdraws or announces, and where its attributes can be written, it can be.
+pub fn next_update_is_one_way()
+    ensures { (due dirty : Prefixes) (told : Routes) (to_tell : PrefixValue → Option Attrs) (wide : Bool) (batch : Batch)
+        → IsNext (IsToTell due dirty told to_tell) to_tell wide batch → All IsPrefix batch.prefixes → IsWritableFor batch → IsOneWay (update_for batch.attrs batch.prefixes) wide }
+{}
+
+/// Once it was told, and its prefixes are due no more, the rest of the plan is the plan of what stands then.
+pub fn rest_is_planned()
+    ensures { (due then_due dirty : Prefixes) (told : Routes) (to_tell : PrefixValue → Option Attrs) (wide : Bool) (batch : Batch) (batches : List Batch)
+        → IsPlan (IsToTell due dirty told to_tell) to_tell wide (batch ∷ batches)
+        → ((x : PrefixValue) → has then_due x ≡ (has due x && not (list_any (same_prefix x) batch.prefixes)))
+        → IsPlan (IsToTell then_due dirty (apply told (update_for batch.attrs batch.prefixes)) to_tell) to_tell wide batches }
+{}

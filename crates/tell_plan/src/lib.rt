@@ -1,0 +1,16 @@
+//! What a router says in a turn of what is due to a receiver: on a session, one UPDATE carries as many prefixes that are to be told the
+//! same as 4,096 octets hold (RFC 4271, sections 4.1, 4.3 and 9.2).
+#![tactic(auto)]
+
+mod batch;
+mod code;
+mod gather;
+mod laws;
+mod updates;
+mod walk;
+mod writable;
+
+pub use batch::Batch;
+pub use laws::{next_update_changes, next_update_is_one_way, rest_is_planned};
+pub use updates::plan;
+pub use walk::next_waiting;

@@ -1,0 +1,75 @@
+//! The UPDATEs of a turn.
+
+ghost use Rattle.std.specs.Prelude.{◌≡◌, ◌≢◌, IfOk, OnOk, MatchBool, option_copied};
+ghost use Rattle.std.specs.FinMap as map;
+ghost use Rattle.route_policy.specs.Telling.{out_side};
+ghost use Rattle.tell_plan.specs.Plans.{IsPlan};
+ghost use Rattle.tell_plan.specs.ToTell.{IsToTell, to_tell};
+ghost use Rattle.rib_stages.specs.Values.{rib_of};
+ghost use Rattle.tell_plan.specs.Gathering.{AreSound, Gathers, Keeps};
+
+use crate::batch::Batch;
+use crate::gather::Gathered;
+use crate::walk::next_waiting;
+use adj_rib::AdjRib;
+use bgp_types::{Attrs, Items, NoMemory, Prefix};
+use prefix_trie::TrieTable;
+use rib_stages::{OutView, Rib};
+use std::alloc::Global;
+
+/// Whether what was told of a prefix is this.
+#[tactic(auto, using(bgp_types::proofs::Equality::attrs_equal))]
+fn is_told(told: Option<&Attrs>, attrs: &Option<Attrs>) -> bool
+    ensures { MatchBool result (option_copied told.entry ≡ attrs.now) (option_copied told.entry ≢ attrs.now) }
+{
+    match (told, attrs) {
+        (None, None) => true,
+        (Some(told), Some(attrs)) => told == attrs,
+        _ => false,
+    }
+}
+
+/// Gathers a prefix that waits, unless what was told of it is what is to be told.
+fn gather(
+    rib: &Rib,
+    told: &AdjRib,
+    view: &OutView<'_>,
+    prefix: Prefix,
+    gathered: &mut Gathered,
+) -> Result<(), NoMemory>
+    requires { Keeps gathered.old }
+    ensures keeps { OnOk result (Keeps gathered.new) }
+    ensures wide { OnOk result (gathered.new.wide ≡ gathered.old.wide) }
+    ensures gathers { OnOk result (Gathers gathered.old.wide (map.get told.now prefix) (to_tell (rib_of rib.now) (out_side view.now)) prefix gathered.old.batches.items gathered.new.batches.items) }
+    ensures sound { OnOk result (AreSound gathered.old.batches.items → AreSound gathered.new.batches.items) }
+{
+    let attrs = rib.tell_out(prefix, view)?;
+    if is_told(told.get(prefix), &attrs) {
+        return Ok(());
+    }
+    gathered.add(prefix, attrs)
+}
+
+/// The UPDATEs by which a router tells on a session what is due, isn't to be decided again, and was told otherwise, in the session's width
+/// of AS numbers. Each tells as many prefixes as 4,096 octets hold, the first of those that are told the same as the least one that is left.
+///
+/// It makes one copy of the best route to each prefix that waits, and for each a search among the values that are told.
+pub fn plan(
+    alloc: Global,
+    rib: &Rib,
+    due: &TrieTable<()>,
+    told: &AdjRib,
+    view: &OutView<'_>,
+    wide: bool,
+) -> Result<Items<Batch>, NoMemory>
+    ensures planned { IfOk result (λ batches. IsPlan (IsToTell due.now.contents rib.now.dirty told.now (to_tell (rib_of rib.now) (out_side view.now))) (to_tell (rib_of rib.now) (out_side view.now)) wide batches) }
+    ensures sound { IfOk result AreSound }
+{
+    let mut gathered = Gathered::new(alloc, wide);
+    let mut last = None;
+    while let Some(prefix) = next_waiting(rib, due, last) {
+        gather(rib, told, view, prefix, &mut gathered)?;
+        last = Some(prefix);
+    }
+    Ok(gathered.into_batches())
+}
