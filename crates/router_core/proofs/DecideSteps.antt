@@ -4,7 +4,7 @@ use Rattle.std.specs.Prelude.{if◌then◌else◌}
 use Rattle.std.specs.FinMap as map
 use Rattle.std.specs.List.{range_with_len}
 use Rattle.std.specs.Ordering.{eq_by_cmp}
-use Rattle.std.proofs.lemmas.Bool.{cases_lt, le-ltb}
+use Rattle.std.proofs.lemmas.Bool.{cases_lt, lt-ltb, le-ltb}
 use Rattle.bgp_types.proofs.TableLaws.{tied}
 use Rattle.bgp_types.specs.Prefixes.{PrefixValue, same_prefix}
 use Rattle.bgp_types.specs.Tables.{prefix_cmp}
@@ -89,7 +89,7 @@ pub adds_first : (test : ℕ → Bool) (prefix : PrefixValue) (xs : List Prefixe
 adds_first test prefix xs = record { size = refl; below = λ k below. absurd (omega (arith, below)); from = λ k from. refl }
 
 pub adds_next : (n : ℕ) (test : ℕ → Bool) (prefix : PrefixValue) (xs ys zs : List Prefixes) (b : Bool) → AddsBelow n test prefix xs ys → b ≡ test n → length zs ≡ length ys
-    → table_at zs ≡ at (table_at ys) n (if b then map.insert (table_at ys n) prefix tt else table_at ys n) → AddsBelow (suc n) test prefix xs zs
+    → table_at zs ≡ at (table_at ys) n (if b then map.insert (table_at ys n) prefix tt else table_at ys n) → AddsBelow (n + 1) test prefix xs zs
 adds_next n test prefix xs ys zs b before is size added = record {
   size = size ∙ before.size;
   below = λ k below. elim (same_or_not n k) [
@@ -105,7 +105,7 @@ adds_next n test prefix xs ys zs b before is size added = record {
     here = subst (Adds (table_at xs n) (only prefix (test n))) (sym (ap (λ (d : ℕ → Prefixes). d n) added ∙ at_here (table_at ys) n (if b then map.insert (table_at ys n) prefix tt else table_at ys n) n refl))
         (subst (λ (s : Prefixes). Adds s (only prefix (test n)) (if b then map.insert (table_at ys n) prefix tt else table_at ys n)) (before.from n (omega arith))
         (subst (λ (c : Bool). Adds (table_at ys n) (only prefix c) (if b then map.insert (table_at ys n) prefix tt else table_at ys n)) is (add_where (table_at ys n) prefix b)))
-    lower : (k : ℕ) → k < suc n → k ≢ n → k < n
+    lower : (k : ℕ) → k < n + 1 → k ≢ n → k < n
     lower k below not = elim (cases_lt k n) [ inl under ↦ under | inr from ↦ absurd (not (omega (arith, from, below))) ]
 
 adds_all : (test : ℕ → Bool) (prefix : PrefixValue) (xs ys : List Prefixes) → AddsBelow (length xs) test prefix xs ys → ((k : ℕ) → length xs ≤ k → test k ≡ false) → (k : ℕ) → Adds (table_at xs k) (only prefix (test k)) (table_at ys k)
@@ -263,3 +263,15 @@ module _ (f g h : Fields) (p r s : Post (Item RunningSession)) (prefix : PrefixV
 
 pub decides_all : (f g : Fields) (p r : Post (Item RunningSession)) → DecidesSome f p g r → g.rib.dirty ≡ map.empty → DecidesAll f p g r
 decides_all f g p r some clean = record { events = some.events; did = some.did; no_rounds = some.no_rounds; clean = clean; same = some.same; keeps = some.keeps }
+
+-- ---- where it is due
+
+pub other_is : (f : Fields) (q : ℕ) (b : Bool) → q < routers_in f.known.setup → b ≡ not (q == f.number.0) → b ≡ is_other f q
+other_is f q b below is = is ∙ sym (ap (λ (c : Bool). c && not (q == f.number.0)) (lt-ltb q (routers_in f.known.setup) below))
+
+pub due_all : (prefix : PrefixValue) (f g h : Fields) → AddsBelow (length f.due_in) (is_other f) prefix f.due_in g.due_in → g ≡ record f { due_in = g.due_in } → AddsBelow (length g.due_out) (is_up_at g) prefix g.due_out h.due_out → h ≡ record g { due_out = h.due_out } → DueToAll prefix f h
+due_all prefix f g h first g_same second h_same = record {
+  due_in = subst (AddsBelow (length f.due_in) (is_other f) prefix f.due_in) (sym (ap (λ (x : Fields). x.due_in) h_same)) first;
+  due_out = subst (λ (x : Fields). AddsBelow (length x.due_out) (is_up_at x) prefix x.due_out h.due_out) g_same second;
+  same = h_same ∙ ap (λ (x : Fields). let y : Fields = record x { due_out = h.due_out } in y) g_same ∙ (λ i. record f { due_in = sym (ap (λ (x : Fields). x.due_in) h_same) i; due_out = h.due_out });
+}

@@ -1,4 +1,5 @@
 pub mod Dids
+pub mod DueSteps
 pub mod RoundLists
 pub mod Standing
 pub mod VisitSteps

@@ -1,5 +1,5 @@
 -- One place of a router changes.
-use Rattle.std.proofs.Common.{◌≡◌, ◌≢◌, ℕ, ◌<◌, List, [], length, Option, option_map, inl, inr, refl, sym, ap, subst, ◌∙◌, set, true}
+use Rattle.std.proofs.Common.{◌≡◌, ◌≢◌, ℕ, zero, suc, ◌<◌, List, [], ◌∷◌, length, arith, get_or, Option, option_map, inl, inr, refl, sym, ap, subst, ◌∙◌, set, true}
 use Rattle.std.proofs.lemmas.List.{length-set}
 use Rattle.ring_net.specs.declared.post.Post.{Post}
 use Rattle.graft_steps.specs.declared.item.Item.{Item}
@@ -93,3 +93,9 @@ module _ (f g : Fields) (n : ℕ) (x : Place) (there : n < length f.places.items
     same = same_rest;
     keeps = keeps_at keeps place;
   }
+
+-- what is read at a number is the place there
+pub place_read : (xs : List Place) (n : ℕ) (x : Place) → n < length xs → x ≡ get_or xs n x → place_at xs n ≡ x
+place_read [] n x below is = absurd (omega (arith, below))
+place_read (y ∷ xs) zero x below is = sym is
+place_read (y ∷ xs) (suc n) x below is = place_read xs n x (omega (arith, below)) is

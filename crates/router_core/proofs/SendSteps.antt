@@ -1,6 +1,6 @@
 -- The retransmission turn, the new slices and the answer of the session at a place.
 use Rattle.std.proofs.Common.{◌≡◌, ℕ, ◌+◌, ◌-◌, ◌<◌, ◌≤◌, List, [], ◌∷◌, length, Option, option_map, Some, None, Bool, true, false, ◌⊎◌, inl, inr, refl, sym, ap, subst, ◌∙◌, arith, set}
-use Rattle.std.specs.Prelude.{nat_lt, if◌then◌else◌, IsNone, IsSome, ◌↔◌}
+use Rattle.std.specs.Prelude.{nat_lt, if◌then◌else◌, IsNone, IfNone, IsSome, ◌↔◌, Result, Ok, Err, IfOk, OnOk}
 use Rattle.std.proofs.lemmas.Bool.{cases_lt, lt-ltb, le-ltb}
 use Rattle.ring_net.specs.declared.post.Post.{Post}
 use Rattle.tcp_seq.specs.Endpoint.{Endpoint, PlacedSegment, EmitsNext, EmitsAgain, EmitsAnswer, EmitsSlice, next_length, again_length}
@@ -143,7 +143,7 @@ module _ (f g : Fields) (p q : Post (Item RunningSession)) (n : ℕ) (x : Place)
         sending_again (refl, (u, refl, level))
         (λ t. counted_again e (again_length e) t some out ∙ ap (λ (m : ℕ). let v : Tally = record t { again = t.again + m } in v) (sym (again_is s o late some))) same
 
-    again_some : (y : Place) → place_at f.places.items n ≡ y → AtPlace SentAgain y (Some segment) x → Visits sending_again n f p g q
+    pub again_some : (y : Place) → place_at f.places.items n ≡ y → AtPlace SentAgain y (Some segment) x → Visits sending_again n f p g q
     again_some Vacant is at = absurd (some_none segment at.0)
     again_some (Live s o) is (u, x_is, sent) = again_live s u o is x_is sent
     again_some (Shadow away) is at = absurd (some_none segment at.0)
@@ -162,7 +162,7 @@ module _ (f g : Fields) (p q : Post (Item RunningSession)) (n : ℕ) (x : Place)
         (wrote_by f n outlet outlet_is p q segment s.session e.emitted (next_length e) (keeps_here f n keeps (Live s o) is).0 gives.at.place gives.at.size wrote)
         slicing (refl, (u, refl, out)) (λ t. counted_next e (next_length e) t some) same
 
-    next_some : (y : Place) → place_at f.places.items n ≡ y → AtPlace SentNext y (Some segment) x → Visits slicing n f p g q
+    pub next_some : (y : Place) → place_at f.places.items n ≡ y → AtPlace SentNext y (Some segment) x → Visits slicing n f p g q
     next_some Vacant is at = absurd (some_none segment at.0)
     next_some (Live s o) is (u, x_is, sent) = next_live s u o is x_is sent
     next_some (Shadow away) is at = absurd (some_none segment at.0)
@@ -179,24 +179,24 @@ module _ (f g : Fields) (p q : Post (Item RunningSession)) (n : ℕ) (x : Place)
         (wrote_by f n outlet outlet_is p q segment s.session e.emitted 0 (keeps_here f n keeps (Live s o) is).0 at.place at.size wrote)
         answering (refl, (u, refl, given)) (λ t. ap (λ (m : ℕ). let v : Tally = record t { answers = t.answers + m } in v) (sym one)) same
 
-    answer_some : (y : Place) → place_at f.places.items n ≡ y → AtPlace SentAnswer y (Some segment) x → Visits answering n f p g q
+    pub answer_some : (y : Place) → place_at f.places.items n ≡ y → AtPlace SentAnswer y (Some segment) x → Visits answering n f p g q
     answer_some Vacant is at = absurd (some_none segment at.0)
     answer_some (Live s o) is (u, x_is, sent) = answer_live s u o is x_is sent
     answer_some (Shadow away) is at = absurd (some_none segment at.0)
 
   -- ---- nothing is sent
 
-  again_none : (y : Place) → place_at f.places.items n ≡ y → AtPlace SentAgain y None x → Visits sending_again n f p g p
+  pub again_none : (y : Place) → place_at f.places.items n ≡ y → AtPlace SentAgain y None x → Visits sending_again n f p g p
   again_none Vacant is at = visits_idle sending_again same Vacant is at.1 (refl, refl) (λ t. plus_again t 0 refl)
   again_none (Live s o) is (u, x_is, sent) = visits_alike sending_again same s u o is x_is sent.step (refl, (u, refl, running_is u s.session s.session.end.acked sent.step sent.turned)) (λ t. plus_again t (again_at (Live s o)) (none_is s o (sent.none.0 refl)))
   again_none (Shadow away) is at = visits_idle sending_again same (Shadow away) is at.1 (refl, refl) (λ t. plus_again t 0 refl)
 
-  next_none : (y : Place) → place_at f.places.items n ≡ y → AtPlace SentNext y None x → Visits slicing n f p g p
+  pub next_none : (y : Place) → place_at f.places.items n ≡ y → AtPlace SentNext y None x → Visits slicing n f p g p
   next_none Vacant is at = visits_idle slicing same Vacant is at.1 (refl, refl) (λ t. refl)
   next_none (Live s o) is (u, x_is, sent) = visits_alike slicing same s u o is x_is sent.step (refl, (u, refl, subst (SlicesOut s) (sym (running_is u s.session s.acked_at_turn sent.step sent.same_turn)) refl)) (λ t. refl)
   next_none (Shadow away) is at = visits_idle slicing same (Shadow away) is at.1 (refl, refl) (λ t. refl)
 
-  answer_none : (y : Place) → place_at f.places.items n ≡ y → AtPlace SentAnswer y None x → Visits answering n f p g p
+  pub answer_none : (y : Place) → place_at f.places.items n ≡ y → AtPlace SentAnswer y None x → Visits answering n f p g p
   answer_none Vacant is at = visits_idle answering same Vacant is at.1 (refl, refl) (λ t. plus_answers t 0 refl)
   answer_none (Live s o) is (u, x_is, sent) =
       let not : s.session.end.owed ≡ false = by_owed s.session.end.owed refl in
@@ -210,7 +210,49 @@ module _ (f g : Fields) (p q : Post (Item RunningSession)) (n : ℕ) (x : Place)
   answer_none (Shadow away) is at = visits_idle answering same (Shadow away) is at.1 (refl, refl) (λ t. plus_answers t 0 refl)
 
   -- what was emitted where no new slice is left
-  next_all : (y : Place) → place_at f.places.items n ≡ y → AtPlace SentNext y None x → AllNewOut x
+  pub next_all : (y : Place) → place_at f.places.items n ≡ y → AtPlace SentNext y None x → AllNewOut x
   next_all Vacant is at = subst AllNewOut (sym at.1) tt
   next_all (Live s o) is (u, x_is, sent) = subst AllNewOut (sym x_is) (subst (λ (v : SessionValue). v.end.emitted ≡ reach_of v.end) (sym sent.step) sent.all)
   next_all (Shadow away) is at = subst AllNewOut (sym at.1) tt
+
+-- ---- what a session's call answers
+
+sent_again_ok : {E : Type 0} (s u : RunningSession) (r : Result (Option Segment) E) → s.session.end.emitted ≤ length s.session.end.stream → IfOk r (λ a. IsNone a ↔ ((again_length s.session.end ≡ 0) ⊎ (s.acked_at_turn < s.session.end.acked)))
+    → IfOk r (λ a. EmitsBy EmitsAgain s.session a u.session) → IfOk r (λ a. EmitsBy EmitsSlice s.session a u.session) → OnOk r (u.acked_at_turn ≡ s.session.end.acked) → IfOk r (λ a. SentAgain s a u)
+sent_again_ok s u (Ok a) within none step slice turned = record { none = none; within = within; step = step; slice = slice; turned = turned }
+sent_again_ok s u (Err e) within none step slice turned = tt
+
+sent_next_ok : {E : Type 0} (s u : RunningSession) (r : Result (Option Segment) E) → IfOk r (λ a. IsNone a ↔ (next_length s.session.end ≡ 0)) → IfOk r (λ a. IfNone a (s.session.end.emitted ≡ reach_of s.session.end))
+    → IfOk r (λ a. EmitsBy EmitsNext s.session a u.session) → IfOk r (λ a. EmitsBy EmitsSlice s.session a u.session) → OnOk r (u.acked_at_turn ≡ s.acked_at_turn) → IfOk r (λ a. SentNext s a u)
+sent_next_ok s u (Ok a) none all step slice same = record { none = none; all = all; step = step; slice = slice; same_turn = same }
+sent_next_ok s u (Err e) none all step slice same = tt
+
+-- at the place of the session
+live_ok : {A E : Type 0} (Does : RunningSession → Option A → RunningSession → Type 0) (s u : RunningSession) (o : Option GraftIds) (x y : Place) (r : Result (Option A) E) → x ≡ Live s o → y ≡ Live u o → IfOk r (λ a. Does s a u) → IfOk r (λ a. AtPlace Does x a y)
+live_ok Does s u o x y (Ok a) is y_is does = subst (λ (z : Place). AtPlace Does z a y) (sym is) (u, y_is, does)
+live_ok Does s u o x y (Err e) is y_is does = tt
+
+pub again_answers : {E : Type 0} (s u : RunningSession) (o : Option GraftIds) (x y : Place) (r : Result (Option Segment) E) → x ≡ Live s o → y ≡ Live u o → s.session.end.emitted ≤ length s.session.end.stream
+    → IfOk r (λ a. IsNone a ↔ ((again_length s.session.end ≡ 0) ⊎ (s.acked_at_turn < s.session.end.acked)))
+    → IfOk r (λ a. EmitsBy EmitsAgain s.session a u.session) → IfOk r (λ a. EmitsBy EmitsSlice s.session a u.session) → OnOk r (u.acked_at_turn ≡ s.session.end.acked) → IfOk r (λ a. AtPlace SentAgain x a y)
+again_answers s u o x y r is y_is within none step slice turned = live_ok SentAgain s u o x y r is y_is (sent_again_ok s u r within none step slice turned)
+
+pub next_answers : {E : Type 0} (s u : RunningSession) (o : Option GraftIds) (x y : Place) (r : Result (Option Segment) E) → x ≡ Live s o → y ≡ Live u o → IfOk r (λ a. IsNone a ↔ (next_length s.session.end ≡ 0)) → IfOk r (λ a. IfNone a (s.session.end.emitted ≡ reach_of s.session.end))
+    → IfOk r (λ a. EmitsBy EmitsNext s.session a u.session) → IfOk r (λ a. EmitsBy EmitsSlice s.session a u.session) → OnOk r (u.acked_at_turn ≡ s.acked_at_turn) → IfOk r (λ a. AtPlace SentNext x a y)
+next_answers s u o x y r is y_is none all step slice same = live_ok SentNext s u o x y r is y_is (sent_next_ok s u r none all step slice same)
+
+-- what is sent has at most 1,024 bytes
+pub short_again : (y x : Place) (segment : Segment) → AtPlace SentAgain y (Some segment) x → length segment.bytes ≤ 1024
+short_again Vacant x segment at = absurd (some_none segment at.0)
+short_again (Live s o) x segment (u, x_is, sent) = sent.slice.step.short
+short_again (Shadow away) x segment at = absurd (some_none segment at.0)
+
+pub short_next : (y x : Place) (segment : Segment) → AtPlace SentNext y (Some segment) x → length segment.bytes ≤ 1024
+short_next Vacant x segment at = absurd (some_none segment at.0)
+short_next (Live s o) x segment (u, x_is, sent) = sent.slice.step.short
+short_next (Shadow away) x segment at = absurd (some_none segment at.0)
+
+pub short_answer : (y x : Place) (segment : Segment) → AtPlace SentAnswer y (Some segment) x → length segment.bytes ≤ 1024
+short_answer Vacant x segment at = absurd (some_none segment at.0)
+short_answer (Live s o) x segment (u, x_is, sent) = let e : length segment.bytes ≡ 0 = ap (λ (q : PlacedSegment). length q.bytes) sent.step.step.answer.empty in omega (arith, e)
+short_answer (Shadow away) x segment at = absurd (some_none segment at.0)

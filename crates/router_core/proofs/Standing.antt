@@ -5,6 +5,7 @@ use Rattle.bgp_types.specs.Prefixes.{PrefixValue}
 use Rattle.bgp_types.specs.Tables.{prefix_cmp}
 use Rattle.session_value.specs.Sets.{has}
 use Rattle.rib_stages.specs.Values.{rib_of, table_at}
+use Rattle.graft_model.specs.Setups.{peerings_in}
 use Rattle.router_core.specs.Configs.{IsRibOf}
 use Rattle.router_core.specs.Parts.{Keeps, KeepsPlace}
 use Rattle.router_core.specs.Places.{place_at}
@@ -44,3 +45,20 @@ keeps_on f g k steady sizes each = subst Keeps (sym steady) (record {
 
 pub keeps_turns : (f : Fields) (n : ℕ) → Keeps f → Keeps (record f { turns = n })
 keeps_turns f n k = keeps_on f (record f { turns = n }) k refl (record { places = refl; due_in = refl; due_out = refl; config = refl; tellings = refl }) k.each
+
+-- there is a place for each peering, before and after
+pub same_places : (f g : Fields) → Keeps f → Keeps g → g.known.setup ≡ f.known.setup → length g.places.items ≡ length f.places.items
+same_places f g before after same = after.places ∙ ap peerings_in same ∙ sym before.places
+
+-- what is due to routers changes, and nothing else
+pub keeps_due_in : (f g : Fields) → Keeps f → g ≡ record f { due_in = g.due_in } → length g.due_in ≡ length f.due_in → Keeps g
+keeps_due_in f g keeps same sizes = keeps_on f g keeps
+    (subst (λ (h : Fields). h ≡ record f { places = h.places; rib = h.rib; due_in = h.due_in; due_out = h.due_out; turns = h.turns }) (sym same) refl)
+    (record {
+      places = ap (λ (h : Fields). length h.places.items) same;
+      due_in = sizes;
+      due_out = ap (λ (h : Fields). length h.due_out) same;
+      config = ap (λ (h : Fields). h.rib.config) same;
+      tellings = ap (λ (h : Fields). h.rib.tellings) same;
+    })
+    (λ p. subst (λ (h : Fields). KeepsPlace f.known.setup f.number.0 p ((rib_of h.rib).entries p) (table_at h.due_out p) (place_at h.places.items p)) (sym same) (keeps.each p))

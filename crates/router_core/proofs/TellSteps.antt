@@ -22,8 +22,7 @@ use Rattle.graft_runs.specs.Actors.{Router, MeshItem}
 use Rattle.graft_actors.specs.Emissions.{Tally}
 use Rattle.graft_actors.specs.Notes.{WroteOne}
 use Rattle.std.proofs.lemmas.Bool.{cases_lt}
-use Rattle.router_core.specs.Parts.{router_part, Keeps, KeepsPlace}
-use Rattle.router_core.specs.Places.{place_at}
+use Rattle.router_core.specs.Parts.{router_part, Keeps}
 use Rattle.router_core.specs.Rounds.{Did}
 use Rattle.router_core.specs.Stages.{NoRounds, TellsAll}
 use Rattle.router_core.specs.Tellings.{TellsOne, TellsSome, TellsRouter, TellsFirst}
@@ -31,21 +30,8 @@ use Rattle.router_core.specs.Turned.{rounds_on}
 use Rattle.router_core.specs.declared.fields.Fields.{Fields}
 use Rattle.router_core.proofs.Dids.{Sends, did_same, did_then, did_sent}
 use Rattle.router_core.proofs.RoundLists.{rounds_on-append}
-use Rattle.router_core.proofs.Standing.{keeps_on, none_in}
+use Rattle.router_core.proofs.Standing.{keeps_due_in, none_in}
 use Rattle.router_core.proofs.VisitSteps.{same_or_not, at_here, at_other}
-
--- what is due to routers changes, and nothing else
-pub keeps_due_in : (f g : Fields) → Keeps f → g ≡ record f { due_in = g.due_in } → length g.due_in ≡ length f.due_in → Keeps g
-keeps_due_in f g keeps same sizes = keeps_on f g keeps
-    (subst (λ (h : Fields). h ≡ record f { places = h.places; rib = h.rib; due_in = h.due_in; due_out = h.due_out; turns = h.turns }) (sym same) refl)
-    (record {
-      places = ap (λ (h : Fields). length h.places.items) same;
-      due_in = sizes;
-      due_out = ap (λ (h : Fields). length h.due_out) same;
-      config = ap (λ (h : Fields). h.rib.config) same;
-      tellings = ap (λ (h : Fields). h.rib.tellings) same;
-    })
-    (λ p. subst (λ (h : Fields). KeepsPlace f.known.setup f.number.0 p ((rib_of h.rib).entries p) (table_at h.due_out p) (place_at h.places.items p)) (sym same) (keeps.each p))
 
 -- nothing is dirty
 not_dirty : (dirty : Prefixes) (x : PrefixValue) → dirty ≡ map.empty → has dirty x ≡ false
@@ -91,6 +77,13 @@ some_first q f p keeps = record {
   keeps = keeps;
 }
 
+-- there are as many sets, and nothing is to be decided still
+pub same_due_in : (q : ℕ) (f g : Fields) (p r : Post (Item RunningSession)) → Keeps f → TellsSome q f p g r → q < length f.due_in → q < length g.due_in
+same_due_in q f g p r keeps some there = omega (arith, there, keeps.due_in, some.keeps.due_in, ap (λ (h : Fields). routers_in h.known.setup) some.same)
+
+pub still_clean : (q : ℕ) (f g : Fields) (p r : Post (Item RunningSession)) → TellsSome q f p g r → f.rib.dirty ≡ map.empty → g.rib.dirty ≡ map.empty
+still_clean q f g p r some clean = ap (λ (h : Fields). h.rib.dirty) some.same ∙ clean
+
 module _ (q : ℕ) (f g h : Fields) (p r s : Post (Item RunningSession)) (prefix : PrefixValue) (before : TellsSome q f p g r) (one : TellsOne q prefix g r h s) where
   pub some_next : TellsSome q f p h s
   some_next = record {
@@ -118,7 +111,7 @@ told_first f p keeps = record {
   keeps = keeps;
 }
 
-pub told_next : (n : ℕ) (f g h : Fields) (p r s : Post (Item RunningSession)) → TellsFirst n f p g r → TellsRouter n g r h s → TellsFirst (suc n) f p h s
+pub told_next : (n : ℕ) (f g h : Fields) (p r s : Post (Item RunningSession)) → TellsFirst n f p g r → TellsRouter n g r h s → TellsFirst (n + 1) f p h s
 told_next n f g h p r s before one = record {
   events = before.events ++ one.told.events;
   did = λ t. did_then f g h p r s t t t before.events one.told.events (before.did t) (one.told.did t);
@@ -131,7 +124,7 @@ told_next n f g h p r s before one = record {
   keeps = one.told.keeps;
 }
   where
-    lower : (q : ℕ) → q < suc n → q ≢ n → q < n
+    lower : (q : ℕ) → q < n + 1 → q ≢ n → q < n
     lower q below not = elim (cases_lt q n) [ inl under ↦ under | inr from ↦ absurd (not (omega (arith, from, below))) ]
 
 -- behind the last table nothing is due

@@ -11,7 +11,7 @@ use Rattle.graft_steps.specs.declared.order.GraftIds.{GraftIds}
 use Rattle.session_value.specs.Sessions.{SessionValue}
 use Rattle.session_value.specs.Sets.{Entries, Prefixes}
 use Rattle.bgp_session.specs.Running.{RunningSession}
-use Rattle.router_core.specs.MayPassing.{MayPass}
+use Rattle.bgp_session.specs.Steps.{MayPass}
 use Rattle.graft_model.specs.Setups.{Setup}
 use Rattle.graft_model.specs.Parts as model
 use Rattle.graft_model.specs.Parts.{RouterPart}

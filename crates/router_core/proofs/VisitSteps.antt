@@ -56,26 +56,26 @@ module _ (stage : Stage) (a b c : Fields) (p q r : Post (Item RunningSession)) (
   fresh : place_at b.places.items n ≡ place_at a.places.items n
   fresh = (before.left n (omega arith)).0
 
-  counted_then : (t : ℕ → Tally) (k : ℕ) → at (counted_by stage a.places.items t n) n (stage.count (place_at b.places.items n) (counted_by stage a.places.items t n n)) k ≡ counted_by stage a.places.items t (suc n) k
+  counted_then : (t : ℕ → Tally) (k : ℕ) → at (counted_by stage a.places.items t n) n (stage.count (place_at b.places.items n) (counted_by stage a.places.items t n n)) k ≡ counted_by stage a.places.items t (n + 1) k
   counted_then t k = elim (same_or_not n k) [
     | inl e ↦
         at_here (counted_by stage a.places.items t n) n (stage.count (place_at b.places.items n) (counted_by stage a.places.items t n n)) k e
         ∙ ap (λ (x : Place). stage.count x (counted_by stage a.places.items t n n)) fresh
         ∙ ap (λ (x : Tally). stage.count (place_at a.places.items n) x) (counted_from stage a.places.items t n n (omega arith))
-        ∙ sym (counted_below stage a.places.items t (suc n) n (omega arith))
-        ∙ ap (counted_by stage a.places.items t (suc n)) (sym e)
+        ∙ sym (counted_below stage a.places.items t (n + 1) n (omega arith))
+        ∙ ap (counted_by stage a.places.items t (n + 1)) (sym e)
     | inr not ↦
         at_other (counted_by stage a.places.items t n) n (stage.count (place_at b.places.items n) (counted_by stage a.places.items t n n)) k not
         ∙ elim (cases_lt k n) [
-          | inl below ↦ counted_below stage a.places.items t n k below ∙ sym (counted_below stage a.places.items t (suc n) k (omega (arith, below)))
-          | inr from ↦ counted_from stage a.places.items t n k from ∙ sym (counted_from stage a.places.items t (suc n) k (above k from not))
+          | inl below ↦ counted_below stage a.places.items t n k below ∙ sym (counted_below stage a.places.items t (n + 1) k (omega (arith, below)))
+          | inr from ↦ counted_from stage a.places.items t n k from ∙ sym (counted_from stage a.places.items t (n + 1) k (above k from not))
         ]
   ]
     where
-      above : (k : ℕ) → n ≤ k → k ≢ n → suc n ≤ k
+      above : (k : ℕ) → n ≤ k → k ≢ n → n + 1 ≤ k
       above k from not = elim (cases_lt n k) [ inl below ↦ omega (arith, below) | inr to ↦ absurd (not (omega (arith, from, to))) ]
 
-  done_then : (k : ℕ) → k < suc n → stage.Goes (rounds_on k (before.events ++ now.events)) (place_at a.places.items k) (place_at c.places.items k)
+  done_then : (k : ℕ) → k < n + 1 → stage.Goes (rounds_on k (before.events ++ now.events)) (place_at a.places.items k) (place_at c.places.items k)
   done_then k below = elim (same_or_not n k) [
     | inl e ↦
         subst (λ (m : ℕ). stage.Goes (rounds_on m (before.events ++ now.events)) (place_at a.places.items m) (place_at c.places.items m)) (sym e)
@@ -86,19 +86,19 @@ module _ (stage : Stage) (a b c : Fields) (p q r : Post (Item RunningSession)) (
         (subst (λ (x : Place). stage.Goes (rounds_on k before.events) (place_at a.places.items k) x) (sym (now.others k not).0) (before.done k (lower k below not)))
   ]
     where
-      lower : (k : ℕ) → k < suc n → k ≢ n → k < n
+      lower : (k : ℕ) → k < n + 1 → k ≢ n → k < n
       lower k below not = elim (cases_lt k n) [ inl under ↦ under | inr from ↦ absurd (not (omega (arith, from, below))) ]
 
-  left_then : (k : ℕ) → suc n ≤ k → (place_at c.places.items k ≡ place_at a.places.items k) × (rounds_on k (before.events ++ now.events) ≡ [])
+  left_then : (k : ℕ) → n + 1 ≤ k → (place_at c.places.items k ≡ place_at a.places.items k) × (rounds_on k (before.events ++ now.events) ≡ [])
   left_then k from =
       let not : k ≢ n = λ e. let x : ⊥ = omega (arith, from, e) in x in
       ((now.others k not).0 ∙ (before.left k (omega (arith, from))).0,
         rounds_on-append k before.events now.events ∙ ap (λ (xs : List ℕ). xs ++ rounds_on k now.events) (before.left k (omega (arith, from))).1 ∙ (now.others k not).1)
 
-  pub visited_next : ((x y z : Fields) → stage.Same x y → stage.Same y z → stage.Same x z) → Visited stage (suc n) a p c r
+  pub visited_next : ((x y z : Fields) → stage.Same x y → stage.Same y z → stage.Same x z) → Visited stage (n + 1) a p c r
   visited_next same_then = record {
     events = before.events ++ now.events;
-    did = λ t. did_then a b c p q r t (counted_by stage a.places.items t n) (counted_by stage a.places.items t (suc n)) before.events now.events (before.did t)
+    did = λ t. did_then a b c p q r t (counted_by stage a.places.items t n) (counted_by stage a.places.items t (n + 1)) before.events now.events (before.did t)
         (subst (λ (u : ℕ → Tally). Did b q (counted_by stage a.places.items t n) now.events c r u) (λ i k. counted_then t k i) (now.did (counted_by stage a.places.items t n)));
     done = done_then;
     left = left_then;

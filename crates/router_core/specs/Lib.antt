@@ -4,7 +4,6 @@ pub mod Parts
 pub mod Updates
 pub mod Rounds
 pub mod Rested
-pub mod MayPassing
 pub mod Stages
 pub mod Visits
 pub mod Sending

@@ -7,7 +7,7 @@ use Rattle.tcp_seq.specs.Endpoint.{again_length}
 use Rattle.graft_steps.specs.declared.item.Item.{Item}
 use Rattle.graft_steps.specs.declared.order.GraftIds.{GraftIds}
 use Rattle.bgp_session.specs.Running.{RunningSession}
-use Rattle.router_core.specs.MayPassing.{MayPass}
+use Rattle.bgp_session.specs.Steps.{MayPass}
 use Rattle.graft_model.specs.Steps.{RouterEvent}
 use Rattle.graft_actors.specs.Emissions.{Tally, reach_of}
 use Rattle.router_core.specs.Parts.{router_part, Keeps}

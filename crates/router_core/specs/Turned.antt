@@ -7,7 +7,7 @@ use Rattle.ring_net.specs.declared.post.Post.{Post}
 use Rattle.graft_steps.specs.declared.item.Item.{Item}
 use Rattle.graft_steps.specs.declared.order.GraftIds.{GraftIds}
 use Rattle.bgp_session.specs.Running.{RunningSession}
-use Rattle.router_core.specs.MayPassing.{MayPass}
+use Rattle.bgp_session.specs.Steps.{MayPass}
 use Rattle.graft_model.specs.Steps.{RouterEvent, Tick}
 use Rattle.graft_actors.specs.Emissions.{Tally, nothing}
 use Rattle.graft_actors.specs.Acts.{acts}

@@ -33,6 +33,17 @@ impl Model for DueSets {
     ghost view = { λ due. contents_of due.sets.items };
 }
 
+/// Puts a prefix into a set. If memory runs out, nothing changes.
+fn insert(set: &mut TrieTable<()>, prefix: Prefix) -> Result<(), NoMemory>
+    ensures ok { OnOk result (set.new.contents ≡ map.insert set.old.contents prefix tt) }
+    ensures err { OnErr result (set.new.contents ≡ set.old.contents) }
+{
+    match set.set(prefix, ()) {
+        Ok(_) => Ok(()),
+        Err(_) => Err(NoMemory),
+    }
+}
+
 impl DueSets {
     /// So many empty sets.
     pub(crate) fn new(alloc: Global, count: usize) -> Result<DueSets, NoMemory>
@@ -76,10 +87,7 @@ impl DueSets {
         ensures ok { OnOk result (table_at self.new ≡ at (table_at self.old) n (map.insert (table_at self.old n) prefix tt)) }
         ensures err { OnErr result (table_at self.new ≡ table_at self.old) }
     {
-        match self.sets[n].set(prefix, ()) {
-            Ok(_) => Ok(()),
-            Err(_) => Err(NoMemory),
-        }
+        insert(&mut self.sets[n], prefix)
     }
 
     /// A prefix is due no more.

@@ -1,19 +1,20 @@
 //! The grafts that begin at their source.
 
-ghost use Rattle.std.specs.Prelude.{◌<◌, ◌+◌, ◌≡◌, length, OnOk};
+ghost use Rattle.std.specs.Prelude.{◌<◌, ◌+◌, ◌≡◌, length, OnOk, Some};
 ghost use Rattle.ring_net.specs.Posts.{SameEdges};
 ghost use Rattle.graft_model.specs.Setups.{peerings_in, routers_in};
 ghost use Rattle.router_core.specs.Leaving.{BegunAs};
 ghost use Rattle.router_core.specs.Parts.{Keeps};
 ghost use Rattle.router_core.specs.Stages.{BeginsGrafts};
+ghost use Rattle.router_core.specs.declared.place.Place.TheVariants.{Live};
 ghost use Rattle.router_core.specs.Visits.{Visits, beginning_grafts};
 
 use crate::fields::Fields;
 use crate::place::Place;
-use bgp_session::Capsule;
+use bgp_session::{Capsule, Session};
 use graft_actors::{note, note_sent};
 use graft_edge::NoMemory;
-use graft_steps::{GraftIds, Item, Outcome, Refusal};
+use graft_steps::{GraftIds, Item, Ordered, Outcome, Refusal};
 use prefix_trie::TrieTable;
 use ring_net::Post;
 use std::mem;
@@ -36,34 +37,46 @@ pub(crate) enum Begun {
     Left(GraftIds, Capsule),
 }
 
+/// Begins a graft of the session that is live at a place, which is vacant meanwhile.
+fn begin_with(place: &mut Place, session: Session, order: Ordered) -> Begun
+    ensures { BegunAs (Live session (Some order)) result place.new }
+{
+    let ids = order.ids();
+    match order.freeze(session.state(), session.hold()) {
+        Err(refusal) => {
+            *place = Place::Live {
+                session,
+                order: None,
+            };
+            Begun::Refused(ids, refusal)
+        }
+        Ok(frozen) => {
+            *place = Place::Shadow {
+                away: frozen.leave(),
+            };
+            Begun::Left(ids, session.freeze().leave())
+        }
+    }
+}
+
 /// Begins the graft that is stored at a place.
 fn begin_graft(place: &mut Place) -> Begun
     ensures { BegunAs place.old result place.new }
 {
     match mem::replace(place, Place::Vacant) {
-        Place::Live {
-            session,
-            order: Some(order),
-        } => {
-            let ids = order.ids();
-            match order.freeze(session.state(), session.hold()) {
-                Err(refusal) => {
-                    *place = Place::Live {
-                        session,
-                        order: None,
-                    };
-                    Begun::Refused(ids, refusal)
-                }
-                Ok(frozen) => {
-                    *place = Place::Shadow {
-                        away: frozen.leave(),
-                    };
-                    Begun::Left(ids, session.freeze().leave())
-                }
+        Place::Vacant => Begun::Nothing,
+        Place::Live { session, order } => match order {
+            Some(order) => begin_with(place, session, order),
+            None => {
+                *place = Place::Live {
+                    session,
+                    order: None,
+                };
+                Begun::Nothing
             }
-        }
-        other => {
-            *place = other;
+        },
+        Place::Shadow { away } => {
+            *place = Place::Shadow { away };
             Begun::Nothing
         }
     }

@@ -1,6 +1,7 @@
 //! What sessions are told (RFC 4271, section 9.2).
 
-ghost use Rattle.std.specs.Prelude.{IfOk, OnOk, option_map};
+ghost use Rattle.std.specs.Prelude.{◌≡◌, IfOk, OnOk, option_map};
+ghost use Rattle.std.specs.FinMap as map;
 ghost use Rattle.ring_net.specs.Posts.{SameEdges};
 ghost use Rattle.router_core.specs.Parts.{Keeps, router_part};
 ghost use Rattle.router_core.specs.Updates.{IsFirstStuck};
@@ -17,7 +18,8 @@ pub(crate) fn put_all(
     router: &mut Fields,
     post: &mut Post<Item<Capsule>>,
 ) -> Result<(), NoMemory>
-    requires { Keeps router.old }
+    requires keeps { Keeps router.old }
+    requires clean { router.old.rib.dirty ≡ map.empty }
     ensures edges { SameEdges post.old post.new }
     ensures done { OnOk result (PutsAll router.old post.old router.new post.new) }
 {

@@ -87,13 +87,12 @@ impl Outlet {
         ensures sent { OnOk result (WroteOne post.old 2 self.place (offset_from segment.seq.0 self.first.0) (length segment.bytes) ((self.to, items.Seg segment) ∷ []) post.new) }
     {
         let from = segment.seq.offset_from(self.first);
-        let len = segment.bytes.len() as u32;
         note_sent(
             post,
             EMIT,
             self.place,
             from,
-            len,
+            segment.bytes.len() as u32,
             self.to,
             Item::Seg(segment),
         )
