@@ -101,10 +101,12 @@ adds_next n test prefix xs ys zs b before is size added = record {
   where
     other : (k : ℕ) → k ≢ n → table_at zs k ≡ table_at ys k
     other k not = ap (λ (d : ℕ → Prefixes). d k) added ∙ at_other (table_at ys) n (if b then map.insert (table_at ys n) prefix tt else table_at ys n) k not
+
     here : Adds (table_at xs n) (only prefix (test n)) (table_at zs n)
     here = subst (Adds (table_at xs n) (only prefix (test n))) (sym (ap (λ (d : ℕ → Prefixes). d n) added ∙ at_here (table_at ys) n (if b then map.insert (table_at ys n) prefix tt else table_at ys n) n refl))
         (subst (λ (s : Prefixes). Adds s (only prefix (test n)) (if b then map.insert (table_at ys n) prefix tt else table_at ys n)) (before.from n (omega arith))
         (subst (λ (c : Bool). Adds (table_at ys n) (only prefix c) (if b then map.insert (table_at ys n) prefix tt else table_at ys n)) is (add_where (table_at ys n) prefix b)))
+
     lower : (k : ℕ) → k < n + 1 → k ≢ n → k < n
     lower k below not = elim (cases_lt k n) [ inl under ↦ under | inr from ↦ absurd (not (omega (arith, from, below))) ]
 
@@ -158,9 +160,9 @@ pub chosen_is : (f : Fields) (prefix : PrefixValue) → Keeps f → rib_choosing
 chosen_is f prefix keeps =
     chosen_among (rib_of f.rib) prefix (peerings_in f.known.setup) (routers_in f.known.setup) keeps.few_peerings (omega (arith, keeps.routers, keeps.few_routers)) behind
     ∙ (λ i. choice (
-      own_candidates (keeps.rib.home_as i) (keeps.rib.networks prefix i)
-      ++ filter_map (λ p. entry_candidate (keeps.rib.home_as i) p (map.get ((rib_of f.rib).entries p) prefix)) (range_with_len 0 (peerings_in f.known.setup))
-      ++ filter_map (λ q. option_map (λ route. (record { from = Router (record { 0 = q }); route = route }, rank_of (keeps.rib.home_as i) false (keeps.rib.costs q i) (keeps.rib.identifiers q i) (keeps.rib.identifiers q i) route)) (map.get ((rib_of f.rib).tellings q) prefix)) (range_with_len 0 (routers_in f.known.setup))))
+    own_candidates (keeps.rib.home_as i) (keeps.rib.networks prefix i)
+    ++ filter_map (λ p. entry_candidate (keeps.rib.home_as i) p (map.get ((rib_of f.rib).entries p) prefix)) (range_with_len 0 (peerings_in f.known.setup))
+    ++ filter_map (λ q. option_map (λ route. (record { from = Router (record { 0 = q }); route = route }, rank_of (keeps.rib.home_as i) false (keeps.rib.costs q i) (keeps.rib.identifiers q i) (keeps.rib.identifiers q i) route)) (map.get ((rib_of f.rib).tellings q) prefix)) (range_with_len 0 (routers_in f.known.setup))))
   where
     behind : NoneBehind (peerings_in f.known.setup) (routers_in f.known.setup) (rib_of f.rib) prefix
     behind = record {
@@ -203,6 +205,7 @@ module _ (f h g : Fields) (p q : Post (Item RunningSession)) (prefix : PrefixVal
     where
       row : Decides f.known.setup f.number.0 prefix (router_part f) None [] part_then
       row = record { alone = (refl, refl); dirty = dirty; due = inl (sym (chosen_is f prefix keeps) ∙ stays, refl, refl); effect = refl }
+
       whole : DecidesOne prefix f p h q
       whole = record {
         did = λ t. did_one f h p q t (Decide prefix) 6 prefix.address prefix.len 0 (record { setup = ap (λ (x : Fields). x.known.setup) decided; number = ap (λ (x : Fields). x.number) decided }) wrote
@@ -226,19 +229,25 @@ module _ (f h g : Fields) (p q : Post (Item RunningSession)) (prefix : PrefixVal
     where
       g_same : g ≡ record f { rib = g.rib; due_in = g.due_in; due_out = g.due_out }
       g_same = due.same ∙ ap (λ (x : Fields). let y : Fields = record x { due_in = g.due_in; due_out = g.due_out } in y) decided ∙ ap (λ (x : RibStore). let y : Fields = record f { rib = x; due_in = g.due_in; due_out = g.due_out } in y) (sym (ap (λ (x : Fields). x.rib) due.same))
+
       part_new : RouterPart
       part_new = record part_then { due_in = table_at g.due_in; due_out = table_at g.due_out }
+
       part_is : router_part g ≡ part_new
       part_is = ap router_part due.same ∙ ap (λ (x : RouterPart). let y : RouterPart = record x { due_in = table_at g.due_in; due_out = table_at g.due_out } in y) part_decided
+
       out : (k : ℕ) → Adds (table_at h.due_out k) (only prefix (holds_established (place_of (place_at h.places.items k)))) (table_at g.due_out k)
       out = adds_all (is_up_at h) prefix h.due_out g.due_out due.due_out (λ k from. ap (λ (x : Place). holds_established (place_of x)) (place_at_end h.places.items k (omega (arith, from, keeps_decided.places, keeps_decided.due_out))))
+
       into : (k : ℕ) → Adds (table_at h.due_in k) (only prefix (is_other h k)) (table_at g.due_in k)
       into = adds_all (is_other h) prefix h.due_in g.due_in due.due_in (λ k from. ap (λ (b : Bool). b && not (k == h.number.0)) (le-ltb k (routers_in h.known.setup) (omega (arith, from, keeps_decided.due_in))))
+
       everywhere : DueEverywhere f.known.setup f.number.0 prefix (router_part f) part_new
       everywhere = record {
         routers = subst (λ (x : Fields). (k : ℕ) → Adds (table_at x.due_in k) (only prefix (is_other x k)) (table_at g.due_in k)) decided into;
         peerings = subst (λ (x : Fields). (k : ℕ) → Adds (table_at x.due_out k) (only prefix (holds_established (place_of (place_at x.places.items k)))) (table_at g.due_out k)) decided out;
       }
+
       row : Decides f.known.setup f.number.0 prefix (router_part f) None [] part_new
       row = record { alone = (refl, refl); dirty = dirty; due = inr (λ e. apart (chosen_is f prefix keeps ∙ e), everywhere); effect = refl }
 

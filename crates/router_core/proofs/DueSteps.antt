@@ -15,7 +15,7 @@ Set = TableValue (Unit {0})
 -- x stands at number n of these sets, and t takes its place
 module _ (xs : List Set) (now : List Prefixes) (n : ℕ) (x t : Set) (same : contents_of xs ≡ now) (there : n < length now) (read : x ≡ get_or xs n x) where
   within : n < length xs
-  within = omega (arith, there, ap (λ (ts : List Prefixes). length ts) same, length-map (λ (s : Set). s.contents) xs)
+  within = omega (arith, there, ap (λ (ts : List Prefixes). length ts) same, length-map xs (λ (s : Set). s.contents))
 
   was : x.contents ≡ table_at now n
   was = sym (table_is xs n x within read) ∙ ap (λ (ts : List Prefixes). table_at ts n) same
@@ -27,7 +27,7 @@ module _ (xs : List Set) (now : List Prefixes) (n : ℕ) (x t : Set) (same : con
   stays e = tables-set xs n t within ∙ (λ i. at (table_at (same i)) n ((e ∙ was) i)) ∙ at-itself (table_at now) n
 
   pub size : length (contents_of (set xs n t)) ≡ length now
-  size = length-map (λ (s : Set). s.contents) (set xs n t) ∙ length-set xs n t ∙ sym (length-map (λ (s : Set). s.contents) xs) ∙ ap (λ (ts : List Prefixes). length ts) same
+  size = length-map (set xs n t) (λ (s : Set). s.contents) ∙ length-set xs n t ∙ sym (length-map xs (λ (s : Set). s.contents)) ∙ ap (λ (ts : List Prefixes). length ts) same
 
   pub becomes_ok : {A E : Type 0} (r : Result A E) (change : Prefixes → Prefixes) → OnOk r (t.contents ≡ change x.contents) → OnOk r (table_at (contents_of (set xs n t)) ≡ at (table_at now) n (change (table_at now n)))
   becomes_ok (Ok a) change e = becomes change e

@@ -64,8 +64,11 @@ sends_segment f p from len s u segment there of gives short = record {
   name = FarSide p;
   known = there;
   number = refl;
-  thing = λ i. (FarSide p, (ap (λ (w : PlacedSegment). OutwardItem (Seg w)) (sym (placed_is f.known.setup p s segment of gives.peering gives.way))
-      ∙ ap (λ (w : Way). segment_thing w (segment_of f.known.setup segment)) (sym gives.way)) i);
+  thing = λ i. (
+    FarSide p,
+    (ap (λ (w : PlacedSegment). OutwardItem (Seg w)) (sym (placed_is f.known.setup p s segment of gives.peering gives.way))
+        ∙ ap (λ (w : Way). segment_thing w (segment_of f.known.setup segment)) (sym gives.way)) i,
+  );
   may = record {
     peering = ap (λ q. q.0) gives.peering ∙ of.peering;
     way = gives.way;

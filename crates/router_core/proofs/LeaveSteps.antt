@@ -178,24 +178,28 @@ module _ (f g : Fields) (p q : Post (Item RunningSession)) (n : ℕ) (s : Runnin
             fit = tt;
           });
         },
-        (own_part g, record {
-          setup = same_router.setup;
-          name = ap (λ k. Router k.0) same_router.number;
-          does = inl (record {
-            welcome = tt;
-            row = record {
-              event = Leave ids.graft;
-              coded = record { kind = refl; a = refl; b = refl; c = refl };
-              took = None;
-              gave = MeshTo ids.target.0 (Moved ids.graft n s.session) ∷ [];
-              holds = leaves;
-              is_taken = refl;
-              is_sent = ap (λ x. x ∷ []) (sends_is f ids.target.0 (items.Moved ids.graft s) (MeshTo ids.target.0 (Moved ids.graft n s.session)) sends_moved);
-              there = (sends_name f ids.target.0 (items.Moved ids.graft s) (MeshTo ids.target.0 (Moved ids.graft n s.session)) sends_moved, tt);
-            };
-            fit = ((sends_moved.name, sends_at f ids.target.0 (items.Moved ids.graft s) (MeshTo ids.target.0 (Moved ids.graft n s.session)) sends_moved, sends_moved.may), tt);
-          });
-        }, refl),
+        (
+          own_part g,
+          record {
+            setup = same_router.setup;
+            name = ap (λ k. Router k.0) same_router.number;
+            does = inl (record {
+              welcome = tt;
+              row = record {
+                event = Leave ids.graft;
+                coded = record { kind = refl; a = refl; b = refl; c = refl };
+                took = None;
+                gave = MeshTo ids.target.0 (Moved ids.graft n s.session) ∷ [];
+                holds = leaves;
+                is_taken = refl;
+                is_sent = ap (λ x. x ∷ []) (sends_is f ids.target.0 (items.Moved ids.graft s) (MeshTo ids.target.0 (Moved ids.graft n s.session)) sends_moved);
+                there = (sends_name f ids.target.0 (items.Moved ids.graft s) (MeshTo ids.target.0 (Moved ids.graft n s.session)) sends_moved, tt);
+              };
+              fit = ((sends_moved.name, sends_at f ids.target.0 (items.Moved ids.graft s) (MeshTo ids.target.0 (Moved ids.graft n s.session)) sends_moved, sends_moved.may), tt);
+            });
+          },
+          refl,
+        ),
       );
       round = (None, [], mid, freezes, tt, (None, MeshTo ids.target.0 (Moved ids.graft n s.session) ∷ [], router_part g, leaves, tt, (refl, refl)));
     }

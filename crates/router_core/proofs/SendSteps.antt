@@ -92,6 +92,7 @@ none_is s o (inl none) = by_flag (nat_lt s.acked_at_turn s.session.end.acked)
   where
     nothing_out : ◌≡◌ {A = ℕ} (if nat_lt 0 (again_length s.session.end) then 1 else 0) 0
     nothing_out = ap (λ (b : Bool). let n : ℕ = if b then 1 else 0 in n) (le-ltb 0 (again_length s.session.end) (omega (arith, none)))
+
     by_flag : (b : Bool) → ◌≡◌ {A = ℕ} (if b then 0 else (if nat_lt 0 (again_length s.session.end) then 1 else 0)) 0
     by_flag true = refl
     by_flag false = nothing_out
@@ -133,7 +134,7 @@ module _ (f g : Fields) (p q : Post (Item RunningSession)) (n : ℕ) (x : Place)
     again_live s u o is x_is sent =
         let e : Endpoint = s.session.end in
         let gives : Gives s.session segment u.session e.acked (again_length e) = gives_slice EmitsAgain s.session u.session segment e.acked (again_length e)
-            (λ end slice step. at_again e end (sent_as s.session.config segment) sent.within slice step) sent.step sent.slice in
+        (λ end slice step. at_again e end (sent_as s.session.config segment) sent.within slice step) sent.step sent.slice in
         let some : 0 < again_length e = sent.step.step.some in
         let late : e.acked ≤ s.acked_at_turn = late_for s segment sent.none in
         let out : e.acked < e.emitted = omega (arith, some) in
@@ -152,11 +153,11 @@ module _ (f g : Fields) (p q : Post (Item RunningSession)) (n : ℕ) (x : Place)
     next_live s u o is x_is sent =
         let e : Endpoint = s.session.end in
         let gives : Gives s.session segment u.session e.emitted (next_length e) = gives_slice EmitsNext s.session u.session segment e.emitted (next_length e)
-            (λ end slice step. at_next e end (sent_as s.session.config segment) slice step) sent.step sent.slice in
+        (λ end slice step. at_next e end (sent_as s.session.config segment) slice step) sent.step sent.slice in
         let some : 0 < next_length e = sent.step.step.some in
         let rises : u ≡ record s { session = record s.session { end = record e { emitted = e.emitted + next_length e } } } =
-            running_is u (record s.session { end = record e { emitted = e.emitted + next_length e } }) s.acked_at_turn
-            (sent.step.effect ∙ ap (λ (d : Endpoint). let v : SessionValue = record s.session { end = d } in v) sent.step.step.rises) sent.same_turn in
+        running_is u (record s.session { end = record e { emitted = e.emitted + next_length e } }) s.acked_at_turn
+        (sent.step.effect ∙ ap (λ (d : Endpoint). let v : SessionValue = record s.session { end = d } in v) sent.step.step.rises) sent.same_turn in
         let out : SlicesOut s u = subst (SlicesOut s) (sym rises) refl in
         visits_emitted f g p q n s u o segment e.emitted (next_length e) keeps there is same (items_for (Live u o) x_is) gives (careful_next e some) sent.slice.step.short
         (wrote_by f n outlet outlet_is p q segment s.session e.emitted (next_length e) (keeps_here f n keeps (Live s o) is).0 gives.at.place gives.at.size wrote)
@@ -173,7 +174,7 @@ module _ (f g : Fields) (p q : Post (Item RunningSession)) (n : ℕ) (x : Place)
         let at : EmitsAt e.emitted 0 e (sent_as s.session.config segment) sent.step.end = at_answer e sent.step.end (sent_as s.session.config segment) sent.step.step in
         let gives : Gives s.session segment u.session e.emitted 0 = record { end = sent.step.end; at = at; in_streams = sent.step.in_streams; peering = sent.step.peering; way = sent.step.way; effect = sent.step.effect } in
         let given : Answers s u = running_is u (record s.session { end = record e { owed = false } }) s.acked_at_turn
-            (sent.step.effect ∙ ap (λ (d : Endpoint). let v : SessionValue = record s.session { end = d } in v) sent.step.step.answer.given) sent.same_turn in
+        (sent.step.effect ∙ ap (λ (d : Endpoint). let v : SessionValue = record s.session { end = d } in v) sent.step.step.answer.given) sent.same_turn in
         let one : answer_at (Live s o) ≡ 1 = ap (λ (b : Bool). let m : ℕ = if b then 1 else 0 in m) sent.step.step.owed in
         visits_emitted f g p q n s u o segment e.emitted 0 keeps there is same (items_for (Live u o) x_is) gives sent.step.step.owed (omega (arith, at.size))
         (wrote_by f n outlet outlet_is p q segment s.session e.emitted 0 (keeps_here f n keeps (Live s o) is).0 at.place at.size wrote)

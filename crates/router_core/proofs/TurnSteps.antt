@@ -228,8 +228,8 @@ module _ (f a b c d e g h k : Fields) (p0 p1 p2 p3 p4 p5 p6 p7 : Post (Item Runn
   rounds_are : (p : ℕ) → rounds_on p events ≡ rounds_on p rounds.events
   rounds_are p =
       let tail : rounds_on p (grafts.events ++ (decides.events ++ (tells.events ++ (puts.events ++ emits.events)))) ≡ [] =
-          rounds_before p grafts.events (decides.events ++ (tells.events ++ (puts.events ++ emits.events))) (grafts.no_rounds p) ∙ rounds_before p decides.events (tells.events ++ (puts.events ++ emits.events)) (decides.no_rounds p)
-          ∙ rounds_before p tells.events (puts.events ++ emits.events) (tells.no_rounds p) ∙ rounds_before p puts.events emits.events (puts.no_rounds p) ∙ emits.no_rounds p in
+      rounds_before p grafts.events (decides.events ++ (tells.events ++ (puts.events ++ emits.events))) (grafts.no_rounds p) ∙ rounds_before p decides.events (tells.events ++ (puts.events ++ emits.events)) (decides.no_rounds p)
+      ∙ rounds_before p tells.events (puts.events ++ emits.events) (tells.no_rounds p) ∙ rounds_before p puts.events emits.events (puts.no_rounds p) ∙ emits.no_rounds p in
       rounds_before p again.events (rounds.events ++ (grafts.events ++ (decides.events ++ (tells.events ++ (puts.events ++ emits.events))))) (again.no_rounds p)
       ∙ rounds_on-append p rounds.events (grafts.events ++ (decides.events ++ (tells.events ++ (puts.events ++ emits.events))))
       ∙ ap (λ (xs : List ℕ). rounds_on p rounds.events ++ xs) tail ∙ append-nil (rounds_on p rounds.events)
@@ -239,10 +239,10 @@ module _ (f a b c d e g h k : Fields) (p0 p1 p2 p3 p4 p5 p6 p7 : Post (Item Runn
       let start : place_at a.places.items p ≡ Live s o = ap (λ (x : Fields). place_at x.places.items p) counted ∙ before.is in
       let round : b.turns ≡ k.turns = ap (λ (x : Fields). x.turns) b_same ∙ sym (ap (λ (x : Fields). x.turns) k_same) in
       let passes : PlaceGoes (PassesWhereItMay k.turns (rounds_on p rounds.events)) (place_at b.places.items p) (place_at c.places.items p) =
-          subst (λ (n : ℕ). PlaceGoes (PassesWhereItMay n (rounds_on p rounds.events)) (place_at b.places.items p) (place_at c.places.items p)) round (rounds.places p) in
+      subst (λ (n : ℕ). PlaceGoes (PassesWhereItMay n (rounds_on p rounds.events)) (place_at b.places.items p) (place_at c.places.items p)) round (rounds.places p) in
       let more : PlaceGoes PutsMore (place_at d.places.items p) (place_at h.places.items p) = subst (λ (x : Place). PlaceGoes PutsMore x (place_at h.places.items p)) (g_places p) (puts.places p) in
       let on : LivesOn k.turns (rounds_on p rounds.events) s u = lives_on k.turns (rounds_on p rounds.events) (place_at a.places.items p) (place_at b.places.items p) (place_at c.places.items p) (place_at d.places.items p) (place_at h.places.items p) (place_at k.places.items p)
-          s u o q start after.is (again.places p) passes (grafts.places p) more (emits.places p) in
+      s u o q start after.is (again.places p) passes (grafts.places p) more (emits.places p) in
       record {
         acked = on.acked;
         at_turn = on.at_turn;
@@ -260,8 +260,8 @@ module _ (f a b c d e g h k : Fields) (p0 p1 p2 p3 p4 p5 p6 p7 : Post (Item Runn
   done : (p : ℕ) → IsDone f.known.setup f.number.0 (router_part k) p ((router_part k).places p)
   done p =
       let at_h : IsDone f.known.setup f.number.0 (router_part h) p (place_of (place_at h.places.items p)) =
-          subst (λ (s : Setup). IsDone s f.number.0 (router_part h) p (place_of (place_at h.places.items p))) same_setup
-          (subst (λ (n : ℕ). IsDone g.known.setup n (router_part h) p (place_of (place_at h.places.items p))) same_number (puts.done p)) in
+      subst (λ (s : Setup). IsDone s f.number.0 (router_part h) p (place_of (place_at h.places.items p))) same_setup
+      (subst (λ (n : ℕ). IsDone g.known.setup n (router_part h) p (place_of (place_at h.places.items p))) same_number (puts.done p)) in
       subst (λ (x : RouterPart). IsDone f.known.setup f.number.0 x p (place_of (place_at k.places.items p))) (sym (ap router_part emits.same))
       (done_on f.known.setup f.number.0 p (router_part h) (λ q. place_of (place_at k.places.items q)) (place_at h.places.items p) (place_at k.places.items p) (emits.places p) at_h)
 

@@ -91,9 +91,10 @@ module _ (stage : Stage) (a b c : Fields) (p q r : Post (Item RunningSession)) (
 
   left_then : (k : ℕ) → n + 1 ≤ k → (place_at c.places.items k ≡ place_at a.places.items k) × (rounds_on k (before.events ++ now.events) ≡ [])
   left_then k from =
-      let not : k ≢ n = λ e. let x : ⊥ = omega (arith, from, e) in x in
-      ((now.others k not).0 ∙ (before.left k (omega (arith, from))).0,
-        rounds_on-append k before.events now.events ∙ ap (λ (xs : List ℕ). xs ++ rounds_on k now.events) (before.left k (omega (arith, from))).1 ∙ (now.others k not).1)
+      let not : k ≢ n = λ e. let x : ⊥ = omega (arith, from, e) in x in (
+        (now.others k not).0 ∙ (before.left k (omega (arith, from))).0,
+        rounds_on-append k before.events now.events ∙ ap (λ (xs : List ℕ). xs ++ rounds_on k now.events) (before.left k (omega (arith, from))).1 ∙ (now.others k not).1,
+      )
 
   pub visited_next : ((x y z : Fields) → stage.Same x y → stage.Same y z → stage.Same x z) → Visited stage (n + 1) a p c r
   visited_next same_then = record {

@@ -5,7 +5,6 @@ mod config;
 mod due;
 mod fields;
 mod place;
-mod probe;
 mod rest;
 mod router;
 mod stages;

@@ -10,25 +10,21 @@ mod rounds;
 mod send;
 mod tell;
 
-pub(crate) use begin::begin;
-pub(crate) use put::stuck;
-
 ghost use Rattle.std.specs.Prelude.{OnOk};
 ghost use Rattle.ring_net.specs.Posts.{SameEdges};
 ghost use Rattle.router_core.specs.Parts.{Keeps};
 ghost use Rattle.router_core.specs.Turned.{TurnsOnce};
 
 use crate::fields::Fields;
+pub(crate) use begin::begin;
 use bgp_session::Capsule;
 use graft_edge::NoMemory;
 use graft_steps::Item;
+pub(crate) use put::stuck;
 use ring_net::Post;
 
 /// One turn, stage by stage. At 2^32 turns it answers `NoMemory`.
-pub(crate) fn turn(
-    router: &mut Fields,
-    post: &mut Post<Item<Capsule>>,
-) -> Result<(), NoMemory>
+pub(crate) fn turn(router: &mut Fields, post: &mut Post<Item<Capsule>>) -> Result<(), NoMemory>
     requires { Keeps router.old }
     ensures edges { SameEdges post.old post.new }
     ensures turned { OnOk result (TurnsOnce router.old post.old router.new post.new) }

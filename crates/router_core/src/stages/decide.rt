@@ -26,21 +26,12 @@ use ring_net::Post;
 const DECIDE: u16 = 6;
 
 /// Makes a prefix due at a number, where it is to be.
-fn add_where(
-    sets: &mut DueSets,
-    n: usize,
-    prefix: Prefix,
-    is_due: bool,
-) -> Result<(), NoMemory>
+fn add_where(sets: &mut DueSets, n: usize, prefix: Prefix, is_due: bool) -> Result<(), NoMemory>
     requires { n < length sets.old }
     ensures length { OnOk result (length sets.new ≡ length sets.old) }
     ensures added { OnOk result (table_at sets.new ≡ at (table_at sets.old) n (if is_due then map.insert (table_at sets.old n) prefix tt else table_at sets.old n)) }
 {
-    if is_due {
-        sets.add(n, prefix)
-    } else {
-        Ok(())
-    }
+    if is_due { sets.add(n, prefix) } else { Ok(()) }
 }
 
 /// Whether an established session is held at a place.

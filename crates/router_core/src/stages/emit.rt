@@ -52,11 +52,7 @@ fn send_answer_at(
 }
 
 /// Emits on a session all that may be emitted, and the answer that is owed.
-fn emit_at(
-    router: &mut Fields,
-    n: usize,
-    post: &mut Post<Item<Capsule>>,
-) -> Result<(), NoMemory>
+fn emit_at(router: &mut Fields, n: usize, post: &mut Post<Item<Capsule>>) -> Result<(), NoMemory>
     requires keeps { Keeps router.old }
     requires place { n < length router.old.places.items }
     ensures edges { SameEdges post.old post.new }
@@ -67,10 +63,7 @@ fn emit_at(
 }
 
 /// Emits on each session all that may be emitted, and the answer that is owed.
-pub(crate) fn emit_all(
-    router: &mut Fields,
-    post: &mut Post<Item<Capsule>>,
-) -> Result<(), NoMemory>
+pub(crate) fn emit_all(router: &mut Fields, post: &mut Post<Item<Capsule>>) -> Result<(), NoMemory>
     requires { Keeps router.old }
     ensures edges { SameEdges post.old post.new }
     ensures done { OnOk result (Emits router.old post.old router.new post.new) }

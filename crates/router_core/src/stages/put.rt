@@ -14,10 +14,7 @@ use graft_steps::Item;
 use ring_net::Post;
 
 /// Puts on each established session what is due on it, in UPDATEs that each tell as many prefixes as a message holds.
-pub(crate) fn put_all(
-    router: &mut Fields,
-    post: &mut Post<Item<Capsule>>,
-) -> Result<(), NoMemory>
+pub(crate) fn put_all(router: &mut Fields, post: &mut Post<Item<Capsule>>) -> Result<(), NoMemory>
     requires keeps { Keeps router.old }
     requires clean { router.old.rib.dirty ≡ map.empty }
     ensures edges { SameEdges post.old post.new }

@@ -60,10 +60,7 @@ fn tell_router(
 }
 
 /// Tells each other router what is due to it. Nothing is to be decided.
-pub(crate) fn tell_all(
-    router: &mut Fields,
-    post: &mut Post<Item<Capsule>>,
-) -> Result<(), NoMemory>
+pub(crate) fn tell_all(router: &mut Fields, post: &mut Post<Item<Capsule>>) -> Result<(), NoMemory>
     requires keeps { Keeps router.old }
     requires clean { router.old.rib.dirty ≡ map.empty }
     ensures edges { SameEdges post.old post.new }

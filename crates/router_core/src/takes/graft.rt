@@ -9,8 +9,7 @@ ghost use Rattle.router_core.specs.Takes.{TakesIt};
 use crate::fields::Fields;
 use bgp_session::Capsule;
 use graft_edge::{NoMemory, PeeringId};
-use graft_steps::Refusal;
-use graft_steps::Item;
+use graft_steps::{Item, Refusal};
 use ring_net::Post;
 
 /// Takes a session that moves here: it lands, and reads all that it can, or is sent back. It is dropped where it isn't a router's, where its place is taken, and where it isn't established or hasn't the numbers of a peering.
