@@ -1,4 +1,4 @@
-use Rattle.std.proofs.Common.{◌<◌, length, ap, ◌∙◌, List, arith}
+use Rattle.std.proofs.Common.{length, ap, ◌∙◌, List, arith}
 use Rattle.std.proofs.lemmas.List.{length-map}
 use Rattle.session_value.specs.Points.{at}
 use Rattle.session_value.specs.Sets.{Prefixes}

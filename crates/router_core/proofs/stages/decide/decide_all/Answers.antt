@@ -1,4 +1,4 @@
-use Rattle.std.proofs.Common.{◌≡◌, Some, sym, ◌∙◌}
+use Rattle.std.proofs.Common.{sym, ◌∙◌}
 use Rattle.ring_net.proofs.TakesEach.{same_edges_self, same_edges_then}
 use Rattle.rib_stages.proofs.Drops.{least_is, no_least_is}
 use Rattle.router_core.proofs.DecideSteps.{decides_all, decides_first, decides_next, fewer_dirty}

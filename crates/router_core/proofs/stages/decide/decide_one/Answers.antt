@@ -1,4 +1,4 @@
-use Rattle.std.proofs.Common.{ℕ, Bool, true, false, [], refl, subst, ◌∙◌}
+use Rattle.std.proofs.Common.{ℕ, Bool, [], refl, subst, ◌∙◌}
 use Rattle.std.specs.FinMap as map
 use Rattle.loc_rib.specs.Values.{AreApart}
 use Rattle.graft_actors.specs.Notes.{WroteOne}

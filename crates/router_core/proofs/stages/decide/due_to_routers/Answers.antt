@@ -1,4 +1,4 @@
-use Rattle.std.proofs.Common.{ℕ, ap, sym, ◌∙◌, arith, not, ◌==◌}
+use Rattle.std.proofs.Common.{ℕ, ap, arith, not, ◌==◌}
 use Rattle.router_core.specs.Deciding.{is_other}
 use Rattle.router_core.specs.declared.fields.Fields.{Fields}
 use Rattle.router_core.proofs.DecideSteps.{adds_next, other_is}

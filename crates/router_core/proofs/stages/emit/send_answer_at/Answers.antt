@@ -1,4 +1,4 @@
-use Rattle.std.proofs.Common.{Option, None, Some, refl, subst}
+use Rattle.std.proofs.Common.{Option, refl, subst}
 use Rattle.std.proofs.lemmas.Result.{on_ok_weaker}
 use Rattle.tcp_seq.specs.declared.segment.Segment.{Segment}
 use Rattle.router_core.specs.Sending.{AtPlace, SentAnswer}

@@ -1,4 +1,4 @@
-use Rattle.std.proofs.Common.{Option, None, Some, refl, subst}
+use Rattle.std.proofs.Common.{Option, refl, subst}
 use Rattle.ring_net.proofs.TakesEach.{same_edges_self, same_edges_then}
 use Rattle.std.specs.Vec.{with_item}
 use Rattle.tcp_seq.specs.declared.segment.Segment.{Segment}

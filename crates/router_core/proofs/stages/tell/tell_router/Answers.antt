@@ -1,11 +1,7 @@
-use Rattle.std.proofs.Common.{◌≡◌, true, Some, sym, ap, ◌∙◌}
-use Rattle.std.specs.FinMap as map
-use Rattle.bgp_types.specs.Tables.{first_above}
+use Rattle.std.proofs.Common.{sym, ◌∙◌}
 use Rattle.ring_net.proofs.TakesEach.{same_edges_self, same_edges_then}
-use Rattle.session_value.specs.Sets.{has}
 use Rattle.rib_stages.specs.Values.{table_at}
 use Rattle.rib_stages.proofs.Drops.{least_is, no_least_is}
-use Rattle.router_core.specs.declared.fields.Fields.{Fields}
 use Rattle.router_core.proofs.TellSteps.{fewer_due, same_due_in, some_first, some_next, still_clean}
 use Rattle.router_core.proofs.stages.tell.tell_router.Goals as goal
 
