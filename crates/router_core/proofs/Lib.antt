@@ -12,3 +12,15 @@ pub mod LeaveSteps
 pub mod DecideSteps
 pub mod TellSteps
 pub mod TurnSteps
+pub mod Kept
+pub mod Takings
+pub mod HearSteps
+pub mod GraftSteps
+pub mod EnterSteps
+pub mod PrefixSets
+pub mod PlaceTests
+pub mod ReadSteps
+pub mod ReadRows
+pub mod Listing
+pub mod FollowSteps
+pub mod SegmentSteps

@@ -12,6 +12,8 @@ pub mod Tellings
 pub mod Deciding
 pub mod Begins
 pub mod Takes
+pub mod Entering
+pub mod Reading
 pub mod Turned
 pub mod FieldProps
 pub mod Routers

@@ -7,9 +7,13 @@ ghost use Rattle.router_core.specs.Parts.{Keeps};
 ghost use Rattle.router_core.specs.Takes.{TakesIt};
 
 use crate::fields::Fields;
+use crate::place::Place;
+use crate::takes::kinds::{CLEAR, DROPPED};
 use bgp_session::Capsule;
+use bgp_types::From;
+use graft_actors::{note, note_sent};
 use graft_edge::{NoMemory, PeeringId};
-use graft_steps::{Item, Refusal};
+use graft_steps::{Item, Outcome, Refusal};
 use ring_net::Post;
 
 /// Takes a session that moves here: it lands, and reads all that it can, or is sent back. It is dropped where it isn't a router's, where its place is taken, and where it isn't established or hasn't the numbers of a peering.
@@ -55,5 +59,23 @@ pub(crate) fn take_done(
     ensures edges { SameEdges post.old post.new }
     ensures took { OnOk result (TakesIt from (items.Done graft peering) router.old post.old router.new post.new) }
 {
-    Err(NoMemory)
+    let place = usize::from(peering.0);
+    if from >= router.routers as usize {
+        return note(post, DROPPED, 0, 0, 0);
+    }
+    if place >= router.places.len() {
+        return note(post, DROPPED, 0, 0, 0);
+    }
+    if !router.places[place].is_away(graft) {
+        return note(post, DROPPED, 0, 0, 0);
+    }
+    let operator = router.routers as usize + router.places.len();
+    let report = Item::Report {
+        graft,
+        outcome: Outcome::Accepted,
+    };
+    note_sent(post, CLEAR, from as u32, 0, 0, operator, report)?;
+    router.rib.drop_from(From::Peering(peering))?;
+    router.places[place] = Place::Vacant;
+    Ok(())
 }
