@@ -24,3 +24,6 @@ pub mod ReadRows
 pub mod Listing
 pub mod FollowSteps
 pub mod SegmentSteps
+pub mod RestSteps
+pub mod BeginSteps
+pub mod RoundSteps

@@ -17,3 +17,5 @@ pub mod Reading
 pub mod Turned
 pub mod FieldProps
 pub mod Routers
+pub mod Beginning
+pub mod Ticking
