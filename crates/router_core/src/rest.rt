@@ -78,8 +78,8 @@ fn first_stream(places: &[Place]) -> Option<u8>
     requires { length places.now ≤ 256 }
     ensures { IsLowestOf (λ p. HasStream (place_of (place_at places.now p))) result }
 {
-    for (number, place) in places.iter().enumerate() {
-        if has_stream(place) {
+    for number in 0..places.len() {
+        if has_stream(&places[number]) {
             return Some(number as u8);
         }
     }
