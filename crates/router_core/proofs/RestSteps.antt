@@ -1,5 +1,5 @@
 -- What is left, the lowest of it.
-use Rattle.std.proofs.Common.{◌≡◌, ℕ, zero, suc, ◌+◌, ◌<◌, ◌≤◌, min, List, [], ◌∷◌, length, get_or, Option, Some, None, Bool, true, false, is_some, inl, inr, ◌⊎◌, refl, sym, ap, subst, ◌∙◌, arith}
+use Rattle.std.proofs.Common.{◌≡◌, ℕ, zero, suc, ◌+◌, ◌<◌, ◌≤◌, min, List, [], ◌∷◌, length, get_or, Option, Some, None, Bool, true, false, is_some, inl, inr, ◌⊎◌, ◌↔◌, refl, sym, ap, subst, ◌∙◌, arith}
 use Rattle.std.specs.FinMap as map
 use Rattle.std.proofs.lemmas.Bool.{cases_lt}
 use Rattle.bgp_types.specs.Prefixes.{PrefixValue}
@@ -60,10 +60,10 @@ no_stream_behind places n k all from so = subst (λ (x : Place). HasStream (plac
 
 -- the lowest number of a graft at the first so many places
 abbrev pub LowestBelow : List Place → ℕ → Option ℕ → Type 0
-LowestBelow places n lowest = IsLowestOf (λ k. (p : ℕ) × (p < n) × (graft_at (place_of (place_at places p)) ≡ Some k)) lowest
+LowestBelow places n lowest = IsLowestOf (λ k. (p : ℕ) × ((p < n) × (graft_at (place_of (place_at places p)) ≡ Some k))) lowest
 
 pub lowest_first : (places : List Place) → LowestBelow places 0 None
-lowest_first places k (p, below, is) = let x : ⊥ = omega (arith, below) in x
+lowest_first places k has = let (p, below, is) = has in let x : ⊥ = omega (arith, below) in x
 
 module _ (places : List Place) (n : ℕ) where
   -- what is at one of n + 1 places is at one of n, or at the last of them
@@ -74,38 +74,49 @@ module _ (places : List Place) (n : ℕ) where
   ]
 
   pub lowest_next : (one other : Option ℕ) → LowestBelow places n one → graft_at (place_of (place_at places n)) ≡ other → LowestBelow places (n + 1) (lower_of one other)
-  lowest_next None None lowest is k (p, below, at) = elim (cut p k below at) [ inl under ↦ lowest k (p, under, at) | inr here ↦ (let x : ⊥ = no_some k (sym is ∙ here) in x) ]
+  lowest_next None None lowest is = λ k has. let (p, below, at) = has in elim (cut p k below at) [ inl under ↦ lowest k (p, under, at) | inr here ↦ (let x : ⊥ = no_some k (sym is ∙ here) in x) ]
     where
       no_some : (k : ℕ) → ◌≡◌ {A = Option ℕ} None (Some k) → ⊥
       no_some k e = let x : ⊥ = cc in x
   lowest_next None (Some m) lowest is = (
     (n, omega arith, is),
-    λ k (p, below, at). elim (cut p k below at) [ inl under ↦ absurd (lowest k (p, under, at)) | inr here ↦ (let e : m ≡ k = (let f : ◌≡◌ {A = Option ℕ} (Some m) (Some k) = sym is ∙ here in cc) in omega (arith, e)) ],
+    λ k has. let (p, below, at) = has in elim (cut p k below at) [ inl under ↦ absurd (lowest k (p, under, at)) | inr here ↦ (let e : m ≡ k = (let f : ◌≡◌ {A = Option ℕ} (Some m) (Some k) = sym is ∙ here in cc) in omega (arith, e)) ],
   )
   lowest_next (Some m) None lowest is = (
     (lowest.0.0, omega (arith, lowest.0.1), lowest.0.2),
-    λ k (p, below, at). elim (cut p k below at) [ inl under ↦ lowest.1 k (p, under, at) | inr here ↦ absurd (let f : ◌≡◌ {A = Option ℕ} None (Some k) = sym is ∙ here in (let x : ⊥ = cc in x)) ],
+    λ k has. let (p, below, at) = has in elim (cut p k below at) [ inl under ↦ lowest.1 k (p, under, at) | inr here ↦ absurd (let f : ◌≡◌ {A = Option ℕ} None (Some k) = sym is ∙ here in (let x : ⊥ = cc in x)) ],
   )
   lowest_next (Some m) (Some j) lowest is = (
     elim (cases_lt j m) [
       | inl under ↦ (n, omega arith, is ∙ ap Some (let e : j ≡ min m j = omega (arith, under) in e))
       | inr from ↦ (lowest.0.0, omega (arith, lowest.0.1), lowest.0.2 ∙ ap Some (let e : m ≡ min m j = omega (arith, from) in e))
     ],
-    λ k (p, below, at). elim (cut p k below at) [
+    λ k has. let (p, below, at) = has in elim (cut p k below at) [
       | inl under ↦ let h : m ≤ k = lowest.1 k (p, under, at) in omega (arith, h)
       | inr here ↦ let e : j ≡ k = (let f : ◌≡◌ {A = Option ℕ} (Some j) (Some k) = sym is ∙ here in cc) in omega (arith, e)
     ],
   )
 
   pub lowest_all : (o : Option ℕ) → length places ≤ n → LowestBelow places n o → IsLowestOf (λ k. (p : ℕ) × (graft_at (place_of (place_at places p)) ≡ Some k)) o
-  lowest_all None all lowest k (p, at) = elim (cases_lt p n) [ inl below ↦ lowest k (p, below, at) | inr from ↦ behind p k from at ]
+  lowest_all None all lowest = λ k has. let (p, at) = has in elim (cases_lt p n) [ inl below ↦ lowest k (p, below, at) | inr from ↦ behind p k from at ]
     where
       behind : (p k : ℕ) → n ≤ p → graft_at (place_of (place_at places p)) ≡ Some k → ⊥
       behind p k from at = let f : ◌≡◌ {A = Option ℕ} None (Some k) = sym (ap (λ (x : Place). graft_at (place_of x)) (place_at_end places p (omega (arith, all, from)))) ∙ at in (let x : ⊥ = cc in x)
   lowest_all (Some m) all lowest = (
     (lowest.0.0, lowest.0.2),
-    λ k (p, at). elim (cases_lt p n) [
+    λ k has. let (p, at) = has in elim (cases_lt p n) [
       | inl below ↦ lowest.1 k (p, below, at)
       | inr from ↦ absurd (let f : ◌≡◌ {A = Option ℕ} None (Some k) = sym (ap (λ (x : Place). graft_at (place_of x)) (place_at_end places p (omega (arith, all, from)))) ∙ at in (let x : ⊥ = cc in x))
     ],
   )
+
+-- whether anything is in a set
+pub has_some : (s : Prefixes) (o : Option PrefixValue) (b : Bool) → o ≡ first_above None (map.keys s) → b ≡ is_some o → (b ≡ true) ↔ HasSome s
+has_some s o b is same = (
+  λ e. some_due s o is (sym same ∙ e),
+  λ some. by_flag (is_some o) refl some,
+)
+  where
+    by_flag : (c : Bool) → is_some o ≡ c → HasSome s → b ≡ true
+    by_flag true e some = same ∙ e
+    by_flag false e some = absurd (none_due s o is e some)

@@ -1,6 +1,6 @@
 //! What a router has left to do.
 
-ghost use Rattle.std.specs.Prelude.{ℕ, ◌≡◌, ◌≤◌, Option, Some, None, length, min, MatchBool};
+ghost use Rattle.std.specs.Prelude.{ℕ, ◌≡◌, ◌≤◌, Option, Some, None, length, min, option_map, MatchBool};
 ghost use Rattle.rib_stages.specs.Values.{table_at};
 ghost use Rattle.settled_check.specs.Firsts.{IsLowestOf};
 ghost use Rattle.settled_check.specs.Left.{HasSome, HasStream, graft_at as graft_lem};
@@ -98,6 +98,26 @@ pub(crate) fn nothing_left(number: RouterId) -> RouterRest {
     }
 }
 
+/// The router of a number, where there is one.
+fn router_of(number: Option<u8>) -> Option<RouterId>
+    ensures { option_map (λ q. q.0) result ≡ number }
+{
+    match number {
+        Some(number) => Some(RouterId(number)),
+        None => None,
+    }
+}
+
+/// The peering of a number, where there is one.
+fn peering_of(number: Option<u8>) -> Option<PeeringId>
+    ensures { option_map (λ p. p.0) result ≡ number }
+{
+    match number {
+        Some(number) => Some(PeeringId(number)),
+        None => None,
+    }
+}
+
 /// What is left to do.
 pub(crate) fn rest(router: &Fields) -> RouterRest
     requires { Keeps router.now }
@@ -106,9 +126,9 @@ pub(crate) fn rest(router: &Fields) -> RouterRest
     RouterRest {
         number: router.number,
         dirty: router.rib.next_dirty().is_some(),
-        due_in: first_due(&router.due_in).map(RouterId),
-        due_out: first_due(&router.due_out).map(PeeringId),
+        due_in: router_of(first_due(&router.due_in)),
+        due_out: peering_of(first_due(&router.due_out)),
         graft: lowest_graft(&router.places),
-        stream: first_stream(&router.places).map(PeeringId),
+        stream: peering_of(first_stream(&router.places)),
     }
 }
