@@ -9,6 +9,8 @@ use Rattle.std.specs.Ordering.{nat_cmp}
 use Rattle.bgp_types.specs.Prefixes.{PrefixValue, same_prefix}
 use Rattle.bgp_types.specs.Tables.{prefix_cmp}
 use Rattle.bgp_types.specs.Header.{frame_at}
+use Rattle.bgp_types.specs.declared.attrs.Route.{Route}
+use Rattle.route_policy.specs.declared.entry.Entry.{Entry}
 use Rattle.bgp_types.proofs.TableLaws.{prefix_total, exact_prefixes}
 use Rattle.bgp_story.specs.Legal.{IsGot, IsPeering}
 use Rattle.tcp_seq.specs.Endpoint.{bytes_in_order, run_from, fresh_endpoint}
@@ -180,12 +182,12 @@ none_unread config = ap (λ (entries : List (ℕ × ℕ)). run_from 0 entries) (
 all_read : (config : SessionConfig) → HasReadAll (begun config)
 all_read config unclosed front rest is got = none_got front rest (sym (none_unread config) ∙ is) got
 
-none_at : {A : Type 0} (x : PrefixValue) → is_some (map.get (let t : map.FinMap prefix_cmp A = map.empty in t) x) ≡ false
-none_at x = ap is_some (map.get-empty prefix_cmp x)
+none_at : (A : Type 0) (x : PrefixValue) → is_some (map.get (let t : map.FinMap prefix_cmp A = map.empty in t) x) ≡ false
+none_at A x = ap is_some (map.get-empty prefix_cmp x)
 
 keeps_from : (setup : Setup) (r p : ℕ) → IsSetup setup → (o : Option PeeringSetup) → slice_get setup.peerings p ≡ o → KeepsPlace setup r p map.empty map.empty (place_from r o)
 unfolding place_from
-keeps_from setup r p sound None is = (none_at, none_in)
+keeps_from setup r p sound None is = (none_at Entry, none_in)
 keeps_from setup r p sound (Some x) is = by_flag (x.start == r)
   where
     by_flag : (b : Bool) → KeepsPlace setup r p map.empty map.empty (if b then Live (begins x.config) None else Vacant)
@@ -199,7 +201,7 @@ keeps_from setup r p sound (Some x) is = by_flag (x.start == r)
       tt,
       λ y has_y. absurd (let e : ◌≡◌ {A = Bool} false true = sym (none_in y) ∙ has_y in let z : ⊥ = cc in z),
     )
-    by_flag false = (none_at, none_in)
+    by_flag false = (none_at Entry, none_in)
 
 -- there are first numbers for each peering
 no_more : {A : Type 0} (xs : List A) → slice_get xs (length xs) ≡ None
@@ -213,14 +215,14 @@ there_is (x ∷ xs) (suc n) below = there_is xs n (omega (arith, below))
 
 pub count_is : (setup : Setup) (firsts : List Firsts) → AreFirstsOf setup firsts → length firsts ≡ peerings_in setup
 count_is setup firsts are = elim (cases_lt (length firsts) (peerings_in setup)) [
-  | inl below ↦ absurd (let e : ◌≡◌ {A = Bool} false true = sym (ap (λ o. is_some (option_map (λ x. (x.home.0, x.remote.0)) o)) (no_more firsts)) ∙ ap is_some (are.each (length firsts) below) in let z : ⊥ = cc in z)
+  | inl below ↦ absurd (let e : ◌≡◌ {A = Bool} false true = sym (ap (λ (o : Option Firsts). is_some {T = ℕ × ℕ} (option_map (λ x. (x.home.0, x.remote.0)) o)) (no_more firsts)) ∙ ap is_some (are.each (length firsts) below) in let z : ⊥ = cc in z)
   | inr from ↦ elim (cases_lt (peerings_in setup) (length firsts)) [
     | inl above ↦ absurd (let e : ◌≡◌ {A = Bool} true false = sym (some_mapped (slice_get firsts (peerings_in setup)) (there_is firsts (peerings_in setup) above)) ∙ ap is_some (are.none (peerings_in setup) (omega arith)) in let z : ⊥ = cc in z)
     | inr to ↦ omega (arith, from, to)
   ]
 ]
   where
-    some_mapped : (o : Option Firsts) → is_some o ≡ true → is_some (option_map (λ (x : Firsts). (x.home.0, x.remote.0)) o) ≡ true
+    some_mapped : (o : Option Firsts) → is_some o ≡ true → is_some {T = ℕ × ℕ} (option_map (λ (x : Firsts). (x.home.0, x.remote.0)) o) ≡ true
     some_mapped None e = e
     some_mapped (Some x) e = refl
 
@@ -232,13 +234,11 @@ get_below (y ∷ xs) (suc i) x is = let h : i < length xs = get_below xs i x is 
 
 can_among : (count r : ℕ) (ps : List PeeringSetup) → ((i : ℕ) (x : PeeringSetup) → slice_get ps i ≡ Some x → CanBegin count x.config) → AllByRecursion (CanBegin count) (here r ps)
 can_among count r [] each = tt
-can_among count r (x ∷ ps) each = by_flag (x.start == r)
+can_among count r (x ∷ ps) each = by_flag (x.start == r) (can_among count r ps (λ i y is. each (suc i) y is))
   where
-    rest : AllByRecursion (CanBegin count) (here r ps)
-    rest = can_among count r ps (λ i y is. each (suc i) y is)
-    by_flag : (b : Bool) → AllByRecursion (CanBegin count) (list_map (λ y. y.config) (cond b (x ∷ filter (λ y. y.start == r) ps) (filter (λ y. y.start == r) ps)))
-    by_flag true = (each 0 x refl, rest)
-    by_flag false = rest
+    by_flag : (b : Bool) → AllByRecursion (CanBegin count) (here r ps) → AllByRecursion (CanBegin count) (list_map (λ y. y.config) (cond b (x ∷ filter (λ y. y.start == r) ps) (filter (λ y. y.start == r) ps)))
+    by_flag true rest = (each 0 x refl, rest)
+    by_flag false rest = rest
 
 pub can_begin : (setup : Setup) (r : ℕ) → IsSetup setup → AllByRecursion (CanBegin (peerings_in setup)) (starting_here setup r)
 can_begin setup r sound = can_among (peerings_in setup) r setup.peerings
@@ -333,7 +333,7 @@ module _ (f : Fields) (config : RouterConfig) (sound : IsSetup f.known.setup) (i
     places = begun.length ∙ count_is f.known.setup config.firsts is.firsts;
     due_in = in_count ∙ is.routers;
     due_out = out_count ∙ count_is f.known.setup config.firsts is.firsts;
-    tellings = λ q from x. ap (λ (v : RibValue). is_some (map.get (v.tellings q) x)) rib ∙ none_at x;
+    tellings = λ q from x. ap (λ (v : RibValue). is_some (map.get (v.tellings q) x)) rib ∙ none_at Route x;
     each = λ p. subst (λ (v : RibValue). KeepsPlace f.known.setup config.number.0 p (v.entries p) (table_at f.due_out p) (place_at f.places.items p)) (sym rib)
         (subst (λ (d : Prefixes). KeepsPlace f.known.setup config.number.0 p map.empty d (place_at f.places.items p)) (sym (out_none p))
         (subst (λ (x : Place). KeepsPlace f.known.setup config.number.0 p map.empty map.empty x) (sym (place_is p)) (keeps_from f.known.setup config.number.0 p sound (slice_get f.known.setup.peerings p) refl)));
