@@ -8,7 +8,8 @@ use Rattle.session_value.specs.Sets.{Prefixes, has}
 use Rattle.rib_stages.specs.Values.{table_at}
 use Rattle.rib_stages.proofs.Drops.{least_is, no_least_is}
 use Rattle.settled_check.specs.Firsts.{IsLowestOf}
-use Rattle.settled_check.specs.Left.{HasSome, HasStream, graft_at}
+use Rattle.settled_check.specs.Left.{HasGraft, HasSome, HasStream, graft_at}
+use Rattle.graft_model.specs.Parts.{RouterPart}
 use Rattle.router_core.specs.Places.{lower_of, place_of, place_at}
 use Rattle.router_core.specs.declared.place.Place.{Place}
 use Rattle.router_core.specs.declared.place.Place.TheVariants.{Vacant}
@@ -60,7 +61,7 @@ no_stream_behind places n k all from so = subst (λ (x : Place). HasStream (plac
 
 -- the lowest number of a graft at the first so many places
 abbrev pub LowestBelow : List Place → ℕ → Option ℕ → Type 0
-LowestBelow places n lowest = IsLowestOf (λ k. (p : ℕ) × ((p < n) × (graft_at (place_of (place_at places p)) ≡ Some k))) lowest
+LowestBelow places n lowest = IsLowestOf (λ k. (p : ℕ) × (p < n) × (graft_at (place_of (place_at places p)) ≡ Some k)) lowest
 
 pub lowest_first : (places : List Place) → LowestBelow places 0 None
 lowest_first places k has = let (p, below, is) = has in let x : ⊥ = omega (arith, below) in x
@@ -120,3 +121,7 @@ has_some s o b is same = (
     by_flag : (c : Bool) → is_some o ≡ c → HasSome s → b ≡ true
     by_flag true e some = same ∙ e
     by_flag false e some = absurd (none_due s o is e some)
+
+pub lowest_in : (part : RouterPart) (o : Option ℕ) → IsLowestOf (λ k. (p : ℕ) × (graft_at (part.places p) ≡ Some k)) o → IsLowestOf (HasGraft part) o
+lowest_in part None lowest = lowest
+lowest_in part (Some k) lowest = lowest
