@@ -125,7 +125,7 @@ begun_from r k (x ∷ ps) each zero =
 begun_from r k (x ∷ ps) each (suc i) =
     let first : x.config.peering.0 ≡ k + 0 = each 0 x refl in
     let rest : begun_at (here r ps) (k + suc i) ≡ place_from r (slice_get ps i) =
-        ap (begun_at (here r ps)) (let e : k + suc i ≡ k + 1 + i = omega arith in e) ∙ begun_from r (k + 1) ps (numbered_rest k x ps each) i in
+    ap (begun_at (here r ps)) (let e : k + suc i ≡ k + 1 + i = omega arith in e) ∙ begun_from r (k + 1) ps (numbered_rest k x ps each) i in
     elim (by_test (x.start == r)) [
       | inl e ↦
           starts r x ps (k + suc i) e

@@ -36,7 +36,7 @@ use Rattle.graft_model.specs.Parts.{RouterPart}
 use Rattle.graft_model.specs.Points.{at}
 use Rattle.graft_model.specs.RouterRows as rows
 use Rattle.graft_model.specs.RouterRows.{DueThen, FollowsHeard}
-use Rattle.graft_model.specs.Steps.{RouterEvent} 
+use Rattle.graft_model.specs.Steps.{RouterEvent}
 use Rattle.graft_model.specs.Steps as events
 use Rattle.graft_actors.specs.Emissions.{Tally}
 use Rattle.graft_actors.specs.Notes.{WroteOne}

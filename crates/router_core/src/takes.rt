@@ -10,8 +10,6 @@ mod prefixes;
 mod reads;
 mod segment;
 
-pub(crate) use reads::follow;
-
 ghost use Rattle.std.specs.Prelude.{OnOk};
 ghost use Rattle.ring_net.specs.Posts.{SameEdges};
 ghost use Rattle.router_core.specs.Parts.{Keeps};
@@ -21,6 +19,7 @@ use crate::fields::Fields;
 use bgp_session::Capsule;
 use graft_edge::NoMemory;
 use graft_steps::Item;
+pub(crate) use reads::follow;
 use ring_net::Post;
 
 /// Takes an item of the actor of this number.
