@@ -11,4 +11,5 @@ pub mod EachPlace
 pub mod LeaveSteps
 pub mod DecideSteps
 pub mod TellSteps
+pub mod BeginSteps
 pub mod TurnSteps

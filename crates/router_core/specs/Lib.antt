@@ -10,6 +10,7 @@ pub mod Sending
 pub mod Leaving
 pub mod Tellings
 pub mod Deciding
+pub mod Beginning
 pub mod Begins
 pub mod Takes
 pub mod Turned

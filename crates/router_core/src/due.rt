@@ -51,7 +51,7 @@ impl DueSets {
         ensures empty { IfOk result (λ due. (n : ℕ) → table_at due n ≡ map.empty) }
     {
         let mut sets = Vec::new(alloc);
-        for _ in 0..count {
+        for _n in 0..count {
             sets.push(TrieTable::new(alloc))?;
         }
         Ok(DueSets { sets })
@@ -67,7 +67,7 @@ impl DueSets {
     /// The set of a number, which there is.
     pub(crate) fn set(&self, n: usize) -> &TrieTable<()>
         requires { n < length self.now }
-        ensures { result.contents ≡ table_at self.now n }
+        ensures { result.now.contents ≡ table_at self.now n }
     {
         &self.sets[n]
     }
