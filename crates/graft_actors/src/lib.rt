@@ -3,11 +3,11 @@
 #![tactic(auto)]
 
 mod known;
-mod note;
 mod laws;
+mod notes;
 
 pub use known::Known;
-pub use note::{note, note_sent};
+pub use notes::{note, note_sent};
 pub use laws::{
     acts_are_events, far_sides_take_what_comes, routers_take_what_comes,
     the_operator_takes_what_comes,

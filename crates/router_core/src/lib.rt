@@ -12,3 +12,10 @@ mod takes;
 
 pub use config::{Firsts, NamedPolicy, Policies, RouterConfig};
 pub use router::Router;
+
+#[cfg(test)]
+mod tests {
+    use std::rt::HostRuntime;
+    #[test]
+    fn nothing(_rt: HostRuntime) {}
+}

@@ -1,0 +1,6 @@
+//! A part of `tell_plan`, for checks of what stands on it.
+#![tactic(auto)]
+
+mod batch;
+
+pub use batch::Batch;
