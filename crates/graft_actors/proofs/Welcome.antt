@@ -21,7 +21,7 @@ use Rattle.graft_model.specs.OperatorRows.{OperatorTaken, ReportIn}
 use Rattle.graft_model.specs.Taking.{RouterMayTake, FarMayTake, OperatorMayTake}
 use Rattle.graft_runs.specs.Actors.{RouterIs, FarIs, OperatorIs, Thing, MeshItem, OutwardItem, SegmentItem, OrderItem, ReportItem, StepItem, ActorName, Router, FarSide, Operator, actor_at}
 use Rattle.graft_runs.specs.Makes.{taken_by_router, taken_by_far, taken_by_operator}
-use Rattle.graft_actors.specs.Items.{thing_of, segment_of, segment_thing, IsSegmentOf}
+use Rattle.graft_actors.specs.Items.{thing_of, segment_of, segment_thing, IsOnItsWay, IsSegmentOf}
 use Rattle.graft_actors.specs.Acts.{OwnPart, IsWelcome, MayComeFrom, MayTakeFrom}
 
 -- ---- what a thing is that is taken
@@ -55,61 +55,61 @@ abbrev FromRouter : Option ActorName → Type 0
 FromRouter o = (r : ℕ) × (o ≡ Some (Router r))
 
 module _ {C : Type 0} (session : C → SessionValue) (setup : Setup) where
-  router_segment_comes : (r : ℕ) (g : Segment) (o : Option ActorName) → MayComeFrom {C = C} setup o (Router r) (items.Seg g) → (p : ℕ) × (o ≡ Some (FarSide p)) × IsSegmentOf setup p Home g
+  router_segment_comes : (r : ℕ) (g : Segment) (o : Option ActorName) → MayComeFrom session setup o (Router r) (items.Seg g) → (p : ℕ) × (o ≡ Some (FarSide p)) × IsSegmentOf setup p Home g
   router_segment_comes r g None m = absurd m
   router_segment_comes r g (Some (Router q)) m = absurd m
   router_segment_comes r g (Some (FarSide p)) m = (p, refl, m)
   router_segment_comes r g (Some Operator) m = absurd m
 
-  far_segment_comes : (p : ℕ) (g : Segment) (o : Option ActorName) → MayComeFrom {C = C} setup o (FarSide p) (items.Seg g) → (r : ℕ) × (o ≡ Some (Router r)) × IsSegmentOf setup p Remote g
+  far_segment_comes : (p : ℕ) (g : Segment) (o : Option ActorName) → MayComeFrom session setup o (FarSide p) (items.Seg g) → (r : ℕ) × (o ≡ Some (Router r)) × IsSegmentOf setup p Remote g
   far_segment_comes p g None m = absurd m
   far_segment_comes p g (Some (Router q)) m = (q, refl, m)
   far_segment_comes p g (Some (FarSide q)) m = absurd m
   far_segment_comes p g (Some Operator) m = absurd m
 
-  far_point_comes : (p k : ℕ) (o : Option ActorName) → MayComeFrom {C = C} setup o (FarSide p) (items.PointAt k) → FromRouter o
+  far_point_comes : (p k : ℕ) (o : Option ActorName) → MayComeFrom session setup o (FarSide p) (items.PointAt k) → FromRouter o
   far_point_comes p k None m = absurd m
   far_point_comes p k (Some (Router q)) m = (q, refl)
   far_point_comes p k (Some (FarSide q)) m = absurd m
   far_point_comes p k (Some Operator) m = absurd m
 
-  far_say_comes : (p n : ℕ) (o : Option ActorName) → MayComeFrom {C = C} setup o (FarSide p) (items.SayOrder n) → o ≡ Some Operator
+  far_say_comes : (p n : ℕ) (o : Option ActorName) → MayComeFrom session setup o (FarSide p) (items.SayOrder n) → o ≡ Some Operator
   far_say_comes p n None m = absurd m
   far_say_comes p n (Some (Router q)) m = absurd m
   far_say_comes p n (Some (FarSide q)) m = absurd m
   far_say_comes p n (Some Operator) m = refl
 
-  order_comes : (r k : ℕ) (peering : PeeringId) (target : RouterId) (o : Option ActorName) → MayComeFrom {C = C} setup o (Router r) (items.GraftOrder k peering target) → o ≡ Some Operator
+  order_comes : (r k : ℕ) (peering : PeeringId) (target : RouterId) (o : Option ActorName) → MayComeFrom session setup o (Router r) (items.GraftOrder k peering target) → o ≡ Some Operator
   order_comes r k peering target None m = absurd m
   order_comes r k peering target (Some (Router q)) m = absurd m
   order_comes r k peering target (Some (FarSide q)) m = absurd m
   order_comes r k peering target (Some Operator) m = refl
 
-  told_comes : (r : ℕ) (prefix : PrefixValue) (route : Option Route) (o : Option ActorName) → MayComeFrom {C = C} setup o (Router r) (items.Told prefix route) → FromRouter o
+  told_comes : (r : ℕ) (prefix : PrefixValue) (route : Option Route) (o : Option ActorName) → MayComeFrom session setup o (Router r) (items.Told prefix route) → FromRouter o
   told_comes r prefix route None m = absurd m
   told_comes r prefix route (Some (Router q)) m = (q, refl)
   told_comes r prefix route (Some (FarSide q)) m = absurd m
   told_comes r prefix route (Some Operator) m = absurd m
 
-  moved_comes : (r k : ℕ) (capsule : C) (o : Option ActorName) → MayComeFrom setup o (Router r) (items.Moved k capsule) → FromRouter o
+  moved_comes : (r k : ℕ) (capsule : C) (o : Option ActorName) → MayComeFrom session setup o (Router r) (items.Moved k capsule) → FromRouter o × IsOnItsWay setup (session capsule)
   moved_comes r k capsule None m = absurd m
-  moved_comes r k capsule (Some (Router q)) m = (q, refl)
+  moved_comes r k capsule (Some (Router q)) m = ((q, refl), m)
   moved_comes r k capsule (Some (FarSide q)) m = absurd m
   moved_comes r k capsule (Some Operator) m = absurd m
 
-  back_comes : (r k : ℕ) (capsule : C) (refusal : Refusal) (o : Option ActorName) → MayComeFrom setup o (Router r) (items.Back k capsule refusal) → FromRouter o
+  back_comes : (r k : ℕ) (capsule : C) (refusal : Refusal) (o : Option ActorName) → MayComeFrom session setup o (Router r) (items.Back k capsule refusal) → FromRouter o × IsOnItsWay setup (session capsule)
   back_comes r k capsule refusal None m = absurd m
-  back_comes r k capsule refusal (Some (Router q)) m = (q, refl)
+  back_comes r k capsule refusal (Some (Router q)) m = ((q, refl), m)
   back_comes r k capsule refusal (Some (FarSide q)) m = absurd m
   back_comes r k capsule refusal (Some Operator) m = absurd m
 
-  done_comes : (r k : ℕ) (peering : PeeringId) (o : Option ActorName) → MayComeFrom {C = C} setup o (Router r) (items.Done k peering) → FromRouter o
+  done_comes : (r k : ℕ) (peering : PeeringId) (o : Option ActorName) → MayComeFrom session setup o (Router r) (items.Done k peering) → FromRouter o
   done_comes r k peering None m = absurd m
   done_comes r k peering (Some (Router q)) m = (q, refl)
   done_comes r k peering (Some (FarSide q)) m = absurd m
   done_comes r k peering (Some Operator) m = absurd m
 
-  report_comes : (k : ℕ) (outcome : Outcome) (o : Option ActorName) → MayComeFrom {C = C} setup o Operator (items.Report k outcome) → FromRouter o
+  report_comes : (k : ℕ) (outcome : Outcome) (o : Option ActorName) → MayComeFrom session setup o Operator (items.Report k outcome) → FromRouter o
   report_comes k outcome None m = absurd m
   report_comes k outcome (Some (Router q)) m = (q, refl)
   report_comes k outcome (Some (FarSide q)) m = absurd m
@@ -139,10 +139,10 @@ module _ {C : Type 0} (session : C → SessionValue) (setup : Setup) where
 
   module _ (n : ℕ) where
     -- from whom it comes, with what is asked of the actor's part
-    welcome : (own : OwnPart) (item : Item C) (from : ActorName) → own.setup ≡ setup → actor_at setup n ≡ Some from → MayComeFrom setup (Some from) own.name item
+    welcome : (own : OwnPart) (item : Item C) (from : ActorName) → own.setup ≡ setup → actor_at setup n ≡ Some from → MayComeFrom session setup (Some from) own.name item
         → MayTakeFrom setup own.name own.part (Some from) (thing_of session setup item) → IsWelcome session own n item
     welcome own item from same e comes takes = record {
-      comes = subst (λ (s : Setup). MayComeFrom s (actor_at s n) own.name item) (sym same) (subst (λ (o : Option ActorName). MayComeFrom setup o own.name item) (sym e) comes);
+      comes = subst (λ (s : Setup). MayComeFrom session s (actor_at s n) own.name item) (sym same) (subst (λ (o : Option ActorName). MayComeFrom session setup o own.name item) (sym e) comes);
       takes = subst (λ (s : Setup). MayTakeFrom s own.name own.part (actor_at s n) (thing_of session s item)) (sym same) (subst (λ (o : Option ActorName). MayTakeFrom setup own.name own.part o (thing_of session setup item)) (sym e) takes);
     }
 
@@ -194,29 +194,30 @@ module _ {C : Type 0} (session : C → SessionValue) (setup : Setup) where
 
     pub router_moved : (r k : ℕ) (part : RouterPart) (capsule : C)
         → IsWelcome session (record { setup = setup; name = Router r; part = RouterIs part }) n (items.Moved k capsule)
-        ↔ (((q : ℕ) × (actor_at setup n ≡ Some (Router q))) × ((session capsule).config.peering.0 < peerings_in setup) × (part.places (session capsule).config.peering.0 ≡ Vacant))
+        ↔ (((q : ℕ) × (actor_at setup n ≡ Some (Router q))) × IsOnItsWay setup (session capsule) × ((session capsule).config.peering.0 < peerings_in setup) × (part.places (session capsule).config.peering.0 ≡ Vacant))
     router_moved r k part capsule = (
       (λ w. let may = takes_mesh (((session capsule).config.peering.0 < peerings_in setup) × (part.places (session capsule).config.peering.0 ≡ Vacant)) r part (Moved k (session capsule).config.peering.0 (session capsule)) (actor_at setup n) (λ q may. may) w.takes in
-          (moved_comes r k capsule (actor_at setup n) w.comes, may.0, may.1)),
+          let comes = moved_comes r k capsule (actor_at setup n) w.comes in (comes.0, comes.1, may.0, may.1)),
       back,
     ) where
-      back : (((q : ℕ) × (actor_at setup n ≡ Some (Router q))) × ((session capsule).config.peering.0 < peerings_in setup) × (part.places (session capsule).config.peering.0 ≡ Vacant))
+      back : (((q : ℕ) × (actor_at setup n ≡ Some (Router q))) × IsOnItsWay setup (session capsule) × ((session capsule).config.peering.0 < peerings_in setup) × (part.places (session capsule).config.peering.0 ≡ Vacant))
           → IsWelcome session (record { setup = setup; name = Router r; part = RouterIs part }) n (items.Moved k capsule)
-      back ((q, e), known, vacant) = welcome (record { setup = setup; name = Router r; part = RouterIs part }) (items.Moved k capsule) (Router q) refl e tt (MeshIn q (Moved k (session capsule).config.peering.0 (session capsule)), refl, (known, vacant))
+      back ((q, e), way, known, vacant) = welcome (record { setup = setup; name = Router r; part = RouterIs part }) (items.Moved k capsule) (Router q) refl e way (MeshIn q (Moved k (session capsule).config.peering.0 (session capsule)), refl, (known, vacant))
 
     pub router_back : (r k : ℕ) (part : RouterPart) (capsule : C) (refusal : Refusal)
         → IsWelcome session (record { setup = setup; name = Router r; part = RouterIs part }) n (items.Back k capsule refusal)
-        ↔ (((q : ℕ) × (actor_at setup n ≡ Some (Router q))) × (part.places (session capsule).config.peering.0 ≡ Shadow k))
+        ↔ (((q : ℕ) × (actor_at setup n ≡ Some (Router q))) × IsOnItsWay setup (session capsule) × (part.places (session capsule).config.peering.0 ≡ Shadow k))
     router_back r k part capsule refusal = (
-      (λ w. (
-        back_comes r k capsule refusal (actor_at setup n) w.comes,
+      (λ w. let comes = back_comes r k capsule refusal (actor_at setup n) w.comes in (
+        comes.0,
+        comes.1,
         takes_mesh (part.places (session capsule).config.peering.0 ≡ Shadow k) r part (Back k (session capsule).config.peering.0 (session capsule) refusal) (actor_at setup n) (λ q may. may) w.takes,
       )),
       back,
     ) where
-      back : (((q : ℕ) × (actor_at setup n ≡ Some (Router q))) × (part.places (session capsule).config.peering.0 ≡ Shadow k))
+      back : (((q : ℕ) × (actor_at setup n ≡ Some (Router q))) × IsOnItsWay setup (session capsule) × (part.places (session capsule).config.peering.0 ≡ Shadow k))
           → IsWelcome session (record { setup = setup; name = Router r; part = RouterIs part }) n (items.Back k capsule refusal)
-      back ((q, e), may) = welcome (record { setup = setup; name = Router r; part = RouterIs part }) (items.Back k capsule refusal) (Router q) refl e tt (MeshIn q (Back k (session capsule).config.peering.0 (session capsule) refusal), refl, may)
+      back ((q, e), way, may) = welcome (record { setup = setup; name = Router r; part = RouterIs part }) (items.Back k capsule refusal) (Router q) refl e way (MeshIn q (Back k (session capsule).config.peering.0 (session capsule) refusal), refl, may)
 
     pub router_done : (r k : ℕ) (part : RouterPart) (peering : PeeringId)
         → IsWelcome session (record { setup = setup; name = Router r; part = RouterIs part }) n (items.Done k peering)

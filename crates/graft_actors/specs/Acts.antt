@@ -23,9 +23,9 @@ pub record OwnPart : Type 0 where
 -- ---- what it may take
 
 -- the actor of this number is there and may send the item to this one
-abbrev pub MayComeFrom : {C : Type 0} → Setup → Option ActorName → ActorName → Item C → Type 0
-MayComeFrom setup None to item = ⊥
-MayComeFrom setup (Some from) to item = MayGo setup from to item
+abbrev pub MayComeFrom : {C : Type 0} (session : C → SessionValue) → Setup → Option ActorName → ActorName → Item C → Type 0
+MayComeFrom session setup None to item = ⊥
+MayComeFrom session setup (Some from) to item = MayGo session setup from to item
 
 -- the actor can take this from that one, as it stands
 abbrev pub MayTake : Setup → ActorName → ActorPart → ActorName → Thing → Type 0
@@ -41,7 +41,7 @@ MayTakeFrom setup name part (Some from) thing = MayTake setup name part from thi
 module _ {C : Type 0} (session : C → SessionValue) where
   -- an item that the actor takes, from the actor of this number
   pub record IsWelcome (own : OwnPart) (from : ℕ) (item : Item C) : Type 0 where
-    pub comes : MayComeFrom own.setup (actor_at own.setup from) own.name item
+    pub comes : MayComeFrom session own.setup (actor_at own.setup from) own.name item
     pub takes : MayTakeFrom own.setup own.name own.part (actor_at own.setup from) (thing_of session own.setup item)
 
   -- what is taken is welcome, if anything is
@@ -51,7 +51,7 @@ module _ {C : Type 0} (session : C → SessionValue) where
 
   -- what is sent may go where it is sent
   abbrev pub SendsFit : OwnPart → List (ℕ × Item C) → Type 0
-  SendsFit own sent = AllByRecursion (λ x. (to : ActorName) × (actor_at own.setup x.0 ≡ Some to) × MayGo own.setup own.name to x.1) sent
+  SendsFit own sent = AllByRecursion (λ x. (to : ActorName) × (actor_at own.setup x.0 ≡ Some to) × MayGo session own.setup own.name to x.1) sent
 
   abbrev pub things : Setup → List (ℕ × Item C) → List (ℕ × Thing)
   things setup sent = map (λ x. (x.0, thing_of session setup x.1)) sent

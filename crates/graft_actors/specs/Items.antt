@@ -8,7 +8,8 @@ use Rattle.tcp_seq.specs.Endpoint.{PlacedSegment, IsInStreams}
 use Rattle.tcp_seq.specs.Placed.{placed}
 use Rattle.graft_steps.specs.declared.item.Item.{Item}
 use Rattle.graft_steps.specs.declared.item.Item.TheVariants as items
-use Rattle.session_value.specs.Sessions.{SessionValue}
+use Rattle.bgp_types.specs.declared.message.SessionState.TheVariants.{Established}
+use Rattle.session_value.specs.Sessions.{SessionValue, state}
 use Rattle.graft_model.specs.Setups.{Setup, config_of}
 use Rattle.graft_model.specs.Parts.{Told, Moved, Back, Done, Seg, PointAt}
 use Rattle.graft_runs.specs.Actors.{Thing, MeshItem, OutwardItem, SegmentItem, OrderItem, ReportItem, StepItem, ActorName, Router, FarSide, Operator}
@@ -54,17 +55,23 @@ pub record IsSegmentOf (setup : Setup) (p : ℕ) (side : Way) (g : Segment) : Ty
   pub len : length g.bytes < 2 ^ 16
   pub placed : IsInStreams (segment_of setup g)
 
--- An item may go from one actor to another: between routers what they tell, sessions that move and word of landings; between a router and a far side
+-- A session that is on its way is established, and its streams have the first numbers of its peering.
+pub record IsOnItsWay (setup : Setup) (session : SessionValue) : Type 0 where
+  pub established : state session ≡ Established
+  pub sends : session.config.send_first.0 ≡ home_first setup session.config.peering.0
+  pub receives : session.config.receive_first.0 ≡ remote_first setup session.config.peering.0
+
+-- An item may go from one actor to another: between routers what they tell, sessions on their way and word of landings; between a router and a far side
 -- segments of its peering, and to it word of landings; from the operator orders, and to it reports.
-abbrev pub MayGo : {C : Type 0} → Setup → ActorName → ActorName → Item C → Type 0
-MayGo setup (Router q) (Router r) (items.Told prefix route) = Unit {0}
-MayGo setup (Router q) (Router r) (items.Moved k capsule) = Unit {0}
-MayGo setup (Router q) (Router r) (items.Back k capsule refusal) = Unit {0}
-MayGo setup (Router q) (Router r) (items.Done k peering) = Unit {0}
-MayGo setup (Router r) (FarSide p) (items.Seg g) = IsSegmentOf setup p Remote g
-MayGo setup (Router r) (FarSide p) (items.PointAt k) = Unit {0}
-MayGo setup (FarSide p) (Router r) (items.Seg g) = IsSegmentOf setup p Home g
-MayGo setup (Router r) Operator (items.Report k outcome) = Unit {0}
-MayGo setup Operator (Router r) (items.GraftOrder k peering target) = Unit {0}
-MayGo setup Operator (FarSide p) (items.SayOrder step) = Unit {0}
-MayGo setup from to item = ⊥
+abbrev pub MayGo : {C : Type 0} (session : C → SessionValue) → Setup → ActorName → ActorName → Item C → Type 0
+MayGo session setup (Router q) (Router r) (items.Told prefix route) = Unit {0}
+MayGo session setup (Router q) (Router r) (items.Moved k capsule) = IsOnItsWay setup (session capsule)
+MayGo session setup (Router q) (Router r) (items.Back k capsule refusal) = IsOnItsWay setup (session capsule)
+MayGo session setup (Router q) (Router r) (items.Done k peering) = Unit {0}
+MayGo session setup (Router r) (FarSide p) (items.Seg g) = IsSegmentOf setup p Remote g
+MayGo session setup (Router r) (FarSide p) (items.PointAt k) = Unit {0}
+MayGo session setup (FarSide p) (Router r) (items.Seg g) = IsSegmentOf setup p Home g
+MayGo session setup (Router r) Operator (items.Report k outcome) = Unit {0}
+MayGo session setup Operator (Router r) (items.GraftOrder k peering target) = Unit {0}
+MayGo session setup Operator (FarSide p) (items.SayOrder step) = Unit {0}
+MayGo session setup from to item = ⊥

@@ -17,7 +17,7 @@ ghost use Rattle.graft_model.specs.Setups.{Setup, SayStep, routers_in, peerings_
 ghost use Rattle.graft_model.specs.Parts.{RouterPart, FarPart, OperatorPart, Vacant, Live, Shadow};
 ghost use Rattle.graft_runs.specs.Actors.{RouterIs, FarIs, OperatorIs, Router, FarSide, Operator, actor_at};
 ghost use Rattle.graft_runs.specs.Makes.{makes};
-ghost use Rattle.graft_actors.specs.Items.{thing_of, IsSegmentOf};
+ghost use Rattle.graft_actors.specs.Items.{thing_of, IsOnItsWay, IsSegmentOf};
 ghost use Rattle.graft_actors.specs.Acts.{OwnPart, IsWelcome, TakesWelcome, ActsAs, things};
 
 /// What an actor of this number does with an item that is welcome, or with none, is an event by its row in the model. The entry of a dropped item alone has kind 0.
@@ -30,8 +30,8 @@ pub fn acts_are_events<C>()
 {}
 
 /// A router takes the segments of a far side that are of its peering; from the operator the order of a graft for a session that is live here, without
-/// a stored graft, to one of the routers; and from another router what it tells, a session of the laboratory's of which nothing is here, and a
-/// session that comes back, or word of a landing, where its shadow is here for that graft.
+/// a stored graft, to one of the routers; and from another router what it tells, a session of the laboratory's of which nothing is here, a session that
+/// comes back where its shadow is here for that graft, both as sessions on their way are, and word of a landing where its shadow is here for that graft.
 pub fn routers_take_what_comes<C>()
     ensures segment { (session : C → SessionValue) (setup : Setup) (r n : ℕ) (part : RouterPart) (g : Segment)
         → IsWelcome session (record { setup = setup; name = Router r; part = RouterIs part }) n (items.Seg g)
@@ -44,10 +44,10 @@ pub fn routers_take_what_comes<C>()
         ↔ ((q : ℕ) × (actor_at setup n ≡ Some (Router q))) }
     ensures moved { (session : C → SessionValue) (setup : Setup) (r n k : ℕ) (part : RouterPart) (capsule : C)
         → IsWelcome session (record { setup = setup; name = Router r; part = RouterIs part }) n (items.Moved k capsule)
-        ↔ (((q : ℕ) × (actor_at setup n ≡ Some (Router q))) × ((session capsule).config.peering.0 < peerings_in setup) × (part.places (session capsule).config.peering.0 ≡ Vacant)) }
+        ↔ (((q : ℕ) × (actor_at setup n ≡ Some (Router q))) × IsOnItsWay setup (session capsule) × ((session capsule).config.peering.0 < peerings_in setup) × (part.places (session capsule).config.peering.0 ≡ Vacant)) }
     ensures back { (session : C → SessionValue) (setup : Setup) (r n k : ℕ) (part : RouterPart) (capsule : C) (refusal : Refusal)
         → IsWelcome session (record { setup = setup; name = Router r; part = RouterIs part }) n (items.Back k capsule refusal)
-        ↔ (((q : ℕ) × (actor_at setup n ≡ Some (Router q))) × (part.places (session capsule).config.peering.0 ≡ Shadow k)) }
+        ↔ (((q : ℕ) × (actor_at setup n ≡ Some (Router q))) × IsOnItsWay setup (session capsule) × (part.places (session capsule).config.peering.0 ≡ Shadow k)) }
     ensures done { (session : C → SessionValue) (setup : Setup) (r n k : ℕ) (part : RouterPart) (peering : PeeringId)
         → IsWelcome session (record { setup = setup; name = Router r; part = RouterIs part }) n (items.Done k peering)
         ↔ (((q : ℕ) × (actor_at setup n ≡ Some (Router q))) × (part.places peering.0 ≡ Shadow k)) }

@@ -16,7 +16,7 @@ use Rattle.graft_model.specs.Slices.{EmitsAt}
 use Rattle.graft_model.specs.Setups.{Setup}
 use Rattle.graft_model.specs.Parts.{Order, Place, Live, Frozen, Shadow, Vacant, RouterPart, Entries, Told, Moved, Back, Done, Seg, PointAt}
 use Rattle.graft_model.specs.Decisions.{chosen}
-use Rattle.graft_model.specs.RouterRows.{RouterTaken, OrderIn, SegmentIn, MeshIn, RouterSent, MeshTo, OutwardTo, ReportOut, PutsNothing, Emits, Arrives, Strays, GetsNext, Ticks, Follows, BringsIn}
+use Rattle.graft_model.specs.RouterRows.{RouterTaken, OrderIn, SegmentIn, MeshIn, RouterSent, MeshTo, OutwardTo, ReportOut, PutsNothing, Emits, Arrives, Strays, GetsNext, Ticks, Follows, FollowsHeard, BringsIn}
 use Rattle.graft_model.specs.TableRows.{Decides, Tells, Hears, DueEverywhere, with_telling}
 use Rattle.graft_model.specs.GraftRows.{Admits, Refuses, Freezes, Leaves, Lands, TurnsBack, Returns, Clears, DueAgain, refusal_of}
 use Rattle.graft_model.specs.Steps.{RouterEvent, Put, Emit, Arrive, Stray, Got, Decide, Tell, Hear, Admit, Refuse, Freeze, Leave, Land, TurnBack, Return, Clear, Tick, router_row}
@@ -71,9 +71,15 @@ module _ (setup : Setup) (r : ℕ) (before a b : RouterPart) (taken : Option Rou
   abbrev followed : ℕ → SessionValue → Option Order → Entries → Prefixes → Prefixes → RouterPart
   followed p s o entries dirty due = record before { places = at before.places p (Live s o); entries = at before.entries p entries; dirty = dirty; due_out = at before.due_out p due }
 
+  one_entry : (p : ℕ) (s n : SessionValue) (x : PrefixValue) → FollowsHeard setup r s n (before.entries p) (a.entries p) x → FollowsHeard setup r s n (before.entries p) (b.entries p) x → map.get (b.entries p) x ≡ map.get (a.entries p) x
+  one_entry p s n x (inl y) (inl z) = z.1 ∙ sym y.1
+  one_entry p s n x (inl y) (inr z) = absurd (z.0 y.0)
+  one_entry p s n x (inr y) (inl z) = absurd (y.0 z.0)
+  one_entry p s n x (inr y) (inr z) = z.1 ∙ sym y.1
+
   one_follows : (p : ℕ) (s n : SessionValue) (o : Option Order) → Follows setup r p before s n o a → Follows setup r p before s n o b → b ≡ a
   one_follows p s n o x y =
-      let e : b.entries p ≡ a.entries p = same_table (b.entries p) (a.entries p) (λ q. y.entries q ∙ sym (x.entries q)) in
+      let e : b.entries p ≡ a.entries p = same_table (b.entries p) (a.entries p) (λ q. one_entry p s n q (x.entries q) (y.entries q)) in
       let d : b.dirty ≡ a.dirty = same_marks before.dirty b.dirty a.dirty (before.entries p) (a.entries p) (subst (λ (z : Entries). Marks before.dirty (before.entries p) z b.dirty) e y.dirty) x.dirty in
       let u : b.due_out p ≡ a.due_out p = same_due (state s) (state n) before.best (before.due_out p) (b.due_out p) (a.due_out p) y.due x.due in
       y.effect ∙ (ap (λ (z : Entries). followed p n o z b.dirty (b.due_out p)) e ∙ (ap (λ (z : Prefixes). followed p n o (a.entries p) z (b.due_out p)) d ∙ (ap (λ (z : Prefixes). followed p n o (a.entries p) a.dirty z) u ∙ sym x.effect)))

@@ -1,6 +1,6 @@
 -- The events of a router on its sessions: messages, segments and rounds (RFC 4271, sections 6, 8.2.2 and 9.2; RFC 9293, section 3.4).
 -- Each row says what the event takes, what it sends, and the router's part after it; what isn't named stays.
-use Rattle.std.specs.Prelude.{◌≡◌, ◌≢◌, ℕ, List, [], ◌∷◌, ◌++◌, length, Option, Some, None, true, false, is_some, not}
+use Rattle.std.specs.Prelude.{◌≡◌, ◌≢◌, ◌⊎◌, ℕ, List, [], ◌∷◌, ◌++◌, length, Option, Some, None, true, false, is_some, not}
 use Rattle.std.specs.FinMap as map
 use Rattle.std.specs.List.{list_any}
 use Rattle.std.specs.Ordering.{is_lt}
@@ -131,9 +131,15 @@ DueThen OpenConfirm Established best before after = (x : PrefixValue) → has af
 DueThen from Closed best before after = (x : PrefixValue) → has after x ≡ false
 DueThen from to best before after = after ≡ before
 
--- a session changed by itself: its entries are what it brings in now, and the prefixes whose entries changed are dirty
+-- The entry of a prefix follows its session: where another route is heard than before, or none any more, it is what the session brings in now; else it stays.
+abbrev pub FollowsHeard : Setup → ℕ → SessionValue → SessionValue → Entries → Entries → PrefixValue → Type 0
+FollowsHeard setup r session next before after x =
+    ((map.get next.heard x ≡ map.get session.heard x) × (map.get after x ≡ map.get before x))
+    ⊎ ((map.get next.heard x ≢ map.get session.heard x) × (map.get after x ≡ entry_of setup r next x))
+
+-- a session changed by itself: its entries follow it, and the prefixes whose entries changed are dirty
 pub record Follows (setup : Setup) (r p : ℕ) (before : RouterPart) (session next : SessionValue) (order : Option Order) (after : RouterPart) : Type 0 where
-  pub entries : BringsIn setup r next (after.entries p)
+  pub entries : (x : PrefixValue) → FollowsHeard setup r session next (before.entries p) (after.entries p) x
   pub dirty : Marks before.dirty (before.entries p) (after.entries p) after.dirty
   pub due : DueThen (state session) (state next) before.best (before.due_out p) (after.due_out p)
   pub effect : after ≡ record before {
