@@ -107,7 +107,7 @@ pub record Sends (f : Fields) (to : ℕ) (item : Item RunningSession) (sent : Ro
   pub known : IsActor f.known.setup name
   pub number : to ≡ number_in f.known.setup name
   pub thing : sent_by_router sent ≡ (name, thing_of carried f.known.setup item)
-  pub may : MayGo f.known.setup (Router f.number.0) name item
+  pub may : MayGo carried f.known.setup (Router f.number.0) name item
 
 sends_name : (f : Fields) (to : ℕ) (item : Item RunningSession) (sent : RouterSent) → Sends f to item sent → IsActor f.known.setup (sent_by_router sent).0
 sends_name f to item sent s = subst (λ (x : ActorName × Thing). IsActor f.known.setup x.0) (sym s.thing) s.known
@@ -115,7 +115,7 @@ sends_name f to item sent s = subst (λ (x : ActorName × Thing). IsActor f.know
 sends_at : (f : Fields) (to : ℕ) (item : Item RunningSession) (sent : RouterSent) (s : Sends f to item sent) → actor_at f.known.setup to ≡ Some s.name
 sends_at f to item sent s = ap (actor_at f.known.setup) s.number ∙ there f.known.setup s.name s.known
 
-sends_is : (f : Fields) (to : ℕ) (item : Item RunningSession) (sent : RouterSent) → Sends f to item sent → (to, thing_of carried f.known.setup item) ≡ (number_in f.known.setup (sent_by_router sent).0, (sent_by_router sent).1)
+sends_is : (f : Fields) (to : ℕ) (item : Item RunningSession) (sent : RouterSent) → Sends f to item sent → ◌≡◌ {A = ℕ × Thing} (to, thing_of carried f.known.setup item) (number_in f.known.setup (sent_by_router sent).0, (sent_by_router sent).1)
 sends_is f to item sent s = λ i. (
   (s.number ∙ sym (ap (λ (x : ActorName × Thing). number_in f.known.setup x.0) s.thing)) i,
   sym (ap (λ (x : ActorName × Thing). x.1) s.thing) i,

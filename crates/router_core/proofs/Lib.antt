@@ -1,1 +1,11 @@
 pub mod Dids
+pub mod Kept
+pub mod Takings
+pub mod HearSteps
+pub mod GraftSteps
+pub mod EnterSteps
+pub mod PrefixSets
+pub mod PlaceTests
+pub mod DueTables
+pub mod ReadSteps
+pub mod ReadRows

@@ -39,9 +39,9 @@ entry_here home_as policies session prefix = option_map
     (imported home_as prefix (route_here policies session prefix) (map.get session.heard prefix))
 
 -- It is given for this prefix.
-pub record IsBrought (home_as : ℕ) (policies : List NamedPolicy) (session : SessionValue) (prefix : PrefixValue) (entry : InEntry) : Type 0 where
-  pub prefix : entry.prefix ≡ prefix
-  pub given : given entry ≡ entry_here home_as policies session prefix
+pub record IsBrought (home_as : ℕ) (policies : List NamedPolicy) (session : SessionValue) (x : PrefixValue) (entry : InEntry) : Type 0 where
+  pub prefix : entry.prefix ≡ x
+  pub gives : given entry ≡ entry_here home_as policies session x
 
 -- A peering has these values for the prefixes of a list, and what it had for the others. The prefixes whose entries changed are dirty.
 pub record EntersAll (before : RibValue) (p : ℕ) (values : PrefixValue → Option Entry) (prefixes : List PrefixValue) (after : RibValue) : Type 0 where

@@ -7,9 +7,7 @@ pub mod Rested
 pub mod Stages
 pub mod Begins
 pub mod Takes
-pub mod OnItsWay
 pub mod Entering
 pub mod Reading
 pub mod Turned
 pub mod FieldProps
-pub mod Routers

@@ -29,10 +29,10 @@ pub record IsFree (place : Place) : Type 0 where
   pub is : place ≡ Live session None
 
 -- a session has left there in this graft
-pub record IsAway (place : Place) (graft : ℕ) : Type 0 where
+pub record IsAway (place : Place) (k : ℕ) : Type 0 where
   pub away : GraftIds
   pub is : place ≡ Shadow away
-  pub graft : away.graft ≡ graft
+  pub graft : away.graft ≡ k
 
 -- the lower of two numbers, where there are any
 abbrev pub lower_of : Option ℕ → Option ℕ → Option ℕ

@@ -5,17 +5,6 @@ mod config;
 mod due;
 mod fields;
 mod place;
-mod rest;
-mod router;
-mod stages;
 mod takes;
 
 pub use config::{Firsts, NamedPolicy, Policies, RouterConfig};
-pub use router::Router;
-
-#[cfg(test)]
-mod tests {
-    use std::rt::HostRuntime;
-    #[test]
-    fn nothing(_rt: HostRuntime) {}
-}

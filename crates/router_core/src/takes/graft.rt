@@ -5,7 +5,7 @@ ghost use Rattle.std.specs.Result.{result_err};
 ghost use Rattle.ring_net.specs.Posts.{SameEdges};
 ghost use Rattle.graft_steps.specs.declared.item.Item.TheVariants as items;
 ghost use Rattle.graft_model.specs.GraftRows.{refusal_of};
-ghost use Rattle.router_core.specs.OnItsWay.{IsOnItsWay};
+ghost use Rattle.graft_actors.specs.Items.{IsOnItsWay};
 ghost use Rattle.router_core.specs.Parts.{Keeps, router_part};
 ghost use Rattle.router_core.specs.Takes.{TakesIt};
 
@@ -28,7 +28,7 @@ use session_value::SessionConfig;
 /// Whether a session on its way is established and has the first numbers of its peering.
 fn is_on_its_way(router: &Fields, capsule: &Capsule) -> bool
     requires { Keeps router.now }
-    ensures { MatchBool result (IsOnItsWay router.now.known.setup capsule.now.session.config.peering.0 capsule.now.session) (¬ IsOnItsWay router.now.known.setup capsule.now.session.config.peering.0 capsule.now.session) }
+    ensures { MatchBool result (IsOnItsWay router.now.known.setup capsule.now.session) (¬ IsOnItsWay router.now.known.setup capsule.now.session) }
 {
     let config = capsule.config();
     let Some(firsts) = router.firsts.get(usize::from(config.peering.0)) else {
@@ -125,10 +125,16 @@ pub(crate) fn take_moved(
 {
     let peering = capsule.config().peering;
     let place = usize::from(peering.0);
-    if from >= router.routers as usize || place >= router.places.len() {
+    if from >= router.routers as usize {
         return note(post, DROPPED, 0, 0, 0);
     }
-    if !router.places[place].is_vacant() || !is_on_its_way(router, &capsule) {
+    if place >= router.places.len() {
+        return note(post, DROPPED, 0, 0, 0);
+    }
+    if !router.places[place].is_vacant() {
+        return note(post, DROPPED, 0, 0, 0);
+    }
+    if !is_on_its_way(router, &capsule) {
         return note(post, DROPPED, 0, 0, 0);
     }
     if let Some(refusal) = admission(router, capsule.config())? {
@@ -160,10 +166,16 @@ pub(crate) fn take_back(
 {
     let peering = capsule.config().peering;
     let place = usize::from(peering.0);
-    if from >= router.routers as usize || place >= router.places.len() {
+    if from >= router.routers as usize {
         return note(post, DROPPED, 0, 0, 0);
     }
-    if !router.places[place].is_away(graft) || !is_on_its_way(router, &capsule) {
+    if place >= router.places.len() {
+        return note(post, DROPPED, 0, 0, 0);
+    }
+    if !router.places[place].is_away(graft) {
+        return note(post, DROPPED, 0, 0, 0);
+    }
+    if !is_on_its_way(router, &capsule) {
         return note(post, DROPPED, 0, 0, 0);
     }
     let operator = router.routers as usize + router.places.len();
@@ -189,7 +201,10 @@ pub(crate) fn take_done(
     ensures took { OnOk result (TakesIt from (items.Done graft peering) router.old post.old router.new post.new) }
 {
     let place = usize::from(peering.0);
-    if from >= router.routers as usize || place >= router.places.len() {
+    if from >= router.routers as usize {
+        return note(post, DROPPED, 0, 0, 0);
+    }
+    if place >= router.places.len() {
         return note(post, DROPPED, 0, 0, 0);
     }
     if !router.places[place].is_away(graft) {

@@ -24,8 +24,8 @@ fn import(
     prefix: Prefix,
     heard: Option<&Attrs>,
 ) -> Result<Option<Route>, NoMemory>
-    ensures { (session : SessionRoute) → session.import_rules ≡ option_copied policy → session.remote_as ≡ remote_as
-        → IfOk result (λ route. route ≡ imported home_as prefix session (option_copied heard)) }
+    ensures { (session : SessionRoute) → session.import_rules ≡ option_copied policy.entry → session.remote_as ≡ remote_as
+        → IfOk result (λ route. route ≡ imported home_as prefix session (option_copied heard.entry)) }
 {
     let Some(attrs) = heard else {
         return Ok(None);
