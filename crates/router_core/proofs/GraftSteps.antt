@@ -1,5 +1,5 @@
 -- Grafts at their source: the order that a router stores, and the end of the shadow.
-use Rattle.std.proofs.Common.{◌≡◌, ◌≢◌, ℕ, ◌+◌, ◌<◌, ◌≤◌, List, [], ◌∷◌, length, Option, Some, None, refl, sym, ap, subst, ◌∙◌, arith, inl, inr, set}
+use Rattle.std.proofs.Common.{◌≡◌, ◌≢◌, ℕ, ◌+◌, ◌<◌, ◌≤◌, List, [], ◌∷◌, length, Option, Some, None, is_some, false, refl, sym, ap, subst, ◌∙◌, arith, inl, inr, set}
 use Rattle.std.specs.FinMap as map
 use Rattle.std.proofs.lemmas.Bool.{cases_lt}
 use Rattle.std.proofs.lemmas.List.{length-set, get_or_past}
@@ -80,12 +80,12 @@ module _ (f : Fields) (p q : Post (Item RunningSession)) (from k : ℕ) (peering
   pub admits : (g : Fields) (s : RunningSession) (ids : GraftIds) → from ≡ f.routers + length f.places.items → target.0 < f.routers → peering.0 < length f.places.items → place_at f.places.items peering.0 ≡ Live s None
       → ids ≡ record { graft = k; peering = peering; source = f.number; target = target } → WroteOne p 9 k 0 0 [] q → g ≡ record f { places = g.places } → g.places.items ≡ set f.places.items peering.0 (Live s (Some ids))
       → TakesIt from (items.GraftOrder k peering target) f p g q
-  admits g s ids number known there free is wrote same items =
+  admits g s ids number known there free is wrote same held =
       let targets : target.0 < routers_in f.known.setup = omega (arith, known, keeps.routers) in
       let from_is : from ≡ routers_in f.known.setup + peerings_in f.known.setup = omega (arith, number, keeps.routers, keeps.places) in
       let at_it : actor_at f.known.setup from ≡ Some Operator = ap (actor_at f.known.setup) from_is ∙ at_operator f.known.setup in
-      let here : place_at g.places.items peering.0 ≡ Live s (Some ids) = ap (λ (xs : List Place). place_at xs peering.0) items ∙ placed_here f.places.items peering.0 (Live s (Some ids)) there in
-      let else_ : (n : ℕ) → n ≢ peering.0 → place_at g.places.items n ≡ place_at f.places.items n = λ n not. ap (λ (xs : List Place). place_at xs n) items ∙ placed_else f.places.items peering.0 (Live s (Some ids)) n not in
+      let here : place_at g.places.items peering.0 ≡ Live s (Some ids) = ap (λ (xs : List Place). place_at xs peering.0) held ∙ placed_here f.places.items peering.0 (Live s (Some ids)) there in
+      let else_ : (n : ℕ) → n ≢ peering.0 → place_at g.places.items n ≡ place_at f.places.items n = λ n not. ap (λ (xs : List Place). place_at xs n) held ∙ placed_else f.places.items peering.0 (Live s (Some ids)) n not in
       takes_then f g g p q q from (items.GraftOrder k peering target) (Admit k) []
       (record {
         router = record { setup = ap (λ (h : Fields). h.known.setup) same; number = ap (λ (h : Fields). h.number) same };
@@ -109,7 +109,7 @@ module _ (f : Fields) (p q : Post (Item RunningSession)) (from k : ℕ) (peering
           session = s.session;
           live = record { is = ap place_of free };
           effect = ap router_part same
-              ∙ ap (λ (xs : List Place). let v : RouterPart = record (router_part f) { places = λ n. place_of (place_at xs n) } in v) items
+              ∙ ap (λ (xs : List Place). let v : RouterPart = record (router_part f) { places = λ n. place_of (place_at xs n) } in v) held
               ∙ ap (λ (ps : ℕ → model.Place). let v : RouterPart = record (router_part f) { places = ps } in v) (places_at f.places.items peering.0 (Live s (Some ids)) there)
               ∙ ap (λ (o : GraftIds). let v : RouterPart = record (router_part f) { places = at (router_part f).places peering.0 (model.Live s.session (Some (order_of o))) } in v) is;
         };
@@ -129,7 +129,7 @@ module _ (f : Fields) (p q : Post (Item RunningSession)) (from k : ℕ) (peering
       (keeps_on f g (rest_of f keeps)
       (subst (λ (h : Fields). h ≡ record f { places = h.places; rib = h.rib; due_in = h.due_in; due_out = h.due_out; turns = h.turns }) (sym same) refl)
       (record {
-        places = ap length items ∙ length-set f.places.items peering.0 (Live s (Some ids));
+        places = ap length held ∙ length-set f.places.items peering.0 (Live s (Some ids));
         due_in = ap (λ (h : Fields). length h.due_in) same;
         due_out = ap (λ (h : Fields). length h.due_out) same;
         config = ap (λ (h : Fields). h.rib.config) same;
@@ -151,13 +151,13 @@ module _ (f : Fields) (p q : Post (Item RunningSession)) (from k : ℕ) (peering
           → KeepsPlace f.known.setup f.number.0 peering.0 ((rib_of f.rib).entries peering.0) (table_at f.due_out peering.0) (Live s (Some ids))
       with_order h = (
         h.0,
-        h.1.0,
+        h.1,
         record {
           peering = ap (λ (o : GraftIds). o.peering.0) is;
           source = ap (λ (o : GraftIds). o.source.0) is;
           target = subst (λ (o : GraftIds). o.target.0 < routers_in f.known.setup) (sym is) (omega (arith, known, keeps.routers));
         },
-        h.1.1.1,
+        h.3,
       )
 
 -- ---- word that a session landed
@@ -179,13 +179,13 @@ module _ (f : Fields) (p q : Post (Item RunningSession)) (from k : ℕ) (peering
   pub clears : (g : Fields) (to : ℕ) → from < f.routers → peering.0 < length f.places.items → IsAway (place_at f.places.items peering.0) k → to ≡ f.routers + length f.places.items
       → WroteOne p 16 from 0 0 ((to, items.Report k Accepted) ∷ []) q → g ≡ record f { places = g.places; rib = g.rib } → g.places.items ≡ set f.places.items peering.0 Vacant
       → DropsEntries (rib_of f.rib) peering.0 (rib_of g.rib) → (rib_of g.rib).entries peering.0 ≡ map.empty → TakesIt from (items.Done k peering) f p g q
-  clears g to below there away to_is wrote same items gone none =
+  clears g to below there away to_is wrote same held gone none =
       let known : from < routers_in f.known.setup = omega (arith, below, keeps.routers) in
       let at_from : actor_at f.known.setup from ≡ Some (Router from) = is_there f.known.setup (Router from) known in
       let is_to : to ≡ routers_in f.known.setup + peerings_in f.known.setup = omega (arith, to_is, keeps.routers, keeps.places) in
       let shadow : place_of (place_at f.places.items peering.0) ≡ model.Shadow k = ap place_of away.is ∙ ap model.Shadow away.graft in
-      let here : place_at g.places.items peering.0 ≡ Vacant = ap (λ (xs : List Place). place_at xs peering.0) items ∙ placed_here f.places.items peering.0 Vacant there in
-      let else_ : (n : ℕ) → n ≢ peering.0 → place_at g.places.items n ≡ place_at f.places.items n = λ n not. ap (λ (xs : List Place). place_at xs n) items ∙ placed_else f.places.items peering.0 Vacant n not in
+      let here : place_at g.places.items peering.0 ≡ Vacant = ap (λ (xs : List Place). place_at xs peering.0) held ∙ placed_here f.places.items peering.0 Vacant there in
+      let else_ : (n : ℕ) → n ≢ peering.0 → place_at g.places.items n ≡ place_at f.places.items n = λ n not. ap (λ (xs : List Place). place_at xs n) held ∙ placed_else f.places.items peering.0 Vacant n not in
       let entries_else : (n : ℕ) → n ≢ peering.0 → (rib_of g.rib).entries n ≡ (rib_of f.rib).entries n = λ n not. ap (λ (v : RibValue). v.entries n) gone.effect ∙ at_else (rib_of f.rib).entries peering.0 ((rib_of g.rib).entries peering.0) n not in
       takes_then f g g p q q from (items.Done k peering) (Clear from) []
       (record {
@@ -210,7 +210,7 @@ module _ (f : Fields) (p q : Post (Item RunningSession)) (from k : ℕ) (peering
           dirty = subst (λ (es : Entries). Marks f.rib.dirty ((rib_of f.rib).entries peering.0) es g.rib.dirty) none gone.dirty;
           effect = ap router_part same
               ∙ (λ i. let v : RouterPart = record (with_routes (router_part f) (gone.effect i)) {
-                places = (ap (λ (xs : List Place). (λ n. place_of (place_at xs n))) items ∙ places_at f.places.items peering.0 Vacant there) i;
+                places = (ap (λ (xs : List Place). (λ n. place_of (place_at xs n))) held ∙ places_at f.places.items peering.0 Vacant there) i;
               } in v)
               ∙ ap (λ (es : Entries). let v : RouterPart = record (router_part f) { places = at (router_part f).places peering.0 model.Vacant; entries = at (rib_of f.rib).entries peering.0 es; dirty = g.rib.dirty } in v) none;
         };
@@ -229,7 +229,7 @@ module _ (f : Fields) (p q : Post (Item RunningSession)) (from k : ℕ) (peering
       (keeps_on f g (rest_of f keeps)
       (subst (λ (h : Fields). h ≡ record f { places = h.places; rib = h.rib; due_in = h.due_in; due_out = h.due_out; turns = h.turns }) (sym same) refl)
       (record {
-        places = ap length items ∙ length-set f.places.items peering.0 Vacant;
+        places = ap length held ∙ length-set f.places.items peering.0 Vacant;
         due_in = ap (λ (h : Fields). length h.due_in) same;
         due_out = ap (λ (h : Fields). length h.due_out) same;
         config = ap (λ (v : RibValue). v.config) gone.effect;
@@ -246,6 +246,9 @@ module _ (f : Fields) (p q : Post (Item RunningSession)) (from k : ℕ) (peering
             (subst (λ (es : Entries). KeepsPlace f.known.setup f.number.0 n es (table_at f.due_out n) (place_at f.places.items n)) (sym (entries_else n not)) (keeps.each n))
       ])))
     where
+      nothing : (x : Rattle.bgp_types.specs.Prefixes.PrefixValue) → is_some (map.get {X = Rattle.route_policy.specs.declared.entry.Entry.Entry} {R = Rattle.bgp_types.specs.Tables.prefix_cmp} map.empty x) ≡ false
+      nothing x = ap (λ o. is_some o) (map.get-empty Rattle.bgp_types.specs.Tables.prefix_cmp x)
+
       emptied : (ids : GraftIds) → KeepsPlace f.known.setup f.number.0 peering.0 ((rib_of f.rib).entries peering.0) (table_at f.due_out peering.0) (Shadow ids)
           → KeepsPlace f.known.setup f.number.0 peering.0 ((rib_of g.rib).entries peering.0) (table_at f.due_out peering.0) Vacant
-      emptied ids h = (subst HasNoEntry (sym none) (λ x. refl), h.1)
+      emptied ids h = ((λ x. ap (λ (es : Entries). is_some (map.get es x)) none ∙ nothing x), h.1)

@@ -9,3 +9,6 @@ pub mod PlaceTests
 pub mod DueTables
 pub mod ReadSteps
 pub mod ReadRows
+pub mod Listing
+pub mod FollowSteps
+pub mod SegmentSteps

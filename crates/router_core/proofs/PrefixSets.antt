@@ -7,9 +7,10 @@ use Rattle.bgp_types.specs.Prefixes.{PrefixValue, same_prefix}
 use Rattle.bgp_types.specs.Tables.{prefix_cmp}
 use Rattle.bgp_types.proofs.OnceLaws.{same_itself, is_same}
 use Rattle.bgp_types.proofs.TableLaws.{tied}
-use Rattle.session_value.specs.Sets.{Prefixes, has}
+use Rattle.bgp_story.specs.Readings.{Routes}
+use Rattle.session_value.specs.Sets.{BestRoutes, Prefixes, has}
 use Rattle.rib_stages.proofs.Marks.{itself, has_inserted}
-use Rattle.router_core.specs.Reading.{AddsAll}
+use Rattle.router_core.specs.Reading.{AddsAll, IsDueAgain, IsDueBest}
 use Rattle.router_core.proofs.EnterSteps.{same_or_not, any_last, any_other}
 
 same_is : (p q : PrefixValue) → eq_by_cmp prefix_cmp p q ≡ same_prefix p q
@@ -46,3 +47,22 @@ adds_more a b c xs x so_far set = record { members = λ y. ap (λ (s : Prefixes)
           ap (λ (t : Bool). cond t true (has b y)) (same_is y x ∙ not)
           ∙ so_far.members y ∙ ap (λ (t : Bool). has a y || t) (sym (any_other xs x y not))
     ]
+
+-- ---- what is due
+
+pub due_best : (best : BestRoutes) (set : Prefixes) → AddsAll map.empty (map.keys best) set → IsDueBest best set
+due_best best set adds = record { members = λ x. adds.members x ∙ ap (λ (b : Bool). b || list_any (same_prefix x) (map.keys best)) (none_in x) ∙ keys_any best x }
+  where
+    none_in : (x : PrefixValue) → has map.empty x ≡ false
+    none_in x = ap (λ (o : Option (Unit {0})). is_some o) (map.get-empty prefix_cmp x)
+
+pub due_again_is : (told : Routes) (best : BestRoutes) (a set : Prefixes) → IsDueBest best a → AddsAll a (map.keys told) set → IsDueAgain told best set
+due_again_is told best a set due adds = record {
+  members = λ x. adds.members x ∙ (λ i. due.members x i || keys_any told x i) ∙ either (is_some (map.get best x)) (is_some (map.get told x));
+}
+  where
+    either : (b c : Bool) → (b || c) ≡ (c || b)
+    either true true = refl
+    either true false = refl
+    either false true = refl
+    either false false = refl

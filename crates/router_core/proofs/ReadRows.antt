@@ -181,5 +181,5 @@ reads_last p f g a b some none = record {
 }
   where
     all_read : CantRead some.keeps.here.session.session → HasReadAll some.keeps.here.session.session
-    all_read (inl closed) = λ open. absurd (open closed)
-    all_read (inr nothing) = λ open. nothing
+    all_read (inl closed) = λ unclosed. absurd (unclosed closed)
+    all_read (inr nothing) = λ unclosed. nothing

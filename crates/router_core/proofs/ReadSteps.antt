@@ -7,6 +7,7 @@ use Rattle.std.proofs.lemmas.List.{length-drop, length-append}
 use Rattle.std.proofs.lemmas.List.Elements.{All-contains}
 use Rattle.std.proofs.lemmas.Map.Views.{Contains-from_any}
 use Rattle.bgp_types.specs.Prefixes.{PrefixValue, same_prefix}
+use Rattle.bgp_types.specs.Tables.{prefix_cmp}
 use Rattle.bgp_types.specs.declared.message.Message.{Message}
 use Rattle.bgp_types.specs.declared.message.Message.TheVariants.{OpenMsg, UpdateMsg, NoticeMsg, KeepaliveMsg}
 use Rattle.bgp_types.specs.declared.message.Notice.{Notice}
@@ -77,6 +78,9 @@ nothing_has e = cc
 none_some : {A : Type 0} (o : Option A) → o ≡ None → is_some o ≡ true → ⊥
 none_some o e f = let x : false ≡ true = sym (ap (λ p. is_some p) e) ∙ f in nothing_has x
 
+none_in : (x : PrefixValue) → has map.empty x ≡ false
+none_in x = ap (λ (o : Option (Unit {0})). is_some o) (map.get-empty prefix_cmp x)
+
 is_none : {A : Type 0} (o : Option A) → is_some o ≡ false → o ≡ None
 is_none None e = refl
 is_none (Some a) e = absurd (nothing_has (sym e))
@@ -113,12 +117,13 @@ module _ (s u : SessionValue) (bytes : List ℕ) (tied_to : IsTied s) (gets : Ge
     by_message (Err n) e = refl
 
   pub heard_stays : state s ≢ states.Established → state u ≢ states.Closed → u.heard ≡ s.heard
-  heard_stays not open =
-      heard_is ∙ ap (λ (o : Option Update). unless_closed gets.next (apply_if s.heard o)) (updates_none not) ∙ while_unclosed gets.next s.heard (λ e. open (next_is ∙ e))
+  heard_stays not unclosed =
+      heard_is ∙ ap (λ (o : Option Update). unless_closed gets.next (apply_if s.heard o)) (updates_none not) ∙ while_unclosed gets.next s.heard (λ e. unclosed (next_is ∙ e))
 
   pub heard_none : state u ≡ states.Closed → (x : PrefixValue) → map.get u.heard x ≡ None
   heard_none closed x =
       ap (λ (t : Routes). map.get t x) (heard_is ∙ ap (λ (st : SessionState). unless_closed st (apply_if s.heard (update_in (message_of (expected_next (peering_of s.config) s.story (state s)) bytes)))) (sym next_is ∙ closed))
+      ∙ map.get-empty prefix_cmp x
 
   -- less is left to read
   pub less_unread : length (unread u) < length (unread s)
@@ -142,8 +147,8 @@ module _ (s u : SessionValue) (bytes : List ℕ) (tied_to : IsTied s) (gets : Ge
       inl (ap (λ (t : Routes). map.get t x) (heard_stays (λ is. confirm_up (sym tells.0 ∙ is)) (λ is. up_closed (sym tells.1 ∙ is))), others x refl)
   follows_heard entry before after (steps.Changed ps) tells each others x = by_test (list_any (same_prefix x) ps) refl where
     by_test : (b : Bool) → list_any (same_prefix x) ps ≡ b → ((map.get u.heard x ≡ map.get s.heard x) × (map.get after x ≡ map.get before x)) ⊎ ((map.get u.heard x ≢ map.get s.heard x) × (map.get after x ≡ entry x))
-    by_test true e = inr (All-contains (λ p. map.get u.heard p ≢ map.get s.heard p) ps x tells.1.1.changed (Contains-from_any is_same x ps e), each x e)
-    by_test false e = inl (tells.1.1.others x e, others x e)
+    by_test true e = inr (All-contains (λ p. map.get u.heard p ≢ map.get s.heard p) ps x tells.2.changed (Contains-from_any is_same x ps e), each x e)
+    by_test false e = inl (tells.2.others x e, others x e)
   follows_heard entry before after (steps.Closed ps) tells each others x = by_test (list_any (same_prefix x) ps) refl where
     had : list_any (same_prefix x) ps ≡ is_some (map.get s.heard x)
     had = ap (λ (ks : List PrefixValue). list_any (same_prefix x) ks) tells.1 ∙ keys_any s.heard x
@@ -159,12 +164,12 @@ module _ (s u : SessionValue) (bytes : List ℕ) (tied_to : IsTied s) (gets : Ge
   due_then best before after steps.Established tells due =
       subst (λ (x : SessionState). DueThen x (state u) best before after) (sym tells.0) (subst (λ (y : SessionState). DueThen states.OpenConfirm y best before after) (sym tells.1) due.members)
   due_then best before after (steps.Changed ps) tells due =
-      subst (λ (x : SessionState). DueThen x (state u) best before after) (sym tells.0) (subst (λ (y : SessionState). DueThen states.Established y best before after) (sym tells.1.0) due)
+      subst (λ (x : SessionState). DueThen x (state u) best before after) (sym tells.0) (subst (λ (y : SessionState). DueThen states.Established y best before after) (sym tells.1) due)
   due_then best before after (steps.Closed ps) tells due =
-      subst (λ (y : SessionState). DueThen (state s) y best before after) (sym tells.0) (closed_due best before after (state s) (λ x. ap (λ (p : Prefixes). has p x) due))
+      subst (λ (y : SessionState). DueThen (state s) y best before after) (sym tells.0) (closed_due best before after (state s) (λ x. ap (λ (p : Prefixes). has p x) due ∙ none_in x))
 
   pub due_up : (best : BestRoutes) (before after : Prefixes) (st : ReadStep) → Tells st s u → DueBy st best before after → IsDueWhileUp s before → IsDueWhileUp u after
   due_up best before after steps.Opened tells due up x h = absurd (sent_up (sym tells.0 ∙ up x (sym (ap (λ (p : Prefixes). has p x) due) ∙ h)))
   due_up best before after steps.Established tells due up x h = tells.1
-  due_up best before after (steps.Changed ps) tells due up x h = tells.1.0
-  due_up best before after (steps.Closed ps) tells due up x h = absurd (nothing_has (sym (ap (λ (p : Prefixes). has p x) due) ∙ h))
+  due_up best before after (steps.Changed ps) tells due up x h = tells.1
+  due_up best before after (steps.Closed ps) tells due up x h = absurd (nothing_has (sym (none_in x) ∙ sym (ap (λ (p : Prefixes). has p x) due) ∙ h))

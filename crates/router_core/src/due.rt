@@ -56,7 +56,7 @@ impl DueSets {
     /// The set of a number, which there is.
     pub(crate) fn set(&self, n: usize) -> &TrieTable<()>
         requires { n < length self.now }
-        ensures { result.contents ≡ table_at self.now n }
+        ensures { result.now.contents ≡ table_at self.now n }
     {
         &self.sets[n]
     }

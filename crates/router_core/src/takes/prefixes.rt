@@ -37,15 +37,22 @@ fn best_prefixes(alloc: Global, rib: &Rib) -> Result<PrefixList, NoMemory>
     Ok(prefixes)
 }
 
+/// Puts a prefix into a set.
+fn insert(set: &mut TrieTable<()>, prefix: Prefix) -> Result<(), NoMemory>
+    ensures { OnOk result (set.new.contents ≡ map.insert set.old.contents prefix tt) }
+{
+    match set.set(prefix, ()) {
+        Ok(_) => Ok(()),
+        Err(_) => Err(NoMemory),
+    }
+}
+
 /// Puts prefixes into a set.
 fn add_all(set: &mut TrieTable<()>, prefixes: &[Prefix]) -> Result<(), NoMemory>
     ensures { OnOk result (AddsAll set.old.contents prefixes.now set.new.contents) }
 {
     for prefix in prefixes {
-        match set.set(*prefix, ()) {
-            Ok(_) => {}
-            Err(_) => return Err(NoMemory),
-        }
+        insert(set, *prefix)?;
     }
     Ok(())
 }

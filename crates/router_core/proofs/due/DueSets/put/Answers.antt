@@ -7,5 +7,5 @@ use Rattle.router_core.proofs.DueTables.{set_table}
 use Rattle.router_core.proofs.due.DueSets.put.Goals as goal
 
 pub returns-clause-put : goal.returns-clause-put
-returns-clause-put c = set_table c.args.set c.self.inside.sets.items c.args.n (omega (arith, c.requires, ap (λ (ts : List Prefixes). length ts) c.self.view_is, length-map (λ t. t.contents) c.self.inside.sets.items))
+returns-clause-put c = set_table c.args.set c.self.inside.sets.items c.args.n (omega (arith, c.requires, ap (λ (ts : List Prefixes). length ts) c.self.view_is, length-map c.self.inside.sets.items (λ t. t.contents)))
     ∙ ap (λ (ts : List Prefixes). at (table_at ts) c.args.n c.args.set.contents) c.self.view_is
