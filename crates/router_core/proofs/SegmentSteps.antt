@@ -1,5 +1,5 @@
 -- The segments that a router takes.
-use Rattle.std.proofs.Common.{◌≡◌, ◌≢◌, ℕ, ◌+◌, ◌<◌, ◌≤◌, List, [], ◌∷◌, length, Option, Some, None, option_map, refl, sym, ap, subst, ◌∙◌, arith, inl, inr, set}
+use Rattle.std.proofs.Common.{◌≡◌, ◌≢◌, ℕ, ◌+◌, ◌<◌, ◌≤◌, List, [], ◌∷◌, length, Bool, true, false, Option, Some, None, option_map, refl, sym, ap, subst, ◌∙◌, arith, inl, inr, set}
 use Rattle.std.proofs.lemmas.Bool.{cases_lt}
 use Rattle.std.proofs.lemmas.List.{length-set}
 use Rattle.ring_net.specs.declared.post.Post.{Post}
@@ -243,3 +243,28 @@ module _ (f : Fields) (a b : Post (Item RunningSession)) (from p : ℕ) (g : Seg
             let e : s ≡ v = live_is f.places.items p v s m o x live in
             let later : Stays u w = reads.stays.stays u w o k (record { is = here }) y in
             subst (λ (z : RunningSession). Stays z w) e (record { acked = omega (arith, rises, later.acked); emitted = later.emitted ∙ emits_none; at_turn = later.at_turn ∙ stays_one.at_turn })
+
+-- ---- what a place answers to a segment
+
+pub record Stands (place new : Place) : Type 0 where
+  pub same : new ≡ place
+  pub absent : (s : RunningSession) (o : Option GraftIds) → place ≡ Live s o → ⊥
+
+pub stands : (place new : Place) (g : Segment) (live : Bool) → ArrivesAt live place g new → live ≡ false → Stands place new
+stands Vacant new g live r e = record { same = r.1; absent = λ s o f. let x : ⊥ = cc in x }
+stands (Live s o) new g live r e = absurd (let x : true ≡ false = sym r.0 ∙ e in let y : ⊥ = cc in y)
+stands (Shadow away) new g live r e = record { same = r.1; absent = λ s o f. let x : ⊥ = cc in x }
+
+pub record TookIn (place new : Place) (g : Segment) : Type 0 where
+  pub session : RunningSession
+  pub order : Option GraftIds
+  pub later : RunningSession
+  pub arrival : Arrival
+  pub live : place ≡ Live session order
+  pub arrives : Arrives arrival session g later
+  pub is : new ≡ Live later order
+
+pub took_in : (place new : Place) (g : Segment) (live : Bool) → ArrivesAt live place g new → live ≡ true → TookIn place new g
+took_in Vacant new g live r e = absurd (let x : false ≡ true = sym r.0 ∙ e in let y : ⊥ = cc in y)
+took_in (Live s o) new g live (is_live, arrival, u, arrives, is) e = record { session = s; order = o; later = u; arrival = arrival; live = refl; arrives = arrives; is = is }
+took_in (Shadow away) new g live r e = absurd (let x : false ≡ true = sym r.0 ∙ e in let y : ⊥ = cc in y)

@@ -157,7 +157,8 @@ pub record ReadsOne (p : ℕ) (old : Fields) (before : Post (Item RunningSession
 
 -- There is nothing to read.
 pub record ReadsNone (p : ℕ) (old : Fields) (before : Post (Item RunningSession)) (new : Fields) (after : Post (Item RunningSession)) : Type 0 where
-  pub same : new ≡ old
+  pub same : new ≡ record old { places = new.places }
+  pub places : new.places.items ≡ old.places.items
   pub post : after ≡ before
   pub none : (s : RunningSession) (o : Option GraftIds) → RunsAt old.places.items p s o → CantRead s.session
 

@@ -48,7 +48,10 @@ pub(crate) fn take_segment(
     ensures took { OnOk result (TakesIt from (items.Seg segment) router.old post.old router.new post.new) }
 {
     let routers = router.routers as usize;
-    if from < routers || from - routers >= router.places.len() {
+    if from < routers {
+        return note(post, DROPPED, 0, 0, 0);
+    }
+    if from - routers >= router.places.len() {
         return note(post, DROPPED, 0, 0, 0);
     }
     let peering = PeeringId((from - routers) as u8);
