@@ -298,7 +298,7 @@ fresh_rib config = record { config = config.rib; entries = λ p. map.empty; tell
 module _ (f : Fields) (config : RouterConfig) (sound : IsSetup f.known.setup) (is : IsConfigOf f.known.setup config) (rib : rib_of f.rib ≡ fresh_rib config) (begun : AreBegun (length config.firsts) config.sessions f.places.items)
     (in_count : length f.due_in ≡ config.routers) (in_none : (n : ℕ) → table_at f.due_in n ≡ map.empty) (out_count : length f.due_out ≡ length config.firsts) (out_none : (n : ℕ) → table_at f.due_out n ≡ map.empty) where
   abbrev whole : Fields
-  whole = record f { number = config.number; routers = config.routers; room = config.room; policies = config.policies; firsts = config.firsts; turns = 0 }
+  whole = record f { number = config.number; routers = config.routers; room = config.room; home_as = config.rib.home_as; policies = config.policies; firsts = config.firsts; turns = 0 }
 
   place_is : (p : ℕ) → place_at f.places.items p ≡ place_from config.number.0 (slice_get f.known.setup.peerings p)
   place_is p = begun.each p ∙ ap (λ (cs : List SessionConfig). begun_at cs p) is.sessions ∙ begun_is f.known.setup config.number.0 p sound
@@ -326,6 +326,7 @@ module _ (f : Fields) (config : RouterConfig) (sound : IsSetup f.known.setup) (i
     few_routers = omega (arith, is.routers, is.few_routers);
     few_peerings = is.few_peerings;
     room = is.room;
+    home_as = is.rib.home_as;
     policies = is.policies;
     firsts = is.firsts;
     rib = subst (λ c. IsRibOf f.known.setup config.number.0 c) (sym (ap (λ (v : RibValue). v.config) rib)) is.rib;

@@ -13,3 +13,16 @@ pub mod DecideSteps
 pub mod TellSteps
 pub mod BeginSteps
 pub mod TurnSteps
+pub mod Kept
+pub mod Takings
+pub mod HearSteps
+pub mod GraftSteps
+pub mod EnterSteps
+pub mod PrefixSets
+pub mod PlaceTests
+pub mod DueTables
+pub mod ReadSteps
+pub mod ReadRows
+pub mod Listing
+pub mod FollowSteps
+pub mod SegmentSteps

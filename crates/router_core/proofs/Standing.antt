@@ -33,6 +33,7 @@ keeps_on f g k steady sizes each = subst Keeps (sym steady) (record {
   few_routers = k.few_routers;
   few_peerings = k.few_peerings;
   room = k.room;
+  home_as = k.home_as;
   policies = k.policies;
   firsts = k.firsts;
   rib = subst (λ config. IsRibOf f.known.setup f.number.0 config) (sym sizes.config) k.rib;

@@ -13,6 +13,7 @@ pub mod Deciding
 pub mod Beginning
 pub mod Begins
 pub mod Takes
+pub mod Entering
+pub mod Reading
 pub mod Turned
 pub mod FieldProps
-pub mod Routers

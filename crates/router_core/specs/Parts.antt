@@ -86,6 +86,7 @@ pub record Keeps (f : Fields) : Type 0 where
   pub few_routers : f.routers ≤ 256
   pub few_peerings : peerings_in f.known.setup ≤ 256
   pub room : f.room ≡ room_of f.known.setup f.number.0
+  pub home_as : f.home_as ≡ f.known.setup.home_as
   pub policies : ArePoliciesOf f.known.setup f.number.0 f.policies
   pub firsts : AreFirstsOf f.known.setup f.firsts
   pub rib : IsRibOf f.known.setup f.number.0 f.rib.config

@@ -23,6 +23,17 @@ place_at places p = slice_index_or places p Vacant
 pub record RunsAt (places : List Place) (p : ℕ) (running : RunningSession) (order : Option GraftIds) : Type 0 where
   pub is : place_at places p ≡ Live running order
 
+-- a session is live there, with no stored graft
+pub record IsFree (place : Place) : Type 0 where
+  pub session : RunningSession
+  pub is : place ≡ Live session None
+
+-- a session has left there in this graft
+pub record IsAway (place : Place) (k : ℕ) : Type 0 where
+  pub away : GraftIds
+  pub is : place ≡ Shadow away
+  pub graft : away.graft ≡ k
+
 -- the lower of two numbers, where there are any
 abbrev pub lower_of : Option ℕ → Option ℕ → Option ℕ
 lower_of None other = other

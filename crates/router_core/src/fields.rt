@@ -18,6 +18,8 @@ pub struct Fields {
     pub(crate) number: RouterId,
     pub(crate) routers: u32,
     pub(crate) room: u32,
+    /// The AS of the home network.
+    pub(crate) home_as: u32,
     pub(crate) policies: Policies,
     /// The numbers of the first bytes, by peering.
     pub(crate) firsts: Items<Firsts>,

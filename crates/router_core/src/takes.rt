@@ -2,8 +2,12 @@
 
 mod graft;
 mod heard;
+mod kinds;
 mod mesh;
+mod named;
 mod order;
+mod prefixes;
+mod reads;
 mod segment;
 
 ghost use Rattle.std.specs.Prelude.{OnOk};

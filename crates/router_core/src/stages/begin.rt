@@ -69,6 +69,7 @@ pub(crate) fn begin(alloc: Global, known: Known, config: RouterConfig) -> Result
         sessions,
     } = config;
     let count = firsts.len();
+    let home_as = rib.home_as;
     let places = begin_places(alloc, count, sessions)?;
     let due_in = DueSets::new(alloc, routers as usize)?;
     let due_out = DueSets::new(alloc, count)?;
@@ -79,6 +80,7 @@ pub(crate) fn begin(alloc: Global, known: Known, config: RouterConfig) -> Result
         number,
         routers,
         room,
+        home_as,
         policies,
         firsts,
         rib,

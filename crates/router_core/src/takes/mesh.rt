@@ -7,13 +7,16 @@ ghost use Rattle.router_core.specs.Parts.{Keeps};
 ghost use Rattle.router_core.specs.Takes.{TakesIt};
 
 use crate::fields::Fields;
+use crate::takes::kinds::{DROPPED, HEAR};
 use bgp_session::Capsule;
-use bgp_types::{Prefix, Route};
+use bgp_types::{From, Prefix, Route, RouterId};
+use graft_actors::note;
 use graft_edge::NoMemory;
 use graft_steps::Item;
+use rib_stages::InEntry;
 use ring_net::Post;
 
-/// Hears what another router tells of a prefix.
+/// Hears what another router tells of a prefix. It drops what isn't a router's.
 pub(crate) fn hear(
     router: &mut Fields,
     from: usize,
@@ -25,5 +28,15 @@ pub(crate) fn hear(
     ensures edges { SameEdges post.old post.new }
     ensures took { OnOk result (TakesIt from (items.Told prefix route) router.old post.old router.new post.new) }
 {
-    Err(NoMemory)
+    if from >= router.routers as usize {
+        return note(post, DROPPED, 0, 0, 0);
+    }
+    note(post, HEAR, from as u32, 0, 0)?;
+    let telling = InEntry {
+        prefix,
+        route,
+        identifier: 0,
+        address: 0,
+    };
+    router.rib.set_in(From::Router(RouterId(from as u8)), telling)
 }

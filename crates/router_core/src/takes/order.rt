@@ -7,9 +7,11 @@ ghost use Rattle.router_core.specs.Parts.{Keeps};
 ghost use Rattle.router_core.specs.Takes.{IsOther, TakesIt};
 
 use crate::fields::Fields;
+use crate::takes::kinds::{ADMIT, DROPPED};
 use bgp_session::Capsule;
+use graft_actors::note;
 use graft_edge::{NoMemory, PeeringId, RouterId};
-use graft_steps::Item;
+use graft_steps::{Item, Ordered};
 use ring_net::Post;
 
 /// Stores the order of a graft with the live session that it is for. It drops one that isn't the operator's, whose session isn't live here or has an order already, or whose target isn't one of the routers.
@@ -25,7 +27,23 @@ pub(crate) fn admit(
     ensures edges { SameEdges post.old post.new }
     ensures took { OnOk result (TakesIt from (items.GraftOrder graft peering target) router.old post.old router.new post.new) }
 {
-    Err(NoMemory)
+    if from != router.routers as usize + router.places.len() {
+        return note(post, DROPPED, 0, 0, 0);
+    }
+    if u32::from(target.0) >= router.routers {
+        return note(post, DROPPED, 0, 0, 0);
+    }
+    let place = usize::from(peering.0);
+    if place >= router.places.len() {
+        return note(post, DROPPED, 0, 0, 0);
+    }
+    if !router.places[place].is_free() {
+        return note(post, DROPPED, 0, 0, 0);
+    }
+    note(post, ADMIT, graft, 0, 0)?;
+    let ordered = Ordered::new(graft, peering, router.number, target);
+    router.places[place].store(ordered);
+    Ok(())
 }
 
 /// Drops an item that no router takes.
@@ -40,5 +58,5 @@ pub(crate) fn drop_other(
     ensures edges { SameEdges post.old post.new }
     ensures took { OnOk result (TakesIt from item router.old post.old router.new post.new) }
 {
-    Err(NoMemory)
+    note(post, DROPPED, 0, 0, 0)
 }
