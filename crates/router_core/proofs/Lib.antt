@@ -12,6 +12,7 @@ pub mod LeaveSteps
 pub mod DecideSteps
 pub mod TellSteps
 pub mod BeginSteps
+pub mod RoundSteps
 pub mod TurnSteps
 pub mod Kept
 pub mod Takings

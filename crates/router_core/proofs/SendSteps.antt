@@ -114,7 +114,7 @@ module _ (f g : Fields) (p q : Post (Item RunningSession)) (n : ℕ) (x : Place)
 
   -- the place is what it was
   module _ (stage : Stage) (same_rest : stage.Same f g) where
-    visits_idle : (y : Place) → place_at f.places.items n ≡ y → x ≡ y → stage.Goes [] y y → ((t : Tally) → stage.count y t ≡ t) → Visits stage n f p g p
+    pub visits_idle : (y : Place) → place_at f.places.items n ≡ y → x ≡ y → stage.Goes [] y y → ((t : Tally) → stage.count y t ≡ t) → Visits stage n f p g p
     visits_idle y is x_is goes count =
         visits_same f g n x there same items_are stage p keeps (ap place_of (x_is ∙ sym is))
         (subst (λ (z : Place). stage.Goes [] z x) (sym is) (subst (stage.Goes [] y) (sym x_is) goes))

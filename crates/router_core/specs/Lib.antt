@@ -15,5 +15,7 @@ pub mod Begins
 pub mod Takes
 pub mod Entering
 pub mod Reading
+pub mod Ticking
 pub mod Turned
 pub mod FieldProps
+pub mod Routers

@@ -10,6 +10,8 @@ mod prefixes;
 mod reads;
 mod segment;
 
+pub(crate) use reads::follow;
+
 ghost use Rattle.std.specs.Prelude.{OnOk};
 ghost use Rattle.ring_net.specs.Posts.{SameEdges};
 ghost use Rattle.router_core.specs.Parts.{Keeps};
