@@ -148,17 +148,17 @@ model_is r (Some x) = by_flag (x.start == r)
     by_flag true = refl
     by_flag false = refl
 
+abbrev turn_in : Place → ℕ
+turn_in Vacant = 0
+turn_in (Live u o) = u.acked_at_turn
+turn_in (Shadow away) = 0
+
 no_turn : (r : ℕ) (o : Option PeeringSetup) (s : RunningSession) (q : Option GraftIds) → place_from r o ≡ Live s q → s.acked_at_turn ≡ 0
 unfolding place_from
 no_turn r None s q e = absurd (let x : ⊥ = cc in x)
 no_turn r (Some x) s q e = by_flag (x.start == r) e
   where
-    turn_in : Place → ℕ
-    turn_in Vacant = 0
-    turn_in (Live u o) = u.acked_at_turn
-    turn_in (Shadow away) = 0
     by_flag : (b : Bool) → (if b then Live (begins x.config) None else Vacant) ≡ Live s q → s.acked_at_turn ≡ 0
-    unfolding turn_in
     by_flag true is = sym (ap turn_in is)
     by_flag false is = sym (ap turn_in is)
 

@@ -13,6 +13,7 @@ pub mod DecideSteps
 pub mod TellSteps
 pub mod BeginSteps
 pub mod RoundSteps
+pub mod RestSteps
 pub mod TurnSteps
 pub mod Kept
 pub mod Takings

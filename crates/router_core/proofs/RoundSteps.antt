@@ -1,6 +1,7 @@
 -- A round passes on a session, and the router follows it.
 use Rattle.std.proofs.Common.{◌≡◌, ◌≢◌, ℕ, ◌+◌, ◌<◌, ◌≤◌, List, [], ◌∷◌, ◌++◌, length, Option, Some, None, option_map, is_some, Bool, true, false, ◌⊎◌, inl, inr, refl, sym, ap, subst, ◌∙◌, arith, set}
-use Rattle.std.specs.Prelude.{if◌then◌else◌, nat_lt}
+use Rattle.std.specs.Prelude.{if◌then◌else◌, nat_lt, Result, OnOk}
+use Rattle.std.proofs.lemmas.Result.{on_ok_weaker}
 use Rattle.std.specs.FinMap as map
 use Rattle.std.specs.List.{list_any}
 use Rattle.std.proofs.lemmas.Bool.{cases_lt, eq-eqb, ne_eqb}
@@ -247,6 +248,25 @@ module _ (f g : Fields) (p : ℕ) (a b : Post (Item RunningSession)) (s u : Runn
     keeps = keeps_then;
   }
 
+-- the router with the session after its round, which it follows then
+module _ {T E : Type 0} (r : Result T E) (f k g : Fields) (p : ℕ) (a b : Post (Item RunningSession)) (x : Place) (step : TickStep) (keeps : Keeps f) (there : p < length f.places.items) (same : k ≡ record f { places = k.places }) (items : k.places.items ≡ set f.places.items p x)
+    (wrote : WroteOne a 31 p f.turns 0 [] b) (follows : (s : RunningSession) (o : Option GraftIds) → RunsAt k.places.items p s o → s.session.config.peering.0 ≡ p → OnOk r (FollowsStep k p s (followed step) g)) where
+  ticks_live : (s u : RunningSession) (o : Option GraftIds) → place_at f.places.items p ≡ Live s o → x ≡ Live u o → MayPass s.session f.turns → IsTied s.session → Ticks step s f.turns u → OnOk r (Visits (passing_rounds f.turns) p f a g b)
+  ticks_live s u o is x_is may tied ticks =
+      let own : KeepsPlace f.known.setup f.number.0 p ((rib_of f.rib).entries p) (table_at f.due_out p) (Live s o) = subst (KeepsPlace f.known.setup f.number.0 p ((rib_of f.rib).entries p) (table_at f.due_out p)) is (keeps.each p) in
+      on_ok_weaker r
+      (λ (done : FollowsStep k p u (followed step) g).
+      let done' : FollowsStep (record f { places = k.places }) p u (followed step) g = subst (λ (h : Fields). FollowsStep h p u (followed step) g) same done in
+      let places_are : k.places ≡ g.places = sym (ap (λ (h : Fields). h.places) done.same) in
+      ticks_at f g p a b s u o step keeps is there may tied ticks (ap (λ (h : Fields). h.places.items) done.same ∙ items ∙ ap (set f.places.items p) x_is) wrote
+      (subst (λ v. FollowsStep (record f { places = v }) p u (followed step) g) places_are done'))
+      (follows u o (record { is = ap (λ (xs : List Place). place_at xs p) items ∙ set_here f.places.items p x there ∙ x_is }) (ap (λ (v : SessionValue). v.config.peering.0) ticks.passes.effect ∙ own.0.peering))
+
+  pub ticks_some : (y : Place) → place_at f.places.items p ≡ y → AtPlace (Ticked f.turns) y (Some step) x → OnOk r (Visits (passing_rounds f.turns) p f a g b)
+  ticks_some Vacant is ticked = absurd (some_none step ticked.0)
+  ticks_some (Live s o) is (u, x_is, ticked) = ticks_live s u o is x_is ticked.0 ticked.1 ticked.2
+  ticks_some (Shadow away) is ticked = absurd (some_none step ticked.0)
+
 -- ---- where none may pass
 
 stays_put : (s : RunningSession) → PutsMore s s
@@ -257,10 +277,10 @@ module _ (f g : Fields) (a : Post (Item RunningSession)) (p : ℕ) (x : Place) (
   same_rest = subst (λ (h : Fields). h ≡ record f { places = h.places; rib = h.rib; due_out = h.due_out }) (sym same) refl
 
   pub ticks_none : (y : Place) → place_at f.places.items p ≡ y → AtPlace (Ticked f.turns) y None x → Visits (passing_rounds f.turns) p f a g a
-  ticks_none Vacant is at = visits_idle f g a a p x keeps there same items (passing_rounds f.turns) same_rest Vacant is at.1 refl (λ t. refl)
-  ticks_none (Live s o) is (u, x_is, not, stays) =
-      visits_idle f g a a p x keeps there same items (passing_rounds f.turns) same_rest (Live s o) is (x_is ∙ ap (λ (v : RunningSession). Live v o) stays) (s, refl, (stays_put s, inr (not, refl, refl))) (λ t. refl)
-  ticks_none (Shadow away) is at = visits_idle f g a a p x keeps there same items (passing_rounds f.turns) same_rest (Shadow away) is at.1 refl (λ t. refl)
+  ticks_none Vacant is ticked = visits_idle f g a a p x keeps there same items (passing_rounds f.turns) same_rest Vacant is ticked.1 refl (λ t. refl)
+  ticks_none (Live s o) is (u, x_is, ticked) =
+      visits_idle f g a a p x keeps there same items (passing_rounds f.turns) same_rest (Live s o) is (x_is ∙ ap (λ (v : RunningSession). Live v o) ticked.1) (s, refl, (stays_put s, inr (ticked.0, refl, refl))) (λ t. refl)
+  ticks_none (Shadow away) is ticked = visits_idle f g a a p x keeps there same items (passing_rounds f.turns) same_rest (Shadow away) is ticked.1 refl (λ t. refl)
 
 -- ---- all places
 

@@ -229,7 +229,7 @@ sent_next_ok s u (Ok a) none all step slice same = record { none = none; all = a
 sent_next_ok s u (Err e) none all step slice same = tt
 
 -- at the place of the session
-live_ok : {A E : Type 0} (Does : RunningSession → Option A → RunningSession → Type 0) (s u : RunningSession) (o : Option GraftIds) (x y : Place) (r : Result (Option A) E) → x ≡ Live s o → y ≡ Live u o → IfOk r (λ a. Does s a u) → IfOk r (λ a. AtPlace Does x a y)
+pub live_ok : {A E : Type 0} (Does : RunningSession → Option A → RunningSession → Type 0) (s u : RunningSession) (o : Option GraftIds) (x y : Place) (r : Result (Option A) E) → x ≡ Live s o → y ≡ Live u o → IfOk r (λ a. Does s a u) → IfOk r (λ a. AtPlace Does x a y)
 live_ok Does s u o x y (Ok a) is y_is does = subst (λ (z : Place). AtPlace Does z a y) (sym is) (u, y_is, does)
 live_ok Does s u o x y (Err e) is y_is does = tt
 
