@@ -183,7 +183,7 @@ module _ (f h g : Fields) (p q : Post (Item RunningSession)) (prefix : PrefixVal
         due_in = ap (λ (x : Fields). length x.due_in) decided;
         due_out = ap (λ (x : Fields). length x.due_out) decided;
         config = ap (λ (x : RibStore). x.config) rib;
-        tellings = ap (λ (x : RibStore). x.tellings) rib;
+        tellings = ap (λ (x : RibStore). (rib_of x).tellings) rib;
       })
       (λ k. subst (λ (x : Fields). KeepsPlace f.known.setup f.number.0 k ((rib_of h.rib).entries k) (table_at x.due_out k) (place_at x.places.items k)) (sym decided)
       (subst (λ (x : RibStore). KeepsPlace f.known.setup f.number.0 k ((rib_of x).entries k) (table_at f.due_out k) (place_at f.places.items k)) (sym rib) (keeps.each k)))
@@ -222,7 +222,7 @@ module _ (f h g : Fields) (p q : Post (Item RunningSession)) (prefix : PrefixVal
     dirty = ap (λ (x : Fields). x.rib.dirty) due.same ∙ ap (λ (x : RibStore). x.dirty) rib;
     same = g_same;
     keeps = keeps_on h g keeps_decided (subst (λ (x : Fields). x ≡ record h { places = x.places; rib = x.rib; due_in = x.due_in; due_out = x.due_out; turns = x.turns }) (sym due.same) refl)
-        (record { places = ap (λ (x : Fields). length x.places.items) due.same; due_in = due.due_in.size; due_out = due.due_out.size; config = ap (λ (x : Fields). x.rib.config) due.same; tellings = ap (λ (x : Fields). x.rib.tellings) due.same })
+        (record { places = ap (λ (x : Fields). length x.places.items) due.same; due_in = due.due_in.size; due_out = due.due_out.size; config = ap (λ (x : Fields). x.rib.config) due.same; tellings = ap (λ (x : Fields). (rib_of x.rib).tellings) due.same })
         (λ k. subst (λ (x : Fields). KeepsPlace h.known.setup h.number.0 k ((rib_of x.rib).entries k) (table_at g.due_out k) (place_at x.places.items k)) (sym due.same)
         (add_keeps h.known.setup h.number.0 k ((rib_of h.rib).entries k) (table_at h.due_out k) (table_at g.due_out k) prefix (place_at h.places.items k) (keeps_decided.each k) (out k)));
   }

@@ -212,7 +212,7 @@ module _ (f g : Fields) (p q : Post (Item RunningSession)) (n : ℕ) (s : Runnin
           due_in = ap (λ (h : Fields). length h.due_in) same;
           due_out = sizes;
           config = ap (λ (h : Fields). h.rib.config) same;
-          tellings = ap (λ (h : Fields). h.rib.tellings) same;
+          tellings = ap (λ (h : Fields). (rib_of h.rib).tellings) same;
         })
         (λ k. subst (λ (h : Fields). KeepsPlace f.known.setup f.number.0 k ((rib_of h.rib).entries k) (table_at g.due_out k) (place_at g.places.items k)) (sym same)
         (subst (λ (d : ℕ → Prefixes). KeepsPlace f.known.setup f.number.0 k ((rib_of f.rib).entries k) (d k) (place_at g.places.items k)) (sym due)

@@ -69,7 +69,7 @@ module _ (f g : Fields) (n : ℕ) (x : Place) (there : n < length f.places.items
         due_in = ap (λ (h : Fields). length h.due_in) same;
         due_out = ap (λ (h : Fields). length h.due_out) same;
         config = ap (λ (h : Fields). h.rib.config) same;
-        tellings = ap (λ (h : Fields). h.rib.tellings) same;
+        tellings = ap (λ (h : Fields). (rib_of h.rib).tellings) same;
       })
       (λ p. subst (λ (h : Fields). KeepsPlace f.known.setup f.number.0 p ((rib_of h.rib).entries p) (table_at h.due_out p) (place_at g.places.items p)) (sym same) (each p))
     where

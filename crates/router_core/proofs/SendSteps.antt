@@ -114,7 +114,7 @@ module _ (f g : Fields) (p q : Post (Item RunningSession)) (n : ℕ) (x : Place)
 
   -- the place is what it was
   module _ (stage : Stage) (same_rest : stage.Same f g) where
-    visits_idle : (y : Place) → place_at f.places.items n ≡ y → x ≡ y → stage.Goes [] y y → ((t : Tally) → stage.count y t ≡ t) → Visits stage n f p g p
+    pub visits_idle : (y : Place) → place_at f.places.items n ≡ y → x ≡ y → stage.Goes [] y y → ((t : Tally) → stage.count y t ≡ t) → Visits stage n f p g p
     visits_idle y is x_is goes count =
         visits_same f g n x there same items_are stage p keeps (ap place_of (x_is ∙ sym is))
         (subst (λ (z : Place). stage.Goes [] z x) (sym is) (subst (stage.Goes [] y) (sym x_is) goes))
@@ -229,7 +229,7 @@ sent_next_ok s u (Ok a) none all step slice same = record { none = none; all = a
 sent_next_ok s u (Err e) none all step slice same = tt
 
 -- at the place of the session
-live_ok : {A E : Type 0} (Does : RunningSession → Option A → RunningSession → Type 0) (s u : RunningSession) (o : Option GraftIds) (x y : Place) (r : Result (Option A) E) → x ≡ Live s o → y ≡ Live u o → IfOk r (λ a. Does s a u) → IfOk r (λ a. AtPlace Does x a y)
+pub live_ok : {A E : Type 0} (Does : RunningSession → Option A → RunningSession → Type 0) (s u : RunningSession) (o : Option GraftIds) (x y : Place) (r : Result (Option A) E) → x ≡ Live s o → y ≡ Live u o → IfOk r (λ a. Does s a u) → IfOk r (λ a. AtPlace Does x a y)
 live_ok Does s u o x y (Ok a) is y_is does = subst (λ (z : Place). AtPlace Does z a y) (sym is) (u, y_is, does)
 live_ok Does s u o x y (Err e) is y_is does = tt
 

@@ -3,7 +3,7 @@ use Rattle.std.proofs.Common.{◌≡◌, ℕ, ◌≤◌, length, is_some, false,
 use Rattle.std.specs.FinMap as map
 use Rattle.bgp_types.specs.Prefixes.{PrefixValue}
 use Rattle.bgp_types.specs.Tables.{prefix_cmp}
-use Rattle.session_value.specs.Sets.{has}
+use Rattle.session_value.specs.Sets.{Tellings, has}
 use Rattle.rib_stages.specs.Values.{rib_of, table_at}
 use Rattle.graft_model.specs.Setups.{peerings_in}
 use Rattle.router_core.specs.Configs.{IsRibOf}
@@ -24,7 +24,7 @@ pub record SameSizes (f g : Fields) : Type 0 where
   pub due_in : length g.due_in ≡ length f.due_in
   pub due_out : length g.due_out ≡ length f.due_out
   pub config : g.rib.config ≡ f.rib.config
-  pub tellings : g.rib.tellings ≡ f.rib.tellings
+  pub tellings : (rib_of g.rib).tellings ≡ (rib_of f.rib).tellings
 
 pub keeps_on : (f g : Fields) → Keeps f → IsSteady f g → SameSizes f g → ((p : ℕ) → KeepsPlace f.known.setup f.number.0 p ((rib_of g.rib).entries p) (table_at g.due_out p) (place_at g.places.items p)) → Keeps g
 keeps_on f g k steady sizes each = subst Keeps (sym steady) (record {
@@ -40,7 +40,7 @@ keeps_on f g k steady sizes each = subst Keeps (sym steady) (record {
   places = sizes.places ∙ k.places;
   due_in = sizes.due_in ∙ k.due_in;
   due_out = sizes.due_out ∙ k.due_out;
-  tellings = λ q from x. ap (λ tellings. is_some (map.get (table_at tellings q) x)) sizes.tellings ∙ k.tellings q from x;
+  tellings = λ q from x. ap (λ (t : ℕ → Tellings). is_some (map.get (t q) x)) sizes.tellings ∙ k.tellings q from x;
   each = each;
 })
 
@@ -60,6 +60,6 @@ keeps_due_in f g keeps same sizes = keeps_on f g keeps
       due_in = sizes;
       due_out = ap (λ (h : Fields). length h.due_out) same;
       config = ap (λ (h : Fields). h.rib.config) same;
-      tellings = ap (λ (h : Fields). h.rib.tellings) same;
+      tellings = ap (λ (h : Fields). (rib_of h.rib).tellings) same;
     })
     (λ p. subst (λ (h : Fields). KeepsPlace f.known.setup f.number.0 p ((rib_of h.rib).entries p) (table_at h.due_out p) (place_at h.places.items p)) (sym same) (keeps.each p))

@@ -1,5 +1,5 @@
 -- That a router is sound has one proof at most.
-use Rattle.std.specs.Prelude.{◌≡◌, false, Bool, ℕ}
+use Rattle.std.specs.Prelude.{◌≡◌, false, Bool, ℕ, Some, None}
 use Rattle.std.proofs.Props.{props}
 use Rattle.session_value.specs.Sets.{Entries, Prefixes}
 use Rattle.graft_model.specs.Setups.{Setup}

@@ -24,12 +24,12 @@ part_in r = router_part r.fields
 abbrev pub own : routers.Router.Router → OwnPart
 own r = own_part r.fields
 
-abbrev pub IsNew : Setup → RouterConfig → routers.Router.Router → Type 0
-IsNew setup config router = BeginsAs setup config router.fields × Works router
-
 -- memory never ran out in a call of it
 abbrev pub Works : routers.Router.Router → Type 0
 Works r = r.has_failed ≡ false
+
+abbrev pub IsNew : Setup → RouterConfig → routers.Router.Router → Type 0
+IsNew setup config router = BeginsAs setup config router.fields × Works router
 
 -- what is said of a take and of a turn beside their events
 abbrev pub took : routers.Router.Router → ℕ → Item RunningSession → List (Deed (Item RunningSession)) → routers.Router.Router → Type 0

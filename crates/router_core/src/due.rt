@@ -51,7 +51,7 @@ impl DueSets {
         ensures empty { IfOk result (λ due. (n : ℕ) → table_at due n ≡ map.empty) }
     {
         let mut sets = Vec::new(alloc);
-        for _ in 0..count {
+        for _n in 0..count {
             sets.push(TrieTable::new(alloc))?;
         }
         Ok(DueSets { sets })

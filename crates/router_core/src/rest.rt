@@ -3,7 +3,7 @@
 ghost use Rattle.std.specs.Prelude.{ℕ, ◌≡◌, ◌≤◌, Option, Some, None, length, min, MatchBool};
 ghost use Rattle.rib_stages.specs.Values.{table_at};
 ghost use Rattle.settled_check.specs.Firsts.{IsLowestOf};
-ghost use Rattle.settled_check.specs.Left.{HasSome, HasStream, graft_at as graft_of};
+ghost use Rattle.settled_check.specs.Left.{HasSome, HasStream, graft_at as graft_lem};
 ghost use Rattle.settled_check.specs.Rests.{IsRouterRest};
 ghost use Rattle.router_core.specs.Parts.{Keeps, router_part};
 ghost use Rattle.router_core.specs.Places.{lower_of, place_at, place_of};
@@ -29,7 +29,7 @@ fn first_due(due: &DueSets) -> Option<u8>
 
 /// The graft at a place.
 fn graft_at(place: &Place) -> Option<u32>
-    ensures { result ≡ graft_of (place_of place.now) }
+    ensures { result ≡ graft_lem (place_of place.now) }
 {
     match place {
         Place::Vacant => None,
@@ -54,7 +54,7 @@ fn lower(one: Option<u32>, other: Option<u32>) -> Option<u32>
 
 /// The lowest number of a graft at one of the places.
 fn lowest_graft(places: &[Place]) -> Option<u32>
-    ensures { IsLowestOf (λ k. (p : ℕ) × (graft_at (place_of (place_at places.now p)) ≡ Some k)) result }
+    ensures { IsLowestOf (λ k. (p : ℕ) × (graft_lem (place_of (place_at places.now p)) ≡ Some k)) result }
 {
     let mut lowest = None;
     for place in places {

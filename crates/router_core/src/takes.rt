@@ -19,6 +19,7 @@ use crate::fields::Fields;
 use bgp_session::Capsule;
 use graft_edge::NoMemory;
 use graft_steps::Item;
+pub(crate) use reads::follow;
 use ring_net::Post;
 
 /// Takes an item of the actor of this number.

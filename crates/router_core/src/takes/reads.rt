@@ -45,7 +45,11 @@ fn enter_at(router: &mut Fields, place: usize, prefixes: &[Prefix]) -> Result<()
 
 /// Follows what the live session of a peering read: its entries are what it brings in now, and all best routes are due on it once it is established, nothing once
 /// it is closed.
-fn follow(router: &mut Fields, peering: PeeringId, step: ReadStep) -> Result<(), NoMemory>
+pub(crate) fn follow(
+    router: &mut Fields,
+    peering: PeeringId,
+    step: ReadStep,
+) -> Result<(), NoMemory>
     requires places { peering.0 < length router.old.places.items }
     requires sets { peering.0 < length router.old.due_out }
     ensures { (s : RunningSession) (o : Option GraftIds) → RunsAt router.old.places.items peering.0 s o → s.session.config.peering.0 ≡ peering.0
