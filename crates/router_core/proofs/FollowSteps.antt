@@ -14,10 +14,10 @@ use Rattle.router_core.specs.Reading.{DueBy, FollowsStep, OneSet, prefixes_in}
 use Rattle.router_core.specs.declared.fields.Fields.{Fields}
 use Rattle.router_core.proofs.Kept.{at_own, at_else}
 
-one_set : (before : List Prefixes) (p : ℕ) (after : List Prefixes) (d : Prefixes) → length after ≡ length before → table_at after ≡ at (table_at before) p d → OneSet before p after
+pub one_set : (before : List Prefixes) (p : ℕ) (after : List Prefixes) (d : Prefixes) → length after ≡ length before → table_at after ≡ at (table_at before) p d → OneSet before p after
 one_set before p after d len is = record { length = len; others = λ q not. ap (λ (t : ℕ → Prefixes). t q) is ∙ at_else (table_at before) p d q not }
 
-set_is : (before : List Prefixes) (p : ℕ) (after : List Prefixes) (d : Prefixes) → table_at after ≡ at (table_at before) p d → table_at after p ≡ d
+pub set_is : (before : List Prefixes) (p : ℕ) (after : List Prefixes) (d : Prefixes) → table_at after ≡ at (table_at before) p d → table_at after p ≡ d
 set_is before p after d is = ap (λ (t : ℕ → Prefixes). t p) is ∙ at_own (table_at before) p d
 
 pub same_set : (before : List Prefixes) (p : ℕ) → OneSet before p before

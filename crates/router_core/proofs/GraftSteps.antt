@@ -56,10 +56,14 @@ free_of (Live u None) s e = record { session = u; is = refl }
 free_of (Live u (Some o)) s e = absurd (let x : Some (order_of o) ≡ None = cc in let y : ⊥ = cc in y)
 free_of (Shadow away) s e = absurd cc
 
-away_of : (place : Place) (k : ℕ) → place_of place ≡ model.Shadow k → IsAway place k
+pub away_of : (place : Place) (k : ℕ) → place_of place ≡ model.Shadow k → IsAway place k
 away_of Vacant k e = absurd cc
 away_of (Live u o) k e = absurd cc
 away_of (Shadow away) k e = record { away = away; is = refl; graft = cc }
+
+-- the place of a shadow is there
+pub away_within : (f : Fields) (p k : ℕ) → IsAway (place_at f.places.items p) k → p < length f.places.items
+away_within f p k a = elim (cases_lt p (length f.places.items)) [ inl below ↦ below | inr past ↦ absurd (no_shadow a.away (sym (vacant_past f p past) ∙ a.is)) ]
 
 -- ---- the order
 
@@ -170,10 +174,7 @@ module _ (f : Fields) (p q : Post (Item RunningSession)) (from k : ℕ) (peering
       let is = (router_done carried f.known.setup from f.number.0 k (router_part f) peering).0 w in
       let known : from < routers_in f.known.setup = is_router f.known.setup from is.0 in
       let away : IsAway (place_at f.places.items peering.0) k = away_of (place_at f.places.items peering.0) k is.1 in
-      not (omega (arith, known, keeps.routers)) (within away) away)
-    where
-      within : IsAway (place_at f.places.items peering.0) k → peering.0 < length f.places.items
-      within a = elim (cases_lt peering.0 (length f.places.items)) [ inl below ↦ below | inr past ↦ absurd (no_shadow a.away (sym (vacant_past f peering.0 past) ∙ a.is)) ]
+      not (omega (arith, known, keeps.routers)) (away_within f peering.0 k away) away)
 
   -- the shadow ends, with its routes
   pub clears : (g : Fields) (to : ℕ) → from < f.routers → peering.0 < length f.places.items → IsAway (place_at f.places.items peering.0) k → to ≡ f.routers + length f.places.items

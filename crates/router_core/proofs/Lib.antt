@@ -11,6 +11,9 @@ pub mod EachPlace
 pub mod LeaveSteps
 pub mod DecideSteps
 pub mod TellSteps
+pub mod BeginSteps
+pub mod RoundSteps
+pub mod RestSteps
 pub mod TurnSteps
 pub mod Kept
 pub mod Takings
@@ -24,6 +27,6 @@ pub mod ReadRows
 pub mod Listing
 pub mod FollowSteps
 pub mod SegmentSteps
-pub mod RestSteps
-pub mod BeginSteps
-pub mod RoundSteps
+pub mod ReturnSteps
+pub mod LandSteps
+pub mod MoveSteps

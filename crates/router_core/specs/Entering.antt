@@ -1,11 +1,12 @@
 -- What a session brings in at a router, by the policies that the router has, and how its entries are set.
-use Rattle.std.specs.Prelude.{ℕ, ◌≡◌, true, false, List, Option, Some, None, option_map}
+use Rattle.std.specs.Prelude.{ℕ, ◌≡◌, true, false, List, Option, Some, None, option_map, is_none, if◌then◌else◌}
 use Rattle.std.specs.FinMap as map
 use Rattle.std.specs.List.{list_any}
 use Rattle.bgp_types.specs.Prefixes.{PrefixValue, same_prefix}
 use Rattle.route_policy.specs.Candidates.{SessionRoute, imported}
 use Rattle.route_policy.specs.declared.entry.Entry.{Entry}
 use Rattle.route_policy.specs.declared.rule.Rule.{Rule}
+use Rattle.session_value.specs.declared.config.SessionConfig.{SessionConfig}
 use Rattle.session_value.specs.Points.{at}
 use Rattle.session_value.specs.Sessions.{SessionValue}
 use Rattle.session_value.specs.Sets.{Marks}
@@ -13,6 +14,7 @@ use Rattle.rib_stages.specs.Steps.{given}
 use Rattle.rib_stages.specs.Values.{RibValue}
 use Rattle.rib_stages.specs.declared.config.InEntry.{InEntry}
 use Rattle.graft_model.specs.Decisions.{remote_identifier}
+use Rattle.graft_model.specs.Setups.{first_of}
 use Rattle.router_core.specs.Configs.{rules_at}
 use Rattle.router_core.specs.declared.config.NamedPolicy.{NamedPolicy}
 
@@ -49,3 +51,14 @@ pub record EntersAll (before : RibValue) (p : ℕ) (values : PrefixValue → Opt
   pub others : (x : PrefixValue) → list_any (same_prefix x) prefixes ≡ false → map.get (after.entries p) x ≡ map.get (before.entries p) x
   pub dirty : Marks before.dirty (before.entries p) (after.entries p) after.dirty
   pub effect : after ≡ record before { entries = at before.entries p (after.entries p); dirty = after.dirty }
+
+-- ---- policies that the router doesn't have
+
+-- a session's name for which there is no policy
+abbrev pub unknown_by : List NamedPolicy → Option (List ℕ) → Option (List ℕ)
+unknown_by policies None = None
+unknown_by policies (Some name) = if is_none (rules_at policies name) then Some name else None
+
+-- the import policy comes before the export policy
+abbrev pub missing_by : List NamedPolicy → SessionConfig → Option (List ℕ)
+missing_by policies config = first_of (unknown_by policies config.import) (unknown_by policies config.export)

@@ -10,12 +10,12 @@ pub mod Sending
 pub mod Leaving
 pub mod Tellings
 pub mod Deciding
+pub mod Beginning
 pub mod Begins
 pub mod Takes
 pub mod Entering
 pub mod Reading
+pub mod Ticking
 pub mod Turned
 pub mod FieldProps
 pub mod Routers
-pub mod Beginning
-pub mod Ticking

@@ -1,5 +1,5 @@
 -- A router's places as it keeps them.
-use Rattle.std.specs.Prelude.{ℕ, ◌≡◌, ◌<◌, List, Option, Some, None, option_map, min, slice_index_or}
+use Rattle.std.specs.Prelude.{ℕ, ◌≡◌, ◌<◌, Bool, true, false, if◌then◌else◌, List, Option, Some, None, option_map, min, slice_index_or}
 use Rattle.bgp_session.specs.Running.{RunningSession}
 use Rattle.graft_steps.specs.declared.order.GraftIds.{GraftIds}
 use Rattle.graft_model.specs.Parts as model
@@ -22,6 +22,15 @@ place_at places p = slice_index_or places p Vacant
 -- a running session is live there, with this order
 pub record RunsAt (places : List Place) (p : ℕ) (running : RunningSession) (order : Option GraftIds) : Type 0 where
   pub is : place_at places p ≡ Live running order
+
+-- whether something is there
+abbrev pub is_held : Place → Bool
+is_held Vacant = false
+is_held (Live running order) = true
+is_held (Shadow away) = true
+
+abbrev pub weight : Place → ℕ
+weight place = if is_held place then 1 else 0
 
 -- a session is live there, with no stored graft
 pub record IsFree (place : Place) : Type 0 where

@@ -1,5 +1,5 @@
 -- What sessions take in and read at their places, what is due then, and what a router keeps meanwhile.
-use Rattle.std.specs.Prelude.{ℕ, ◌≡◌, ◌≢◌, ◌<◌, ◌≤◌, ◌^◌, ◌||◌, Bool, true, false, List, [], ◌∷◌, length, Option, None, Some, is_some}
+use Rattle.std.specs.Prelude.{ℕ, ◌≡◌, ◌≢◌, ◌<◌, ◌≤◌, ◌^◌, ◌||◌, Bool, true, false, List, [], ◌∷◌, length, Option, None, Some, is_some, slice_set}
 use Rattle.std.specs.FinMap as map
 use Rattle.std.specs.List.{list_any}
 use Rattle.bgp_types.specs.Prefixes.{PrefixValue, same_prefix}
@@ -100,6 +100,21 @@ pub record FollowsStep (old : Fields) (p : ℕ) (s : RunningSession) (step : Rea
   pub entered : EntersAll (rib_of old.rib) p (entry_here old.home_as old.policies s.session) (prefixes_in step) (rib_of new.rib)
   pub sets : OneSet old.due_out p new.due_out
   pub due : DueBy step old.rib.best (table_at old.due_out p) (table_at new.due_out p)
+
+-- A session is live at a place, with no stored graft, and what was told on it and what is best is due.
+pub record MakesLive (old : Fields) (p : ℕ) (s : RunningSession) (new : Fields) : Type 0 where
+  pub same : new ≡ record old { places = new.places; due_out = new.due_out }
+  pub held : new.places.items ≡ slice_set old.places.items p (Live s None)
+  pub sets : OneSet old.due_out p new.due_out
+  pub due : IsDueAgain s.session.told old.rib.best (table_at new.due_out p)
+
+-- A session lands: its routes are taken in, and it is live.
+pub record SettlesIn (old : Fields) (s : RunningSession) (new : Fields) : Type 0 where
+  pub same : new ≡ record old { places = new.places; rib = new.rib; due_out = new.due_out }
+  pub entered : EntersAll (rib_of old.rib) s.session.config.peering.0 (entry_here old.home_as old.policies s.session) (map.keys s.session.heard) (rib_of new.rib)
+  pub held : new.places.items ≡ slice_set old.places.items s.session.config.peering.0 (Live s None)
+  pub sets : OneSet old.due_out s.session.config.peering.0 new.due_out
+  pub due : IsDueAgain s.session.told old.rib.best (table_at new.due_out s.session.config.peering.0)
 
 -- ---- what a router keeps meanwhile
 

@@ -10,4 +10,10 @@ pub(crate) const HEAR: u16 = 8;
 
 pub(crate) const ADMIT: u16 = 9;
 
+pub(crate) const LAND: u16 = 13;
+
+pub(crate) const TURN_BACK: u16 = 14;
+
+pub(crate) const RETURN: u16 = 15;
+
 pub(crate) const CLEAR: u16 = 16;
