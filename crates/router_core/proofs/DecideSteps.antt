@@ -1,0 +1,286 @@
+-- Prefixes are decided, one after another.
+use Rattle.std.proofs.Common.{◌≡◌, ◌≢◌, ℕ, zero, suc, ◌+◌, ◌<◌, ◌≤◌, List, [], ◌∷◌, ◌++◌, length, Option, option_map, Some, None, Bool, true, false, cond, is_some, ◌&&◌, ◌||◌, ◌==◌, not, nat_lt, ◌⊎◌, inl, inr, refl, sym, ap, subst, ◌∙◌, arith, filter_map}
+use Rattle.std.specs.Prelude.{if◌then◌else◌}
+use Rattle.std.specs.FinMap as map
+use Rattle.std.specs.List.{range_with_len}
+use Rattle.std.specs.Ordering.{eq_by_cmp}
+use Rattle.std.proofs.lemmas.Bool.{cases_lt, lt-ltb, le-ltb}
+use Rattle.bgp_types.proofs.TableLaws.{tied}
+use Rattle.bgp_types.specs.Prefixes.{PrefixValue, same_prefix}
+use Rattle.bgp_types.specs.Tables.{prefix_cmp}
+use Rattle.bgp_types.specs.declared.message.SessionState.{SessionState}
+use Rattle.bgp_types.specs.declared.message.SessionState.TheVariants.{OpenSent, OpenConfirm, Established, Closed}
+use Rattle.bgp_types.specs.declared.rank.From.TheVariants.{Router}
+use Rattle.decision_core.specs.Choice.{choice}
+use Rattle.loc_rib.specs.Values.{with_best, AreApart}
+use Rattle.route_policy.specs.Candidates.{own_candidates, entry_candidate, rank_of}
+use Rattle.ring_net.specs.declared.post.Post.{Post}
+use Rattle.graft_steps.specs.declared.item.Item.{Item}
+use Rattle.bgp_session.specs.Running.{RunningSession}
+use Rattle.session_value.specs.Sessions.{state}
+use Rattle.session_value.specs.Sets.{Entries, Prefixes, has}
+use Rattle.rib_stages.specs.Choosing as rib_choosing
+use Rattle.rib_stages.specs.Choosing.{NoneBehind}
+use Rattle.rib_stages.specs.Values.{RibStore, rib_of, table_at}
+use Rattle.rib_stages.proofs.Candidates.{chosen_among}
+use Rattle.rib_stages.proofs.Drops.{fewer_left}
+use Rattle.rib_stages.proofs.Kept.{tests_same}
+use Rattle.rib_stages.proofs.Marks.{has_inserted}
+use Rattle.graft_model.specs.Decisions as model_choosing
+use Rattle.graft_model.specs.Points.{at}
+use Rattle.graft_model.specs.Parts.{RouterPart}
+use Rattle.graft_model.specs.Sets.{Adds}
+use Rattle.graft_model.specs.Setups.{Setup, peerings_in, routers_in}
+use Rattle.graft_model.specs.Steps.{RouterEvent, Decide}
+use Rattle.graft_model.specs.TableRows.{Decides, DueEverywhere, holds_established, is_established, only}
+use Rattle.graft_actors.specs.Emissions.{Tally}
+use Rattle.graft_actors.specs.Notes.{WroteOne}
+use Rattle.router_core.specs.Deciding.{AddsBelow, DecidesOne, DecidesSome, DueToAll, is_other, is_up_at}
+use Rattle.router_core.specs.Parts.{router_part, Keeps, KeepsPlace}
+use Rattle.router_core.specs.Places.{place_of, place_at}
+use Rattle.router_core.specs.Rounds.{Did, SameRouter}
+use Rattle.router_core.specs.Stages.{DecidesAll}
+use Rattle.router_core.specs.declared.fields.Fields.{Fields}
+use Rattle.router_core.specs.declared.place.Place.{Place}
+use Rattle.router_core.specs.declared.place.Place.TheVariants.{Vacant, Live, Shadow}
+use Rattle.router_core.proofs.Dids.{did_same, did_then, did_one}
+use Rattle.router_core.proofs.RoundLists.{rounds_on-append}
+use Rattle.router_core.proofs.Standing.{keeps_on}
+use Rattle.router_core.proofs.VisitSteps.{same_or_not, at_here, at_other, place_at_end}
+
+-- ---- sets with one prefix more
+
+by_test : (b : Bool) → (b ≡ true) ⊎ (b ≡ false)
+by_test true = inl refl
+by_test false = inr refl
+
+either_way : (p q : PrefixValue) → eq_by_cmp prefix_cmp p q ≡ eq_by_cmp prefix_cmp q p
+either_way p q = elim (by_test (eq_by_cmp prefix_cmp p q)) [
+  | inl e ↦ let same : p ≡ q = tied p q e in (λ i. eq_by_cmp prefix_cmp (same i) (sym same i))
+  | inr e ↦ elim (by_test (eq_by_cmp prefix_cmp q p)) [
+    | inl f ↦ let same : q ≡ p = tied q p f in (λ i. eq_by_cmp prefix_cmp (sym same i) (same i))
+    | inr f ↦ e ∙ sym f
+  ]
+]
+
+no_add : (s : Prefixes) (prefix : PrefixValue) → Adds s (only prefix false) s
+no_add s prefix = record { members = λ x. by_both (has s x) (same_prefix prefix x) }
+  where
+    by_both : (h b : Bool) → h ≡ (h || (b && false))
+    by_both true true = refl
+    by_both true false = refl
+    by_both false true = refl
+    by_both false false = refl
+
+one_add : (s : Prefixes) (prefix : PrefixValue) → Adds s (only prefix true) (map.insert s prefix tt)
+one_add s prefix = record { members = λ x. has_inserted s prefix x ∙ ap (λ (b : Bool). cond b true (has s x)) (either_way x prefix ∙ tests_same prefix x) ∙ by_both (has s x) (same_prefix prefix x) }
+  where
+    by_both : (h b : Bool) → cond b true h ≡ (h || (b && true))
+    by_both true true = refl
+    by_both true false = refl
+    by_both false true = refl
+    by_both false false = refl
+
+add_where : (s : Prefixes) (prefix : PrefixValue) (b : Bool) → Adds s (only prefix b) (if b then map.insert s prefix tt else s)
+add_where s prefix true = one_add s prefix
+add_where s prefix false = no_add s prefix
+
+pub adds_first : (test : ℕ → Bool) (prefix : PrefixValue) (xs : List Prefixes) → AddsBelow zero test prefix xs xs
+adds_first test prefix xs = record { size = refl; below = λ k below. absurd (omega (arith, below)); from = λ k from. refl }
+
+pub adds_next : (n : ℕ) (test : ℕ → Bool) (prefix : PrefixValue) (xs ys zs : List Prefixes) (b : Bool) → AddsBelow n test prefix xs ys → b ≡ test n → length zs ≡ length ys
+    → table_at zs ≡ at (table_at ys) n (if b then map.insert (table_at ys n) prefix tt else table_at ys n) → AddsBelow (n + 1) test prefix xs zs
+adds_next n test prefix xs ys zs b before is size added = record {
+  size = size ∙ before.size;
+  below = λ k below. elim (same_or_not n k) [
+    | inl e ↦ subst (λ (j : ℕ). Adds (table_at xs j) (only prefix (test j)) (table_at zs j)) (sym e) here
+    | inr not ↦ subst (Adds (table_at xs k) (only prefix (test k))) (sym (other k not)) (before.below k (lower k below not))
+  ];
+  from = λ k from. other k (λ e. let x : ⊥ = omega (arith, from, e) in x) ∙ before.from k (omega (arith, from));
+}
+  where
+    other : (k : ℕ) → k ≢ n → table_at zs k ≡ table_at ys k
+    other k not = ap (λ (d : ℕ → Prefixes). d k) added ∙ at_other (table_at ys) n (if b then map.insert (table_at ys n) prefix tt else table_at ys n) k not
+
+    here : Adds (table_at xs n) (only prefix (test n)) (table_at zs n)
+    here = subst (Adds (table_at xs n) (only prefix (test n))) (sym (ap (λ (d : ℕ → Prefixes). d n) added ∙ at_here (table_at ys) n (if b then map.insert (table_at ys n) prefix tt else table_at ys n) n refl))
+        (subst (λ (s : Prefixes). Adds s (only prefix (test n)) (if b then map.insert (table_at ys n) prefix tt else table_at ys n)) (before.from n (omega arith))
+        (subst (λ (c : Bool). Adds (table_at ys n) (only prefix c) (if b then map.insert (table_at ys n) prefix tt else table_at ys n)) is (add_where (table_at ys n) prefix b)))
+
+    lower : (k : ℕ) → k < n + 1 → k ≢ n → k < n
+    lower k below not = elim (cases_lt k n) [ inl under ↦ under | inr from ↦ absurd (not (omega (arith, from, below))) ]
+
+adds_all : (test : ℕ → Bool) (prefix : PrefixValue) (xs ys : List Prefixes) → AddsBelow (length xs) test prefix xs ys → ((k : ℕ) → length xs ≤ k → test k ≡ false) → (k : ℕ) → Adds (table_at xs k) (only prefix (test k)) (table_at ys k)
+adds_all test prefix xs ys adds none k = elim (cases_lt k (length xs)) [
+  | inl below ↦ adds.below k below
+  | inr from ↦ subst (λ (s : Prefixes). Adds (table_at xs k) (only prefix (test k)) s) (sym (adds.from k from)) (subst (λ (b : Bool). Adds (table_at xs k) (only prefix b) (table_at xs k)) (sym (none k from)) (no_add (table_at xs k) prefix))
+]
+
+-- ---- what a place keeps
+
+added_or : (h b : Bool) → (h || b) ≡ true → (h ≡ true) ⊎ (b ≡ true)
+added_or true b e = inl refl
+added_or false b e = inr e
+
+both_true : (b c : Bool) → (b && c) ≡ true → c ≡ true
+both_true true c e = e
+both_true false c e = absurd (let x : ⊥ = cc in x)
+
+none_added : (h b : Bool) → h ≡ false → (h || (b && false)) ≡ false
+none_added h true e = ap (λ (x : Bool). x || false) e
+none_added h false e = ap (λ (x : Bool). x || false) e
+
+up_is : (s : SessionState) → is_established s ≡ true → s ≡ Established
+up_is OpenSent e = absurd (let x : ⊥ = cc in x)
+up_is OpenConfirm e = absurd (let x : ⊥ = cc in x)
+up_is Established e = refl
+up_is Closed e = absurd (let x : ⊥ = cc in x)
+
+add_keeps : (setup : Setup) (r p : ℕ) (entries : Entries) (due more : Prefixes) (prefix : PrefixValue) (x : Place) → KeepsPlace setup r p entries due x → Adds due (only prefix (holds_established (place_of x))) more → KeepsPlace setup r p entries more x
+add_keeps setup r p entries due more prefix Vacant keeps adds = (keeps.0, λ y. adds.members y ∙ none_added (has due y) (same_prefix prefix y) (keeps.1 y))
+add_keeps setup r p entries due more prefix (Live s o) keeps adds = (
+  keeps.0,
+  keeps.1,
+  keeps.2,
+  λ y has_more. elim (added_or (has due y) (same_prefix prefix y && is_established (state s.session)) (sym (adds.members y) ∙ has_more)) [
+    | inl there ↦ keeps.3 y there
+    | inr new ↦ up_is (state s.session) (both_true (same_prefix prefix y) (is_established (state s.session)) new)
+  ],
+)
+add_keeps setup r p entries due more prefix (Shadow away) keeps adds = (keeps.0, λ y. adds.members y ∙ none_added (has due y) (same_prefix prefix y) (keeps.1 y))
+
+-- ---- the choice
+
+none_of : {A : Type 0} (o : Option A) → is_some o ≡ false → o ≡ None
+none_of None e = refl
+none_of (Some x) e = absurd (let y : ⊥ = cc in y)
+
+-- The choice is the laboratory's: nothing stands behind its peerings and routers.
+pub chosen_is : (f : Fields) (prefix : PrefixValue) → Keeps f → rib_choosing.chosen (rib_of f.rib) prefix ≡ model_choosing.chosen f.known.setup f.number.0 (router_part f) prefix
+chosen_is f prefix keeps =
+    chosen_among (rib_of f.rib) prefix (peerings_in f.known.setup) (routers_in f.known.setup) keeps.few_peerings (omega (arith, keeps.routers, keeps.few_routers)) behind
+    ∙ (λ i. choice (
+    own_candidates (keeps.rib.home_as i) (keeps.rib.networks prefix i)
+    ++ filter_map (λ p. entry_candidate (keeps.rib.home_as i) p (map.get ((rib_of f.rib).entries p) prefix)) (range_with_len 0 (peerings_in f.known.setup))
+    ++ filter_map (λ q. option_map (λ route. (record { from = Router (record { 0 = q }); route = route }, rank_of (keeps.rib.home_as i) false (keeps.rib.costs q i) (keeps.rib.identifiers q i) (keeps.rib.identifiers q i) route)) (map.get ((rib_of f.rib).tellings q) prefix)) (range_with_len 0 (routers_in f.known.setup))))
+  where
+    behind : NoneBehind (peerings_in f.known.setup) (routers_in f.known.setup) (rib_of f.rib) prefix
+    behind = record {
+      entries = λ p from. none_of _ ((subst (KeepsPlace f.known.setup f.number.0 p ((rib_of f.rib).entries p) (table_at f.due_out p)) (place_at_end f.places.items p (omega (arith, keeps.places, from))) (keeps.each p)).0 prefix);
+      tellings = λ q from. none_of _ (keeps.tellings q from prefix);
+    }
+
+-- ---- one prefix
+
+module _ (f h g : Fields) (p q : Post (Item RunningSession)) (prefix : PrefixValue) (keeps : Keeps f) (dirty : has f.rib.dirty prefix ≡ true) (decided : h ≡ record f { rib = h.rib })
+    (rib : h.rib ≡ record f.rib { best = with_best f.rib.best prefix (rib_choosing.chosen (rib_of f.rib) prefix); dirty = map.remove f.rib.dirty prefix })
+    (wrote : WroteOne p 6 prefix.address prefix.len 0 [] q) where
+  -- the routes that it has then
+  pub keeps_decided : Keeps h
+  keeps_decided = keeps_on f h keeps (subst (λ (x : Fields). x ≡ record f { places = x.places; rib = x.rib; due_in = x.due_in; due_out = x.due_out; turns = x.turns }) (sym decided) refl)
+      (record {
+        places = ap (λ (x : Fields). length x.places.items) decided;
+        due_in = ap (λ (x : Fields). length x.due_in) decided;
+        due_out = ap (λ (x : Fields). length x.due_out) decided;
+        config = ap (λ (x : RibStore). x.config) rib;
+        tellings = ap (λ (x : RibStore). (rib_of x).tellings) rib;
+      })
+      (λ k. subst (λ (x : Fields). KeepsPlace f.known.setup f.number.0 k ((rib_of h.rib).entries k) (table_at x.due_out k) (place_at x.places.items k)) (sym decided)
+      (subst (λ (x : RibStore). KeepsPlace f.known.setup f.number.0 k ((rib_of x).entries k) (table_at f.due_out k) (place_at f.places.items k)) (sym rib) (keeps.each k)))
+
+  abbrev part_then : RouterPart
+  part_then = record (router_part f) { best = with_best f.rib.best prefix (model_choosing.chosen f.known.setup f.number.0 (router_part f) prefix); dirty = map.remove f.rib.dirty prefix }
+
+  part_decided : router_part h ≡ part_then
+  part_decided = ap router_part decided
+      ∙ ap (λ (x : RibStore). let y : RouterPart = record (router_part f) { entries = (rib_of x).entries; tellings = (rib_of x).tellings; best = x.best; dirty = x.dirty } in y) rib
+      ∙ ap (λ b. let y : RouterPart = record (router_part f) { best = with_best f.rib.best prefix b; dirty = map.remove f.rib.dirty prefix } in y) (chosen_is f prefix keeps)
+
+  did_decide : (part : RouterPart) → router_part g ≡ part → SameRouter f g → Decides f.known.setup f.number.0 prefix (router_part f) None [] part → (t : ℕ → Tally) → Did f p t (Decide prefix ∷ []) g q t
+  did_decide part is same row t = did_one f g p q t (Decide prefix) 6 prefix.address prefix.len 0 same wrote (record { kind = refl; a = refl; b = refl; c = refl }) (subst (Decides f.known.setup f.number.0 prefix (router_part f) None []) (sym is) row) tt
+
+  -- the best route stays
+  pub decides_same : AreApart (rib_choosing.chosen (rib_of f.rib) prefix) (map.get f.rib.best prefix) false → g ≡ h → DecidesOne prefix f p g q
+  decides_same stays is = subst (λ (x : Fields). DecidesOne prefix f p x q) (sym is) whole
+    where
+      row : Decides f.known.setup f.number.0 prefix (router_part f) None [] part_then
+      row = record { alone = (refl, refl); dirty = dirty; due = inl (sym (chosen_is f prefix keeps) ∙ stays, refl, refl); effect = refl }
+
+      whole : DecidesOne prefix f p h q
+      whole = record {
+        did = λ t. did_one f h p q t (Decide prefix) 6 prefix.address prefix.len 0 (record { setup = ap (λ (x : Fields). x.known.setup) decided; number = ap (λ (x : Fields). x.number) decided }) wrote
+            (record { kind = refl; a = refl; b = refl; c = refl }) (subst (Decides f.known.setup f.number.0 prefix (router_part f) None []) (sym part_decided) row) tt;
+        dirty = ap (λ (x : RibStore). x.dirty) rib;
+        same = subst (λ (x : Fields). x ≡ record f { rib = x.rib; due_in = x.due_in; due_out = x.due_out }) (sym decided) refl;
+        keeps = keeps_decided;
+      }
+
+  -- another one is best
+  pub decides_other : AreApart (rib_choosing.chosen (rib_of f.rib) prefix) (map.get f.rib.best prefix) true → DueToAll prefix h g → DecidesOne prefix f p g q
+  decides_other apart due = record {
+    did = did_decide part_new part_is (record { setup = ap (λ (x : Fields). x.known.setup) g_same; number = ap (λ (x : Fields). x.number) g_same }) row;
+    dirty = ap (λ (x : Fields). x.rib.dirty) due.same ∙ ap (λ (x : RibStore). x.dirty) rib;
+    same = g_same;
+    keeps = keeps_on h g keeps_decided (subst (λ (x : Fields). x ≡ record h { places = x.places; rib = x.rib; due_in = x.due_in; due_out = x.due_out; turns = x.turns }) (sym due.same) refl)
+        (record { places = ap (λ (x : Fields). length x.places.items) due.same; due_in = due.due_in.size; due_out = due.due_out.size; config = ap (λ (x : Fields). x.rib.config) due.same; tellings = ap (λ (x : Fields). (rib_of x.rib).tellings) due.same })
+        (λ k. subst (λ (x : Fields). KeepsPlace h.known.setup h.number.0 k ((rib_of x.rib).entries k) (table_at g.due_out k) (place_at x.places.items k)) (sym due.same)
+        (add_keeps h.known.setup h.number.0 k ((rib_of h.rib).entries k) (table_at h.due_out k) (table_at g.due_out k) prefix (place_at h.places.items k) (keeps_decided.each k) (out k)));
+  }
+    where
+      g_same : g ≡ record f { rib = g.rib; due_in = g.due_in; due_out = g.due_out }
+      g_same = due.same ∙ ap (λ (x : Fields). let y : Fields = record x { due_in = g.due_in; due_out = g.due_out } in y) decided ∙ ap (λ (x : RibStore). let y : Fields = record f { rib = x; due_in = g.due_in; due_out = g.due_out } in y) (sym (ap (λ (x : Fields). x.rib) due.same))
+
+      part_new : RouterPart
+      part_new = record part_then { due_in = table_at g.due_in; due_out = table_at g.due_out }
+
+      part_is : router_part g ≡ part_new
+      part_is = ap router_part due.same ∙ ap (λ (x : RouterPart). let y : RouterPart = record x { due_in = table_at g.due_in; due_out = table_at g.due_out } in y) part_decided
+
+      out : (k : ℕ) → Adds (table_at h.due_out k) (only prefix (holds_established (place_of (place_at h.places.items k)))) (table_at g.due_out k)
+      out = adds_all (is_up_at h) prefix h.due_out g.due_out due.due_out (λ k from. ap (λ (x : Place). holds_established (place_of x)) (place_at_end h.places.items k (omega (arith, from, keeps_decided.places, keeps_decided.due_out))))
+
+      into : (k : ℕ) → Adds (table_at h.due_in k) (only prefix (is_other h k)) (table_at g.due_in k)
+      into = adds_all (is_other h) prefix h.due_in g.due_in due.due_in (λ k from. ap (λ (b : Bool). b && not (k == h.number.0)) (le-ltb k (routers_in h.known.setup) (omega (arith, from, keeps_decided.due_in))))
+
+      everywhere : DueEverywhere f.known.setup f.number.0 prefix (router_part f) part_new
+      everywhere = record {
+        routers = subst (λ (x : Fields). (k : ℕ) → Adds (table_at x.due_in k) (only prefix (is_other x k)) (table_at g.due_in k)) decided into;
+        peerings = subst (λ (x : Fields). (k : ℕ) → Adds (table_at x.due_out k) (only prefix (holds_established (place_of (place_at x.places.items k)))) (table_at g.due_out k)) decided out;
+      }
+
+      row : Decides f.known.setup f.number.0 prefix (router_part f) None [] part_new
+      row = record { alone = (refl, refl); dirty = dirty; due = inr (λ e. apart (chosen_is f prefix keeps ∙ e), everywhere); effect = refl }
+
+-- ---- one after another
+
+pub decides_first : (f : Fields) (p : Post (Item RunningSession)) → Keeps f → DecidesSome f p f p
+decides_first f p keeps = record { events = []; did = λ t. did_same f f p t (record { setup = refl; number = refl }) refl; no_rounds = λ k. refl; same = refl; keeps = keeps }
+
+module _ (f g h : Fields) (p r s : Post (Item RunningSession)) (prefix : PrefixValue) (before : DecidesSome f p g r) (one : DecidesOne prefix g r h s) where
+  pub decides_next : DecidesSome f p h s
+  decides_next = record {
+    events = before.events ++ Decide prefix ∷ [];
+    did = λ t. did_then f g h p r s t t t before.events (Decide prefix ∷ []) (before.did t) (one.did t);
+    no_rounds = λ k. rounds_on-append k before.events (Decide prefix ∷ []) ∙ ap (λ (xs : List ℕ). xs ++ []) (before.no_rounds k);
+    same = one.same ∙ ap (λ (x : Fields). let y : Fields = record x { rib = h.rib; due_in = h.due_in; due_out = h.due_out } in y) before.same;
+    keeps = one.keeps;
+  }
+
+  -- one prefix less is dirty
+  pub fewer_dirty : has g.rib.dirty prefix ≡ true → map.len h.rib.dirty < map.len g.rib.dirty
+  fewer_dirty there = subst (λ (d : Prefixes). map.len d < map.len g.rib.dirty) (sym one.dirty) (fewer_left g.rib.dirty prefix there)
+
+pub decides_all : (f g : Fields) (p r : Post (Item RunningSession)) → DecidesSome f p g r → g.rib.dirty ≡ map.empty → DecidesAll f p g r
+decides_all f g p r some clean = record { events = some.events; did = some.did; no_rounds = some.no_rounds; clean = clean; same = some.same; keeps = some.keeps }
+
+-- ---- where it is due
+
+pub other_is : (f : Fields) (q : ℕ) (b : Bool) → q < routers_in f.known.setup → b ≡ not (q == f.number.0) → b ≡ is_other f q
+other_is f q b below is = is ∙ sym (ap (λ (c : Bool). c && not (q == f.number.0)) (lt-ltb q (routers_in f.known.setup) below))
+
+pub due_all : (prefix : PrefixValue) (f g h : Fields) → AddsBelow (length f.due_in) (is_other f) prefix f.due_in g.due_in → g ≡ record f { due_in = g.due_in } → AddsBelow (length g.due_out) (is_up_at g) prefix g.due_out h.due_out → h ≡ record g { due_out = h.due_out } → DueToAll prefix f h
+due_all prefix f g h first g_same second h_same = record {
+  due_in = subst (AddsBelow (length f.due_in) (is_other f) prefix f.due_in) (sym (ap (λ (x : Fields). x.due_in) h_same)) first;
+  due_out = subst (λ (x : Fields). AddsBelow (length x.due_out) (is_up_at x) prefix x.due_out h.due_out) g_same second;
+  same = h_same ∙ ap (λ (x : Fields). let y : Fields = record x { due_out = h.due_out } in y) g_same ∙ (λ i. record f { due_in = sym (ap (λ (x : Fields). x.due_in) h_same) i; due_out = h.due_out });
+}

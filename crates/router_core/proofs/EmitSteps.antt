@@ -1,0 +1,132 @@
+-- What sessions emit at their places.
+use Rattle.std.proofs.Common.{◌≡◌, ◌≢◌, ℕ, zero, suc, ◌+◌, ◌-◌, ◌<◌, ◌≤◌, ◌^◌, min, List, [], ◌∷◌, length, take, drop, Option, Some, None, option_map, Bool, true, false, ◌⊎◌, inl, inr, refl, sym, ap, subst, ◌∙◌, arith, set}
+use Rattle.std.specs.Prelude.{nat_lt, if◌then◌else◌, IsNone, IfNone, IsSome, ◌↔◌}
+use Rattle.std.proofs.lemmas.List.{length-take, length-drop}
+use Rattle.std.proofs.lemmas.Bool.{cases_lt, lt-ltb, le-ltb}
+use Rattle.ring_net.specs.declared.post.Post.{Post}
+use Rattle.tcp_seq.specs.Endpoint.{Endpoint, PlacedSegment, IsInStreams, EmitsNext, EmitsAgain, EmitsAnswer, EmitsSlice, EmitsEmpty, next_length, again_length, ready_bytes, received_bytes}
+use Rattle.tcp_seq.specs.Numbers.{offset_from}
+use Rattle.tcp_seq.specs.Placed.{placed}
+use Rattle.tcp_seq.specs.declared.segment.Segment.{Segment}
+use Rattle.tcp_seq.specs.declared.segment.Way.{Way}
+use Rattle.tcp_seq.specs.declared.segment.Way.TheVariants.{Remote}
+use Rattle.graft_steps.specs.declared.item.Item.{Item}
+use Rattle.graft_steps.specs.declared.item.Item.TheVariants as items
+use Rattle.graft_steps.specs.declared.order.GraftIds.{GraftIds}
+use Rattle.session_value.specs.Sessions.{SessionValue, unread}
+use Rattle.bgp_session.specs.Running.{RunningSession}
+use Rattle.bgp_session.specs.Steps.{Emits, EmitsBy, sent_as}
+use Rattle.rib_stages.specs.Values.{rib_of, table_at}
+use Rattle.graft_model.specs.Points.{at}
+use Rattle.graft_model.specs.Setups.{Setup, routers_in, peerings_in}
+use Rattle.graft_model.specs.Slices.{EmitsAt}
+use Rattle.graft_model.specs.Parts as model
+use Rattle.graft_model.specs.Parts.{RouterPart, Seg}
+use Rattle.graft_model.specs.RouterRows.{OutwardTo}
+use Rattle.graft_model.specs.Steps.{RouterEvent, Emit}
+use Rattle.graft_runs.specs.Actors.{FarSide, OutwardItem}
+use Rattle.graft_actors.specs.Emissions.{reach_of, IsCareful, Tally, counted}
+use Rattle.graft_actors.specs.Items.{home_first, remote_first, placed_for, segment_of, segment_thing, IsSegmentOf}
+use Rattle.graft_actors.specs.Notes.{WroteOne}
+use Rattle.router_core.specs.Parts.{router_part, Keeps, KeepsPlace, IsOfPeering}
+use Rattle.router_core.specs.Places.{place_of, place_at, order_of}
+use Rattle.router_core.specs.Rounds.{Did, tally_at}
+use Rattle.router_core.specs.Sending.{IsOutletOf}
+use Rattle.router_core.specs.Visits.{Stage, Visits, SameButPlaces}
+use Rattle.router_core.specs.declared.fields.Fields.{Fields}
+use Rattle.router_core.specs.declared.place.Place.{Place}
+use Rattle.router_core.specs.declared.place.Place.TheVariants.{Live}
+use Rattle.router_core.specs.declared.stages.send.Outlet.{Outlet}
+use Rattle.router_core.proofs.Dids.{Sends, did_sent}
+use Rattle.router_core.proofs.PlaceSteps.{keeps_live, here, elsewhere, part_at, keeps_at}
+
+-- ---- the segment
+
+-- a session emits a segment: a slice of its stream, or none of it
+pub record Gives (s : SessionValue) (segment : Segment) (u : SessionValue) (from len : ℕ) : Type 0 where
+  pub end : Endpoint
+  pub at : EmitsAt from len s.end (sent_as s.config segment) end
+  pub in_streams : IsInStreams (sent_as s.config segment)
+  pub peering : segment.peering ≡ s.config.peering
+  pub way : segment.way ≡ Remote
+  pub effect : u ≡ record s { end = end }
+
+-- what is sent is that segment, and may go to the far side of its peering
+placed_is : (setup : Setup) (p : ℕ) (s : SessionValue) (segment : Segment) → IsOfPeering setup p s → segment.peering ≡ s.config.peering → segment.way ≡ Remote → segment_of setup segment ≡ sent_as s.config segment
+placed_is setup p s segment of peering way =
+    ap (λ (w : Way). placed_for w (home_first setup segment.peering.0) (remote_first setup segment.peering.0) segment) way
+    ∙ ap (λ (k : ℕ). placed (home_first setup k) (remote_first setup k) segment) (ap (λ q. q.0) peering ∙ of.peering)
+    ∙ (λ i. placed (sym of.sends i) (sym of.receives i) segment)
+
+sends_segment : (f : Fields) (p from len : ℕ) (s u : SessionValue) (segment : Segment) → p < peerings_in f.known.setup → IsOfPeering f.known.setup p s → Gives s segment u from len → length segment.bytes ≤ 1024
+    → Sends f (routers_in f.known.setup + p) (items.Seg segment) (OutwardTo p (Seg (sent_as s.config segment)))
+sends_segment f p from len s u segment there of gives short = record {
+  name = FarSide p;
+  known = there;
+  number = refl;
+  thing = λ i. (
+    FarSide p,
+    (ap (λ (w : PlacedSegment). OutwardItem (Seg w)) (sym (placed_is f.known.setup p s segment of gives.peering gives.way))
+        ∙ ap (λ (w : Way). segment_thing w (segment_of f.known.setup segment)) (sym gives.way)) i,
+  );
+  may = record {
+    peering = ap (λ q. q.0) gives.peering ∙ of.peering;
+    way = gives.way;
+    len = omega (arith, short);
+    placed = subst IsInStreams (sym (placed_is f.known.setup p s segment of gives.peering gives.way)) gives.in_streams;
+  };
+}
+
+unread_same : (e f : Endpoint) (g : PlacedSegment) → EmitsSlice e g f ⊎ EmitsEmpty e g f → ready_bytes f ≡ ready_bytes e
+unread_same e f g (inl slice) = ap ready_bytes slice.rises
+unread_same e f g (inr empty) = ap ready_bytes empty.given
+
+-- ---- the event
+
+-- The session that is live at a place emits a segment, which is noted and sent.
+module _ (f g : Fields) (p q : Post (Item RunningSession)) (n : ℕ) (s u : RunningSession) (o : Option GraftIds) (segment : Segment) (from len : ℕ)
+    (keeps : Keeps f) (there : n < length f.places.items) (is : place_at f.places.items n ≡ Live s o) (same : SameButPlaces f g) (items_are : g.places.items ≡ set f.places.items n (Live u o))
+    (gives : Gives s.session segment u.session from len) (careful : IsCareful s.session.end from len) (short : length segment.bytes ≤ 1024)
+    (wrote : WroteOne p 2 n from len ((routers_in f.known.setup + n, items.Seg segment) ∷ []) q) where
+  place_is : KeepsPlace f.known.setup f.number.0 n ((rib_of f.rib).entries n) (table_at f.due_out n) (Live s o)
+  place_is = subst (KeepsPlace f.known.setup f.number.0 n ((rib_of f.rib).entries n) (table_at f.due_out n)) is (keeps.each n)
+
+  peering_there : n < peerings_in f.known.setup
+  peering_there = omega (arith, there, keeps.places)
+
+  part_is : (router_part f).places n ≡ model.Live s.session (option_map order_of o)
+  part_is = ap place_of is
+
+  did_emit : (t : ℕ → Tally) → Did f p t (Emit n from len ∷ []) g q (at t n (counted s.session.end from len (t n)))
+  did_emit t = subst (λ (x : model.Place). Did f p t (Emit n from len ∷ []) g q (at t n (tally_at x from len (t n)))) part_is
+      (did_sent f g p q t (Emit n from len) 2 n from len (routers_in f.known.setup + n) (items.Seg segment) (OutwardTo n (Seg (sent_as s.session.config segment)))
+      (record { setup = ap (λ (h : Fields). h.known.setup) same; number = ap (λ (h : Fields). h.number) same }) wrote (record { kind = refl; a = refl; b = refl; c = refl })
+      (sends_segment f n from len s.session u.session segment peering_there place_is.0 gives short)
+      (record {
+        session = s.session;
+        order = option_map order_of o;
+        live = record { is = part_is };
+        segment = sent_as s.session.config segment;
+        end = gives.end;
+        emits = gives.at;
+        takes = refl;
+        sends = refl;
+        effect = part_at f g n (Live u o) there same items_are ∙ ap (λ (v : SessionValue). let x : RouterPart = record (router_part f) { places = at (router_part f).places n (model.Live v (option_map order_of o)) } in x) gives.effect;
+      })
+      (record { session = s.session; order = option_map order_of o; live = record { is = part_is }; careful = careful }))
+
+  pub keeps_emitted : Keeps g
+  keeps_emitted = keeps_at f g n (Live u o) there same items_are keeps
+      (keeps_live f.known.setup f.number.0 n ((rib_of f.rib).entries n) (table_at f.due_out n) s u o place_is (ap (λ (v : SessionValue). v.config) gives.effect) (ap (λ (v : SessionValue). v.story) gives.effect)
+      (ap unread gives.effect ∙ unread_same s.session.end gives.end (sent_as s.session.config segment) gives.at.emits))
+
+  pub visits_emitted : (stage : Stage) → stage.Goes [] (Live s o) (Live u o) → ((t : Tally) → counted s.session.end from len t ≡ stage.count (Live s o) t) → stage.Same f g → Visits stage n f p g q
+  visits_emitted stage goes count same_rest = record {
+    events = Emit n from len ∷ [];
+    did = λ t. subst (λ (x : Place). Did f p t (Emit n from len ∷ []) g q (at t n (stage.count x (t n)))) (sym is)
+        (subst (λ (x : Tally). Did f p t (Emit n from len ∷ []) g q (at t n x)) (count (t n)) (did_emit t));
+    goes = subst (λ (x : Place). stage.Goes [] x (place_at g.places.items n)) (sym is) (subst (λ (x : Place). stage.Goes [] (Live s o) x) (sym (here f g n (Live u o) there same items_are)) goes);
+    others = λ k not. (elsewhere f g n (Live u o) there same items_are k not, refl);
+    same = same_rest;
+    keeps = keeps_emitted;
+  }

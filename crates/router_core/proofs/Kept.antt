@@ -1,0 +1,140 @@
+-- What a router keeps while its places, its routes and what is due change.
+use Rattle.std.proofs.Common.{◌≡◌, ◌≢◌, ℕ, ◌<◌, ◌≤◌, List, length, Option, is_some, false, Bool, refl, sym, ap, subst, ◌∙◌, arith, inl, inr, ◌⊎◌, set}
+use Rattle.std.specs.Prelude.{if◌then◌else◌}
+use Rattle.std.specs.FinMap as map
+use Rattle.std.proofs.lemmas.Bool.{cases_lt, eq-eqb, ne_eqb}
+use Rattle.std.proofs.lemmas.List.{get_or-set_same, get_or-set_other}
+use Rattle.session_value.specs.Sets.{Tellings}
+use Rattle.rib_stages.specs.declared.config.RibConfig.{RibConfig}
+use Rattle.rib_stages.specs.Values.{RibValue, rib_of, table_at}
+use Rattle.graft_model.specs.Points.{at}
+use Rattle.graft_model.specs.Parts as model
+use Rattle.graft_model.specs.Parts.{RouterPart}
+use Rattle.bgp_session.specs.Running.{RunningSession}
+use Rattle.graft_steps.specs.declared.order.GraftIds.{GraftIds}
+use Rattle.graft_model.specs.Setups.{routers_in}
+use Rattle.router_core.specs.Configs.{IsRibOf}
+use Rattle.router_core.specs.Parts.{router_part, Keeps, KeepsPlace}
+use Rattle.router_core.specs.Places.{place_of, place_at, RunsAt}
+use Rattle.router_core.specs.Reading.{KeepsRest}
+use Rattle.router_core.specs.Takes.{Stays}
+use Rattle.router_core.specs.declared.fields.Fields.{Fields}
+use Rattle.router_core.specs.declared.place.Place.{Place}
+use Rattle.router_core.specs.declared.place.Place.TheVariants.{Vacant, Live}
+
+-- ---- numbers
+
+-- a number is the other one, or isn't
+pub one_or_other : (p q : ℕ) → (q ≡ p) ⊎ (q ≢ p)
+one_or_other p q = elim (cases_lt q p) [
+  | inl below ↦ inr (λ e. let x : ⊥ = omega (arith, below, e) in x)
+  | inr from ↦ elim (cases_lt p q) [ inl above ↦ inr (λ e. let x : ⊥ = omega (arith, above, e) in x) | inr to ↦ inl (omega (arith, from, to)) ]
+]
+
+pub at_own : {A : Type 0} (f : ℕ → A) (p : ℕ) (x : A) → at f p x p ≡ x
+at_own f p x = ap (λ (b : Bool). let y = if b then x else f p in y) (eq-eqb p p refl)
+
+pub at_else : {A : Type 0} (f : ℕ → A) (p : ℕ) (x : A) (q : ℕ) → q ≢ p → at f p x q ≡ f q
+at_else f p x q not = ap (λ (b : Bool). let y = if b then x else f q in y) (ne_eqb q p not)
+
+-- a function is another one with a value at a place, where it is that everywhere
+pub at_is : {A : Type 0} (f g : ℕ → A) (p : ℕ) (x : A) → g p ≡ x → ((q : ℕ) → q ≢ p → g q ≡ f q) → g ≡ at f p x
+at_is f g p x here others = λ i q. each q i
+  where
+    each : (q : ℕ) → g q ≡ at f p x q
+    each q = elim (one_or_other p q) [ inl e ↦ ap g e ∙ here ∙ sym (ap (at f p x) e ∙ at_own f p x) | inr not ↦ others q not ∙ sym (at_else f p x q not) ]
+
+-- ---- places
+
+pub placed_here : (places : List Place) (p : ℕ) (x : Place) → p < length places → place_at (set places p x) p ≡ x
+placed_here places p x there = get_or-set_same places p x Vacant there
+
+pub placed_else : (places : List Place) (p : ℕ) (x : Place) (q : ℕ) → q ≢ p → place_at (set places p x) q ≡ place_at places q
+placed_else places p x q not = get_or-set_other places p q x Vacant not
+
+-- the places of the part
+pub places_at : (places : List Place) (p : ℕ) (x : Place) → p < length places → (λ q. place_of (place_at (set places p x) q)) ≡ at (λ q. place_of (place_at places q)) p (place_of x)
+places_at places p x there = at_is (λ q. place_of (place_at places q)) (λ q. place_of (place_at (set places p x) q)) p (place_of x) (ap place_of (placed_here places p x there)) (λ q not. ap place_of (placed_else places p x q not))
+
+-- ---- what is kept
+
+pub rest_of : (f : Fields) → Keeps f → KeepsRest f
+rest_of f k = record {
+  there = k.there;
+  routers = k.routers;
+  few_routers = k.few_routers;
+  few_peerings = k.few_peerings;
+  room = k.room;
+  home_as = k.home_as;
+  policies = k.policies;
+  firsts = k.firsts;
+  rib = k.rib;
+  places = k.places;
+  due_in = k.due_in;
+  due_out = k.due_out;
+  tellings = k.tellings;
+}
+
+pub keeps_of : (f : Fields) → KeepsRest f → ((p : ℕ) → KeepsPlace f.known.setup f.number.0 p ((rib_of f.rib).entries p) (table_at f.due_out p) (place_at f.places.items p)) → Keeps f
+keeps_of f k each = record {
+  there = k.there;
+  routers = k.routers;
+  few_routers = k.few_routers;
+  few_peerings = k.few_peerings;
+  room = k.room;
+  home_as = k.home_as;
+  policies = k.policies;
+  firsts = k.firsts;
+  rib = k.rib;
+  places = k.places;
+  due_in = k.due_in;
+  due_out = k.due_out;
+  tellings = k.tellings;
+  each = each;
+}
+
+-- all but the places, the routes, what is due and the count of turns is as it was
+abbrev pub IsSteady : Fields → Fields → Type 0
+IsSteady f g = g ≡ record f { places = g.places; rib = g.rib; due_in = g.due_in; due_out = g.due_out; turns = g.turns }
+
+-- and there are as many places and sets, the same configuration of routes, and no more tellings of routers that aren't there
+pub record SameSizes (f g : Fields) : Type 0 where
+  pub places : length g.places.items ≡ length f.places.items
+  pub due_in : length g.due_in ≡ length f.due_in
+  pub due_out : length g.due_out ≡ length f.due_out
+  pub config : g.rib.config ≡ f.rib.config
+  pub tellings : (q : ℕ) → routers_in f.known.setup ≤ q → (rib_of g.rib).tellings q ≡ (rib_of f.rib).tellings q
+
+pub rest_on : (f g : Fields) → KeepsRest f → IsSteady f g → SameSizes f g → KeepsRest g
+rest_on f g k steady sizes = subst KeepsRest (sym steady) (record {
+  there = k.there;
+  routers = k.routers;
+  few_routers = k.few_routers;
+  few_peerings = k.few_peerings;
+  room = k.room;
+  home_as = k.home_as;
+  policies = k.policies;
+  firsts = k.firsts;
+  rib = subst (λ (config : RibConfig). IsRibOf f.known.setup f.number.0 config) (sym sizes.config) k.rib;
+  places = sizes.places ∙ k.places;
+  due_in = sizes.due_in ∙ k.due_in;
+  due_out = sizes.due_out ∙ k.due_out;
+  tellings = λ q from x. ap (λ (t : Tellings). is_some (map.get t x)) (sizes.tellings q from) ∙ k.tellings q from x;
+})
+
+pub keeps_on : (f g : Fields) → KeepsRest f → IsSteady f g → SameSizes f g → ((p : ℕ) → KeepsPlace f.known.setup f.number.0 p ((rib_of g.rib).entries p) (table_at g.due_out p) (place_at g.places.items p)) → Keeps g
+keeps_on f g k steady sizes each = keeps_of g (rest_on f g k steady sizes)
+    (λ p. subst (λ (h : Fields). KeepsPlace h.known.setup h.number.0 p ((rib_of g.rib).entries p) (table_at g.due_out p) (place_at g.places.items p)) (sym steady) (each p))
+
+-- ---- the part with other routes
+
+abbrev pub with_routes : RouterPart → RibValue → RouterPart
+with_routes part rib = record part { entries = rib.entries; tellings = rib.tellings; best = rib.best; dirty = rib.dirty }
+
+-- ---- a session that stays
+
+pub live_is : (places : List Place) (p : ℕ) (s u : RunningSession) (o q : Option GraftIds) → RunsAt places p s o → RunsAt places p u q → u ≡ s
+live_is places p s u o q a b = let e : Live u q ≡ Live s o = sym b.is ∙ a.is in cc
+
+pub stays_itself : (s u : RunningSession) → u ≡ s → Stays s u
+stays_itself s u e = subst (λ (v : RunningSession). Stays s v) (sym e) (record { acked = omega arith; emitted = refl; at_turn = refl })

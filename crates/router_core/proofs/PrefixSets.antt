@@ -1,0 +1,68 @@
+-- Sets of prefixes that are listed.
+use Rattle.std.proofs.Common.{◌≡◌, List, [], ◌∷◌, ◌++◌, Bool, true, false, cond, ◌||◌, Some, None, is_some, Option, refl, sym, ap, ◌∙◌, inl, inr}
+use Rattle.std.specs.FinMap as map
+use Rattle.std.specs.List.{list_any}
+use Rattle.std.specs.Ordering.{eq_by_cmp}
+use Rattle.bgp_types.specs.Prefixes.{PrefixValue, same_prefix}
+use Rattle.bgp_types.specs.Tables.{prefix_cmp}
+use Rattle.bgp_types.proofs.OnceLaws.{same_itself, is_same}
+use Rattle.bgp_types.proofs.TableLaws.{tied}
+use Rattle.bgp_story.specs.Readings.{Routes}
+use Rattle.session_value.specs.Sets.{BestRoutes, Prefixes, has}
+use Rattle.rib_stages.proofs.Marks.{itself, has_inserted}
+use Rattle.router_core.specs.Reading.{AddsAll, IsDueAgain, IsDueBest}
+use Rattle.router_core.proofs.EnterSteps.{same_or_not, any_last, any_other}
+
+same_is : (p q : PrefixValue) → eq_by_cmp prefix_cmp p q ≡ same_prefix p q
+same_is p q = by_tests (eq_by_cmp prefix_cmp p q) (same_prefix p q) refl refl where
+  by_tests : (a b : Bool) → eq_by_cmp prefix_cmp p q ≡ a → same_prefix p q ≡ b → eq_by_cmp prefix_cmp p q ≡ same_prefix p q
+  by_tests true true e f = e ∙ sym f
+  by_tests false false e f = e ∙ sym f
+  by_tests true false e f = let g : true ≡ false = sym (same_itself p) ∙ (ap (same_prefix p) (tied p q e) ∙ f) in absurd (let x : ⊥ = cc in x)
+  by_tests false true e f = let g : true ≡ false = sym (itself p) ∙ (ap (eq_by_cmp prefix_cmp p) (is_same p q f) ∙ e) in absurd (let x : ⊥ = cc in x)
+
+-- a prefix stands among the keys of a table exactly where it has a value
+pub keys_any : {A : Type 0} (t : map.FinMap prefix_cmp A) (x : PrefixValue) → list_any (same_prefix x) (map.keys t) ≡ is_some (map.get t x)
+keys_any t x = (λ i. list_any (λ y. sym (same_is x y) i) (map.keys t)) ∙ sym (map.contains_key-keys t x)
+
+pub adds_none : (a : Prefixes) → AddsAll a [] a
+adds_none a = record { members = λ x. or_false (has a x) } where
+  or_false : (b : Bool) → b ≡ (b || false)
+  or_false true = refl
+  or_false false = refl
+
+pub adds_more : (a b c : Prefixes) (xs : List PrefixValue) (x : PrefixValue) → AddsAll a xs b → c ≡ map.insert b x tt → AddsAll a (xs ++ x ∷ []) c
+adds_more a b c xs x so_far set = record { members = λ y. ap (λ (s : Prefixes). has s y) set ∙ has_inserted b x y ∙ by_test y }
+  where
+    or_true : (d : Bool) → true ≡ (d || true)
+    or_true true = refl
+    or_true false = refl
+
+    by_test : (y : PrefixValue) → cond (eq_by_cmp prefix_cmp y x) true (has b y) ≡ (has a y || list_any (same_prefix y) (xs ++ x ∷ []))
+    by_test y = elim (same_or_not x y) [
+      | inl e ↦
+          ap (λ (t : Bool). cond t true (has b y)) (ap (λ (z : PrefixValue). eq_by_cmp prefix_cmp z x) e ∙ itself x)
+          ∙ or_true (has a y) ∙ ap (λ (t : Bool). has a y || t) (sym (ap (λ (z : PrefixValue). list_any (same_prefix z) (xs ++ x ∷ [])) e ∙ any_last xs x))
+      | inr not ↦
+          ap (λ (t : Bool). cond t true (has b y)) (same_is y x ∙ not)
+          ∙ so_far.members y ∙ ap (λ (t : Bool). has a y || t) (sym (any_other xs x y not))
+    ]
+
+-- ---- what is due
+
+pub due_best : (best : BestRoutes) (set : Prefixes) → AddsAll map.empty (map.keys best) set → IsDueBest best set
+due_best best set adds = record { members = λ x. adds.members x ∙ ap (λ (b : Bool). b || list_any (same_prefix x) (map.keys best)) (none_in x) ∙ keys_any best x }
+  where
+    none_in : (x : PrefixValue) → has map.empty x ≡ false
+    none_in x = ap (λ (o : Option (Unit {0})). is_some o) (map.get-empty prefix_cmp x)
+
+pub due_again_is : (told : Routes) (best : BestRoutes) (a set : Prefixes) → IsDueBest best a → AddsAll a (map.keys told) set → IsDueAgain told best set
+due_again_is told best a set due adds = record {
+  members = λ x. adds.members x ∙ (λ i. due.members x i || keys_any told x i) ∙ either (is_some (map.get best x)) (is_some (map.get told x));
+}
+  where
+    either : (b c : Bool) → (b || c) ≡ (c || b)
+    either true true = refl
+    either true false = refl
+    either false true = refl
+    either false false = refl

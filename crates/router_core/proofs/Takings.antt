@@ -1,0 +1,161 @@
+-- What a router takes: an event that takes an item, and what follows it; and the items that it drops.
+use Rattle.std.proofs.Common.{◌≡◌, ℕ, ◌+◌, ◌<◌, ◌≤◌, List, [], ◌∷◌, Option, Some, None, refl, sym, ap, subst, ◌∙◌, arith, inl, inr, map}
+use Rattle.std.specs.List.{AllByRecursion}
+use Rattle.ring_net.specs.Deeds.{Deed, Replay, TakesNone}
+use Rattle.ring_net.specs.Posts.{actor_of, Wrote}
+use Rattle.ring_net.specs.declared.post.Post.{Post}
+use Rattle.ring_net.proofs.PostLaws.{wrote_then}
+use Rattle.graft_steps.specs.declared.item.Item.{Item}
+use Rattle.graft_steps.specs.declared.item.Item.TheVariants as items
+use Rattle.graft_steps.specs.declared.order.GraftIds.{GraftIds}
+use Rattle.bgp_session.specs.Running.{RunningSession}
+use Rattle.graft_model.specs.Setups.{Setup, routers_in, peerings_in}
+use Rattle.graft_model.specs.Parts.{RouterPart}
+use Rattle.graft_model.specs.RouterRows.{RouterTaken, RouterSent}
+use Rattle.graft_model.specs.Codes.{router_code}
+use Rattle.graft_model.specs.Steps.{RouterEvent, router_row}
+use Rattle.graft_runs.specs.Actors.{ActorName, Router, FarSide, Operator, RouterIs, Thing, number_in, IsActor, actor_at}
+use Rattle.graft_runs.specs.Makes.{HasCode, numbered, taken_by_router, sent_by_router}
+use Rattle.graft_runs.proofs.Numbers.{there, of_number, at_operator}
+use Rattle.graft_actors.specs.Acts.{acts, IsWelcome, MayComeFrom, SendsFit, things}
+use Rattle.graft_actors.specs.Emissions.{Tally, nothing}
+use Rattle.graft_actors.specs.Items.{thing_of}
+use Rattle.graft_actors.specs.Notes.{deed_of, WroteOne}
+use Rattle.router_core.specs.Parts.{router_part, own_part, carried, Keeps}
+use Rattle.router_core.specs.Places.{RunsAt}
+use Rattle.router_core.specs.Rounds.{AreOf, CarefulRouter, router_tally, RouterRound, SameRouter, Did}
+use Rattle.router_core.specs.Takes.{Stays, TakesRows, Took, TakesIt, IsOther}
+use Rattle.router_core.specs.declared.fields.Fields.{Fields}
+use Rattle.router_core.proofs.Dids.{same_router, router_then, round_at}
+use Rattle.router_core.proofs.Kept.{live_is, stays_itself}
+
+-- the first event of a take: its row, with what it takes and sends
+pub record TakesFirstly (f g : Fields) (p q : Post (Item RunningSession)) (from : ℕ) (item : Item RunningSession) (event : RouterEvent) : Type 0 where
+  pub router : SameRouter f g
+  pub kind : ℕ
+  pub a : ℕ
+  pub sent : List (ℕ × Item RunningSession)
+  pub wrote : WroteOne p kind a 0 0 sent q
+  pub code : HasCode (router_code event) (deed_of p kind a 0 0 (Some (from, item)) sent).entry
+  pub welcome : IsWelcome carried (own_part f) from item
+  pub name : ActorName
+  pub number : from ≡ number_in f.known.setup name
+  pub took : RouterTaken
+  pub thing : taken_by_router took ≡ (name, thing_of carried f.known.setup item)
+  pub gave : List RouterSent
+  pub row : router_row f.known.setup f.number.0 event (router_part f) (Some took) gave (router_part g)
+  pub sends : things carried f.known.setup sent ≡ map (λ s. numbered f.known.setup (sent_by_router s)) gave
+  pub known : AllByRecursion (λ s. IsActor f.known.setup (sent_by_router s).0) gave
+  pub fit : SendsFit carried (own_part f) sent
+  pub careful : CarefulRouter f.known.setup f.number.0 (router_part f) event
+  pub still : (t : ℕ → Tally) → router_tally (router_part f) event t ≡ t
+
+module _ (f g h : Fields) (p q r : Post (Item RunningSession)) (from : ℕ) (item : Item RunningSession) (event : RouterEvent) (events : List RouterEvent)
+    (first : TakesFirstly f g p q from item event) (did : (t : ℕ → Tally) → Did g q t events h r t) where
+  abbrev first_deed : Deed (Item RunningSession)
+  first_deed = deed_of p first.kind first.a 0 0 (Some (from, item)) first.sent
+
+  abbrev none_yet : ℕ → Tally
+  none_yet n = nothing
+
+  acts_first : acts carried (actor_of p) (own_part f) first_deed.entry (Some (from, item)) first.sent (own_part g)
+  acts_first = record {
+    setup = first.router.setup;
+    name = ap (λ k. Router k.0) first.router.number;
+    does = inl (record {
+      welcome = first.welcome;
+      row = record {
+        event = event;
+        coded = first.code;
+        took = Some first.took;
+        gave = first.gave;
+        holds = first.row;
+        is_taken = λ i. Some ((first.number ∙ sym (ap (λ (x : ActorName × Thing). number_in f.known.setup x.0) first.thing)) i, sym (ap (λ (x : ActorName × Thing). x.1) first.thing) i);
+        is_sent = first.sends;
+        there = first.known;
+      };
+      fit = first.fit;
+    });
+  }
+
+  round_first : (t : ℕ → Tally) → RouterRound f.known.setup f.number.0 (router_part f) t (event ∷ events) (router_part h) t
+  round_first t = (
+    Some first.took,
+    first.gave,
+    router_part g,
+    first.row,
+    first.careful,
+    subst (λ (u : ℕ → Tally). RouterRound f.known.setup f.number.0 (router_part g) u events (router_part h) t) (sym (first.still t))
+        (round_at f g t t events (router_part g) (router_part h) first.router (did t).round),
+  )
+
+  -- the take whose first event it is
+  pub takes_then : ((p : ℕ) (s u : RunningSession) (o q : Option GraftIds) → RunsAt f.places.items p s o → RunsAt h.places.items p u q → Stays s u) → h.turns ≡ f.turns → Keeps h → TakesIt from item f p h r
+  takes_then stays turns keeps =
+      let d : Did g q none_yet events h r none_yet = did none_yet in
+      let one : Wrote p (first_deed ∷ []) q = first.wrote (Some (from, item)) in
+      record {
+        took = record {
+          deeds = first_deed ∷ d.deeds;
+          wrote = wrote_then p q r (first_deed ∷ []) d.deeds one d.wrote;
+          first = (refl, d.none);
+          replay = (own_part g, acts_first, subst (λ (n : ℕ). Replay (acts carried) n (own_part g) d.deeds (own_part h)) one.actor d.replay);
+          took = record {
+            router = router_then f g h first.router d.router;
+            turns = turns;
+            rows = λ w. record { events = event ∷ events; coded = (first.code, d.coded); round = round_first; stays = stays };
+          };
+        };
+        keeps = keeps;
+      }
+
+-- ---- items that are dropped
+
+pub drops : (f : Fields) (p q : Post (Item RunningSession)) (from : ℕ) (item : Item RunningSession) → Keeps f → WroteOne p 0 0 0 0 [] q → (IsWelcome carried (own_part f) from item → ⊥) → TakesIt from item f p f q
+drops f p q from item keeps wrote not = record {
+  took = record {
+    deeds = deed_of p 0 0 0 0 (Some (from, item)) [] ∷ [];
+    wrote = wrote (Some (from, item));
+    first = (refl, tt);
+    replay = (
+      own_part f,
+      record { setup = refl; name = refl; does = inr (record { from = from; item = item; takes = refl; unwelcome = not; kind = refl; a = refl; b = refl; c = refl; sends = refl; stays = refl }) },
+      refl,
+    );
+    took = record { router = same_router f; turns = refl; rows = λ w. absurd (not w) };
+  };
+  keeps = keeps;
+}
+
+-- an item that no router takes
+pub other_unwelcome : (f : Fields) (from : ℕ) (item : Item RunningSession) → IsOther item → IsWelcome carried (own_part f) from item → ⊥
+other_unwelcome f from item other w = by_item item other (actor_at f.known.setup from) w.comes
+  where
+    by_item : (item : Item RunningSession) → IsOther item → (o : Option ActorName) → MayComeFrom carried f.known.setup o (Router f.number.0) item → ⊥
+    by_item (items.PointAt k) other None m = m
+    by_item (items.PointAt k) other (Some (Router q)) m = m
+    by_item (items.PointAt k) other (Some (FarSide q)) m = m
+    by_item (items.PointAt k) other (Some Operator) m = m
+    by_item (items.Report k outcome) other None m = m
+    by_item (items.Report k outcome) other (Some (Router q)) m = m
+    by_item (items.Report k outcome) other (Some (FarSide q)) m = m
+    by_item (items.Report k outcome) other (Some Operator) m = m
+    by_item (items.SayOrder step) other None m = m
+    by_item (items.SayOrder step) other (Some (Router q)) m = m
+    by_item (items.SayOrder step) other (Some (FarSide q)) m = m
+    by_item (items.SayOrder step) other (Some Operator) m = m
+    by_item (items.Seg g) other o m = other
+    by_item (items.Told prefix route) other o m = other
+    by_item (items.Moved k capsule) other o m = other
+    by_item (items.Back k capsule refusal) other o m = other
+    by_item (items.Done k peering) other o m = other
+    by_item (items.GraftOrder k peering target) other o m = other
+
+-- an actor of this number is a router
+pub is_router : (setup : Setup) (n : ℕ) → (q : ℕ) × (actor_at setup n ≡ Some (Router q)) → n < routers_in setup
+is_router setup n is = let at : (is.0 < routers_in setup) × (n ≡ is.0) = of_number setup n (Router is.0) is.1 in omega (arith, at.0, at.1)
+
+-- ---- sessions that stay as they are
+
+pub all_stay : (f g : Fields) → g.places ≡ f.places → (p : ℕ) (s u : RunningSession) (o q : Option GraftIds) → RunsAt f.places.items p s o → RunsAt g.places.items p u q → Stays s u
+all_stay f g same p s u o q a b = stays_itself s u (live_is f.places.items p s u o q a (subst (λ xs. RunsAt xs p u q) (ap (λ v. v.items) same) b))

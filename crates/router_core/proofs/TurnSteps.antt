@@ -1,0 +1,300 @@
+-- A turn is its stages, one after another.
+use Rattle.std.proofs.Common.{◌≡◌, ℕ, zero, suc, ◌+◌, ◌<◌, ◌≤◌, List, [], ◌∷◌, ◌++◌, Option, option_map, Some, None, Bool, true, false, refl, sym, ap, subst, ◌∙◌, arith, inl, inr, ◌⊎◌, append_assoc}
+use Rattle.std.proofs.lemmas.List.{append-nil}
+use Rattle.std.specs.Prelude.{nat_lt, if◌then◌else◌}
+use Rattle.std.specs.FinMap as map
+use Rattle.std.proofs.lemmas.Bool.{lt-ltb, le-ltb}
+use Rattle.tcp_seq.specs.Endpoint.{Endpoint, again_length}
+use Rattle.ring_net.specs.declared.post.Post.{Post}
+use Rattle.graft_steps.specs.declared.item.Item.{Item}
+use Rattle.graft_steps.specs.declared.order.GraftIds.{GraftIds}
+use Rattle.session_value.specs.Sessions.{SessionValue}
+use Rattle.session_value.specs.Sets.{Entries, Prefixes}
+use Rattle.bgp_session.specs.Running.{RunningSession}
+use Rattle.bgp_session.specs.Steps.{MayPass}
+use Rattle.graft_model.specs.Setups.{Setup}
+use Rattle.graft_model.specs.Parts as model
+use Rattle.graft_model.specs.Parts.{RouterPart}
+use Rattle.graft_model.specs.Steps.{RouterEvent}
+use Rattle.graft_actors.specs.Emissions.{Tally, IsRested, nothing, reach_of}
+use Rattle.router_core.specs.Parts.{router_part, Keeps, KeepsPlace}
+use Rattle.router_core.specs.Places.{place_of, place_at, order_of, RunsAt}
+use Rattle.router_core.specs.Rested.{IsDone, IsQuietPlace, RestedRouter}
+use Rattle.router_core.specs.Rounds.{SameRouter, Did}
+use Rattle.router_core.specs.Stages.{PlaceGoes, GraftGoes, PutsMore, IsLevel, EmitsAll, PassesWhereItMay, again_at, answer_at, with_again, with_answers, SendsAgain, PassesRounds, BeginsGrafts, DecidesAll, TellsAll, PutsAll, Emits}
+use Rattle.router_core.specs.Turned.{rounds_on, round_on, TurnsSession, TurnsOnce}
+use Rattle.router_core.specs.Updates.{IsStuck, IsUnwritable}
+use Rattle.router_core.specs.declared.fields.Fields.{Fields}
+use Rattle.router_core.specs.declared.place.Place.{Place}
+use Rattle.router_core.specs.declared.place.Place.TheVariants.{Vacant, Live, Shadow}
+use Rattle.router_core.proofs.Dids.{did_same, did_then}
+use Rattle.router_core.proofs.RoundLists.{rounds_on-append}
+
+-- ---- rounds
+
+-- where no round passes before or after
+rounds_before : (p : ℕ) (es fs : List RouterEvent) → rounds_on p es ≡ [] → rounds_on p (es ++ fs) ≡ rounds_on p fs
+rounds_before p es fs none = rounds_on-append p es fs ∙ ap (λ (xs : List ℕ). xs ++ rounds_on p fs) none
+
+-- ---- a place through the stages
+
+abbrev NotLive : Place → Type 0
+NotLive Vacant = Unit {0}
+NotLive (Live s o) = ⊥
+NotLive (Shadow away) = Unit {0}
+
+-- no graft is stored for its session
+abbrev NoOrder : Place → Type 0
+NoOrder Vacant = Unit {0}
+NoOrder (Live s o) = o ≡ None
+NoOrder (Shadow away) = Unit {0}
+
+abbrev AllOut : Place → Type 0
+AllOut Vacant = Unit {0}
+AllOut (Live s o) = IsRested s.session.end
+AllOut (Shadow away) = Unit {0}
+
+not_live_on : (R : RunningSession → RunningSession → Type 0) (x y : Place) → PlaceGoes R x y → NotLive x → NotLive y
+not_live_on R Vacant y goes not = subst NotLive (sym goes) tt
+not_live_on R (Live s o) y goes not = absurd not
+not_live_on R (Shadow away) y goes not = subst NotLive (sym goes) tt
+
+no_order_first : (x y : Place) → GraftGoes x y → NoOrder y
+no_order_first Vacant y goes = subst NoOrder (sym goes) tt
+no_order_first (Live s None) y goes = subst NoOrder (sym goes) refl
+no_order_first (Live s (Some ids)) y (inl goes) = subst NoOrder (sym goes) refl
+no_order_first (Live s (Some ids)) y (inr goes) = subst NoOrder (sym goes) tt
+no_order_first (Shadow away) y goes = subst NoOrder (sym goes) tt
+
+no_order_on : (R : RunningSession → RunningSession → Type 0) (x y : Place) → PlaceGoes R x y → NoOrder x → NoOrder y
+no_order_on R Vacant y goes none = subst NoOrder (sym goes) tt
+no_order_on R (Live s o) y (u, is, becomes) none = subst NoOrder (sym is) none
+no_order_on R (Shadow away) y goes none = subst NoOrder (sym goes) tt
+
+all_out : (x y : Place) → PlaceGoes EmitsAll x y → AllOut y
+all_out Vacant y goes = subst AllOut (sym goes) tt
+all_out (Live s o) y (u, is, becomes) = subst AllOut (sym is) (record { emitted = ap (λ (v : RunningSession). v.session.end.emitted) becomes ∙ sym (ap (λ (v : RunningSession). reach_of v.session.end) becomes); answered = ap (λ (v : RunningSession). v.session.end.owed) becomes })
+all_out (Shadow away) y goes = subst AllOut (sym goes) tt
+
+quiet : (setup : Setup) (r p : ℕ) (entries : Entries) (due : Prefixes) (x : Place) → KeepsPlace setup r p entries due x → NoOrder x → AllOut x → IsQuietPlace (place_of x)
+quiet setup r p entries due Vacant keeps none out = tt
+quiet setup r p entries due (Live s None) keeps none out = (refl, keeps.1, out)
+quiet setup r p entries due (Live s (Some ids)) keeps none out = absurd (let e : ⊥ = cc in e)
+quiet setup r p entries due (Shadow away) keeps none out = tt
+
+-- what is emitted changes nothing of what is to be told
+stuck_on : (setup : Setup) (r p n : ℕ) (part : RouterPart) (places : ℕ → model.Place) (s : SessionValue) (m : ℕ) (b : Bool) → IsStuck setup r part p s n
+    → IsStuck setup r (record part { places = places }) p (record s { end = record s.end { emitted = m; owed = b } }) n
+stuck_on setup r p n part places s m b h = record { established = h.established; batch = h.batch; next = h.next; writable = h.writable; size = h.size; above = h.above }
+
+unwritable_on : (setup : Setup) (r p : ℕ) (part : RouterPart) (places : ℕ → model.Place) (s : SessionValue) (m : ℕ) (b : Bool) → IsUnwritable setup r part p s
+    → IsUnwritable setup r (record part { places = places }) p (record s { end = record s.end { emitted = m; owed = b } })
+unwritable_on setup r p part places s m b h = record { established = h.established; batch = h.batch; next = h.next; unwritable = h.unwritable }
+
+done_live : (setup : Setup) (r p : ℕ) (part : RouterPart) (places : ℕ → model.Place) (s : SessionValue) (o : Option model.Order) (m : ℕ) (b : Bool) → IsDone setup r part p (model.Live s o)
+    → IsDone setup r (record part { places = places }) p (model.Live (record s { end = record s.end { emitted = m; owed = b } }) o)
+done_live setup r p part places s o m b (inl none) = inl none
+done_live setup r p part places s o m b (inr (inl (n, stuck))) = inr (inl (n, stuck_on setup r p n part places s m b stuck))
+done_live setup r p part places s o m b (inr (inr not)) = inr (inr (unwritable_on setup r p part places s m b not))
+
+done_on : (setup : Setup) (r p : ℕ) (part : RouterPart) (places : ℕ → model.Place) (x y : Place) → PlaceGoes EmitsAll x y → IsDone setup r part p (place_of x) → IsDone setup r (record part { places = places }) p (place_of y)
+done_on setup r p part places Vacant y goes done = subst (λ (z : Place). IsDone setup r (record part { places = places }) p (place_of z)) (sym goes) done
+done_on setup r p part places (Live s o) y (u, is, becomes) done =
+    subst (λ (z : Place). IsDone setup r (record part { places = places }) p (place_of z)) (sym (is ∙ ap (λ (v : RunningSession). Live v o) becomes))
+    (done_live setup r p part places s.session (option_map order_of o) (reach_of s.session.end) false done)
+done_on setup r p part places (Shadow away) y goes done = subst (λ (z : Place). IsDone setup r (record part { places = places }) p (place_of z)) (sym goes) done
+
+-- ---- a session through the stages
+
+abbrev session_in : RunningSession → Place → RunningSession
+session_in x Vacant = x
+session_in x (Live s o) = s
+session_in x (Shadow away) = x
+
+live_same : (s u : RunningSession) (o q : Option GraftIds) → Live s o ≡ Live u q → s ≡ u
+live_same s u o q e = ap (session_in s) e
+
+-- a session that is still live had no graft that began
+still_live : (s : RunningSession) (o : Option GraftIds) (y : Place) → GraftGoes (Live s o) y → (NotLive y → ⊥) → y ≡ Live s None
+still_live s None y goes live = goes
+still_live s (Some ids) y (inl goes) live = goes
+still_live s (Some ids) y (inr goes) live = absurd (live (subst NotLive (sym goes) tt))
+
+record LivesOn (round : ℕ) (rounds : List ℕ) (s u : RunningSession) : Type 0 where
+  acked : u.session.end.acked ≡ s.session.end.acked
+  at_turn : u.acked_at_turn ≡ s.session.end.acked
+  ticked : (MayPass s.session round × (rounds ≡ round ∷ [])) ⊎ ((¬ MayPass s.session round) × (rounds ≡ []))
+
+level_rounds : (round : ℕ) (rounds : List ℕ) (s u v : RunningSession) → IsLevel s u → (MayPass u.session round × (rounds ≡ round ∷ [])) ⊎ ((¬ MayPass u.session round) × (rounds ≡ []) × (v ≡ u))
+    → (MayPass s.session round × (rounds ≡ round ∷ [])) ⊎ ((¬ MayPass s.session round) × (rounds ≡ []))
+level_rounds round rounds s u v level (inl h) = inl (subst (λ (x : SessionValue). MayPass x round) (ap (λ (x : RunningSession). x.session) level) h.0, h.1)
+level_rounds round rounds s u v level (inr h) = inr (subst (λ (x : SessionValue). ¬ MayPass x round) (ap (λ (x : RunningSession). x.session) level) h.0, h.1)
+
+-- a place before the turn, after each stage that changes places, and at the end
+lives_on : (round : ℕ) (rounds : List ℕ) (a b c d h k : Place) (s u : RunningSession) (o q : Option GraftIds) → a ≡ Live s o → k ≡ Live u q → PlaceGoes IsLevel a b → PlaceGoes (PassesWhereItMay round rounds) b c → GraftGoes c d
+    → PlaceGoes PutsMore d h → PlaceGoes EmitsAll h k → LivesOn round rounds s u
+lives_on round rounds a b c d h k s u o q is end again passes grafts puts emits =
+    let (s1, b_is, level) = subst (λ (x : Place). PlaceGoes IsLevel x b) is again in
+    let (s2, c_is, passed) = subst (λ (x : Place). PlaceGoes (PassesWhereItMay round rounds) x c) b_is passes in
+    let live : NotLive d → ⊥ = λ not. subst NotLive end (not_live_on EmitsAll h k emits (not_live_on PutsMore d h puts not)) in
+    let d_is : d ≡ Live s2 None = still_live s2 o d (subst (λ (x : Place). GraftGoes x d) c_is grafts) live in
+    let (s3, h_is, more) = subst (λ (x : Place). PlaceGoes PutsMore x h) d_is puts in
+    let (s4, k_is, all) = subst (λ (x : Place). PlaceGoes EmitsAll x k) h_is emits in
+    let last : s4 ≡ u = live_same s4 u None q (sym k_is ∙ end) in
+    record {
+      acked = sym (ap (λ (x : RunningSession). x.session.end.acked) last) ∙ ap (λ (x : RunningSession). x.session.end.acked) all ∙ more.acked ∙ passed.0.acked ∙ ap (λ (x : RunningSession). x.session.end.acked) level;
+      at_turn = sym (ap (λ (x : RunningSession). x.acked_at_turn) last) ∙ ap (λ (x : RunningSession). x.acked_at_turn) all ∙ more.at_turn ∙ passed.0.at_turn ∙ ap (λ (x : RunningSession). x.acked_at_turn) level;
+      ticked = level_rounds round rounds s s1 s2 level passed.1;
+    }
+
+-- ---- the tallies
+
+again_few : (x : Place) → 0 + again_at x ≤ 1
+again_few Vacant = omega arith
+again_few (Live s o) = by_flags (nat_lt s.acked_at_turn s.session.end.acked) (nat_lt 0 (again_length s.session.end))
+  where
+    by_flags : (b c : Bool) → 0 + (if b then 0 else (if c then 1 else 0)) ≤ 1
+    by_flags true c = omega arith
+    by_flags false true = omega arith
+    by_flags false false = omega arith
+again_few (Shadow away) = omega arith
+
+answer_few : (x : Place) → 0 + answer_at x ≤ 1
+answer_few Vacant = omega arith
+answer_few (Live s o) = by_flag s.session.end.owed
+  where
+    by_flag : (b : Bool) → 0 + (if b then 1 else 0) ≤ 1
+    by_flag true = omega arith
+    by_flag false = omega arith
+answer_few (Shadow away) = omega arith
+
+again_once : (s : RunningSession) (o : Option GraftIds) → s.acked_at_turn ≡ s.session.end.acked → s.session.end.acked < s.session.end.emitted → 0 + again_at (Live s o) ≡ 1
+again_once s o level out =
+    ap (λ (b : Bool). let n : ℕ = 0 + (if b then 0 else (if nat_lt 0 (again_length s.session.end) then 1 else 0)) in n) (le-ltb s.acked_at_turn s.session.end.acked (omega (arith, level)))
+    ∙ ap (λ (b : Bool). let n : ℕ = 0 + (if b then 1 else 0) in n) (lt-ltb 0 (again_length s.session.end) (omega (arith, out)))
+    ∙ (let e : 0 + 1 ≡ 1 = omega arith in e)
+
+-- ---- the whole turn
+
+-- f is the router before the turn, a after its turn was counted, and b to k after each stage
+module _ (f a b c d e g h k : Fields) (p0 p1 p2 p3 p4 p5 p6 p7 : Post (Item RunningSession)) (counted : a ≡ record f { turns = f.turns + 1 })
+    (again : SendsAgain a p0 b p1) (rounds : PassesRounds b p1 c p2) (grafts : BeginsGrafts c p2 d p3) (decides : DecidesAll d p3 e p4) (tells : TellsAll e p4 g p5) (puts : PutsAll g p5 h p6) (emits : Emits h p6 k p7) where
+  -- what each stage leaves
+  b_same : b ≡ record f { turns = f.turns + 1; places = b.places }
+  b_same = again.same ∙ ap (λ (x : Fields). let y : Fields = record x { places = b.places } in y) counted
+
+  c_same : c ≡ record f { turns = f.turns + 1; places = c.places; rib = c.rib; due_out = c.due_out }
+  c_same = rounds.same ∙ ap (λ (x : Fields). let y : Fields = record x { places = c.places; rib = c.rib; due_out = c.due_out } in y) b_same
+
+  d_same : d ≡ record f { turns = f.turns + 1; places = d.places; rib = c.rib; due_out = d.due_out }
+  d_same = grafts.same ∙ ap (λ (x : Fields). let y : Fields = record x { places = d.places; due_out = d.due_out } in y) c_same
+
+  e_same : e ≡ record f { turns = f.turns + 1; places = d.places; rib = e.rib; due_in = e.due_in; due_out = e.due_out }
+  e_same = decides.same ∙ ap (λ (x : Fields). let y : Fields = record x { rib = e.rib; due_in = e.due_in; due_out = e.due_out } in y) d_same
+
+  g_same : g ≡ record f { turns = f.turns + 1; places = d.places; rib = e.rib; due_in = g.due_in; due_out = e.due_out }
+  g_same = tells.same ∙ ap (λ (x : Fields). let y : Fields = record x { due_in = g.due_in } in y) e_same
+
+  h_same : h ≡ record f { turns = f.turns + 1; places = h.places; rib = e.rib; due_in = g.due_in; due_out = h.due_out }
+  h_same = puts.same ∙ ap (λ (x : Fields). let y : Fields = record x { places = h.places; due_out = h.due_out } in y) g_same
+
+  k_same : k ≡ record f { turns = f.turns + 1; places = k.places; rib = e.rib; due_in = g.due_in; due_out = h.due_out }
+  k_same = emits.same ∙ ap (λ (x : Fields). let y : Fields = record x { places = k.places } in y) h_same
+
+  -- the places that deciding and telling leave alone
+  g_places : (p : ℕ) → place_at g.places.items p ≡ place_at d.places.items p
+  g_places p = ap (λ (x : Fields). place_at x.places.items p) g_same
+
+  abbrev events : List RouterEvent
+  events = again.events ++ (rounds.events ++ (grafts.events ++ (decides.events ++ (tells.events ++ (puts.events ++ emits.events)))))
+
+  abbrev tally : ℕ → Tally
+  tally = with_answers h (with_again a (λ p. nothing))
+
+  did_all : Did f p0 (λ p. nothing) events k p7 tally
+  did_all =
+      let t : ℕ → Tally = with_again a (λ p. nothing) in
+      let rest3 : List RouterEvent = decides.events ++ (tells.events ++ (puts.events ++ emits.events)) in
+      let counted_did : Did f p0 (λ p. nothing) [] a p0 (λ p. nothing) = did_same f a p0 (λ p. nothing) (record { setup = ap (λ (x : Fields). x.known.setup) counted; number = ap (λ (x : Fields). x.number) counted }) (ap router_part counted) in
+      did_then f a k p0 p0 p7 (λ p. nothing) (λ p. nothing) tally [] events counted_did
+      (did_then a b k p0 p1 p7 (λ p. nothing) t tally again.events (rounds.events ++ (grafts.events ++ rest3)) (again.did (λ p. nothing))
+      (did_then b c k p1 p2 p7 t t tally rounds.events (grafts.events ++ rest3) (rounds.did t)
+      (did_then c d k p2 p3 p7 t t tally grafts.events rest3 (grafts.did t)
+      (did_then d e k p3 p4 p7 t t tally decides.events (tells.events ++ (puts.events ++ emits.events)) (decides.did t)
+      (did_then e g k p4 p5 p7 t t tally tells.events (puts.events ++ emits.events) (tells.did t)
+      (did_then g h k p5 p6 p7 t t tally puts.events emits.events (puts.did t) (emits.did t)))))))
+
+  -- the rounds of the turn are those of its stage
+  rounds_are : (p : ℕ) → rounds_on p events ≡ rounds_on p rounds.events
+  rounds_are p =
+      let tail : rounds_on p (grafts.events ++ (decides.events ++ (tells.events ++ (puts.events ++ emits.events)))) ≡ [] =
+      rounds_before p grafts.events (decides.events ++ (tells.events ++ (puts.events ++ emits.events))) (grafts.no_rounds p) ∙ rounds_before p decides.events (tells.events ++ (puts.events ++ emits.events)) (decides.no_rounds p)
+      ∙ rounds_before p tells.events (puts.events ++ emits.events) (tells.no_rounds p) ∙ rounds_before p puts.events emits.events (puts.no_rounds p) ∙ emits.no_rounds p in
+      rounds_before p again.events (rounds.events ++ (grafts.events ++ (decides.events ++ (tells.events ++ (puts.events ++ emits.events))))) (again.no_rounds p)
+      ∙ rounds_on-append p rounds.events (grafts.events ++ (decides.events ++ (tells.events ++ (puts.events ++ emits.events))))
+      ∙ ap (λ (xs : List ℕ). rounds_on p rounds.events ++ xs) tail ∙ append-nil (rounds_on p rounds.events)
+
+  session_turns : (p : ℕ) (s u : RunningSession) (o q : Option GraftIds) → RunsAt f.places.items p s o → RunsAt k.places.items p u q → TurnsSession k.turns p events (tally p) s u
+  session_turns p s u o q before after =
+      let start : place_at a.places.items p ≡ Live s o = ap (λ (x : Fields). place_at x.places.items p) counted ∙ before.is in
+      let round : b.turns ≡ k.turns = ap (λ (x : Fields). x.turns) b_same ∙ sym (ap (λ (x : Fields). x.turns) k_same) in
+      let passes : PlaceGoes (PassesWhereItMay k.turns (rounds_on p rounds.events)) (place_at b.places.items p) (place_at c.places.items p) =
+      subst (λ (n : ℕ). PlaceGoes (PassesWhereItMay n (rounds_on p rounds.events)) (place_at b.places.items p) (place_at c.places.items p)) round (rounds.places p) in
+      let more : PlaceGoes PutsMore (place_at d.places.items p) (place_at h.places.items p) = subst (λ (x : Place). PlaceGoes PutsMore x (place_at h.places.items p)) (g_places p) (puts.places p) in
+      let on : LivesOn k.turns (rounds_on p rounds.events) s u = lives_on k.turns (rounds_on p rounds.events) (place_at a.places.items p) (place_at b.places.items p) (place_at c.places.items p) (place_at d.places.items p) (place_at h.places.items p) (place_at k.places.items p)
+      s u o q start after.is (again.places p) passes (grafts.places p) more (emits.places p) in
+      record {
+        acked = on.acked;
+        at_turn = on.at_turn;
+        again = λ level out. ap (λ (x : Place). let n : ℕ = 0 + again_at x in n) start ∙ again_once s o level out;
+        ticked = subst (λ (xs : List ℕ). (MayPass s.session k.turns × (xs ≡ k.turns ∷ [])) ⊎ ((¬ MayPass s.session k.turns) × (xs ≡ []))) (sym (rounds_are p)) on.ticked;
+      }
+
+  -- at the end
+  same_setup : g.known.setup ≡ f.known.setup
+  same_setup = ap (λ (x : Fields). x.known.setup) g_same
+
+  same_number : g.number.0 ≡ f.number.0
+  same_number = ap (λ (x : Fields). x.number.0) g_same
+
+  done : (p : ℕ) → IsDone f.known.setup f.number.0 (router_part k) p ((router_part k).places p)
+  done p =
+      let at_h : IsDone f.known.setup f.number.0 (router_part h) p (place_of (place_at h.places.items p)) =
+      subst (λ (s : Setup). IsDone s f.number.0 (router_part h) p (place_of (place_at h.places.items p))) same_setup
+      (subst (λ (n : ℕ). IsDone g.known.setup n (router_part h) p (place_of (place_at h.places.items p))) same_number (puts.done p)) in
+      subst (λ (x : RouterPart). IsDone f.known.setup f.number.0 x p (place_of (place_at k.places.items p))) (sym (ap router_part emits.same))
+      (done_on f.known.setup f.number.0 p (router_part h) (λ q. place_of (place_at k.places.items q)) (place_at h.places.items p) (place_at k.places.items p) (emits.places p) at_h)
+
+  rested : RestedRouter f.known.setup f.number.0 (router_part k)
+  rested = record {
+    clean = ap (λ (x : Fields). x.rib.dirty) k_same ∙ decides.clean;
+    due_in = λ q. ap (λ (x : Fields). (router_part x).due_in q) k_same ∙ tells.told q;
+    quiet = λ p. quiet k.known.setup k.number.0 p _ _ (place_at k.places.items p) (emits.keeps.each p)
+        (no_order_on EmitsAll (place_at h.places.items p) (place_at k.places.items p) (emits.places p)
+        (no_order_on PutsMore (place_at g.places.items p) (place_at h.places.items p) (puts.places p)
+        (subst NoOrder (sym (g_places p)) (no_order_first (place_at c.places.items p) (place_at d.places.items p) (grafts.places p)))))
+        (all_out (place_at h.places.items p) (place_at k.places.items p) (emits.places p));
+    done = done;
+  }
+
+  pub turns_once : TurnsOnce f p0 k p7
+  turns_once = record {
+    moved = record {
+      deeds = did_all.deeds;
+      wrote = did_all.wrote;
+      none = did_all.none;
+      replay = did_all.replay;
+      moved = record {
+        router = did_all.router;
+        turns = ap (λ (x : Fields). x.turns) k_same;
+        events = events;
+        coded = did_all.coded;
+        tally = tally;
+        round = did_all.round;
+        rested = rested;
+        few = λ p. (again_few (place_at a.places.items p), answer_few (place_at h.places.items p));
+        sessions = session_turns;
+      };
+    };
+    keeps = emits.keeps;
+  }

@@ -1,0 +1,18 @@
+use Rattle.std.proofs.Common.{◌≡◌, List, [], ◌∷◌, ◌++◌, ◌+◌, take, sym, ap, subst, ◌∙◌}
+use Rattle.std.proofs.lemmas.List.{take_more}
+use Rattle.bgp_types.specs.Prefixes.{PrefixValue}
+use Rattle.router_core.specs.Reading.{AddsAll}
+use Rattle.router_core.proofs.PrefixSets.{adds_none, adds_more}
+use Rattle.router_core.proofs.takes.prefixes.add_all.Goals as goal
+
+pub loop-prefix-init : goal.loop-prefix-init
+loop-prefix-init c = adds_none c.args.set.now.contents
+
+pub loop-prefix-preserved : goal.loop-prefix-preserved
+loop-prefix-preserved c =
+    let list : List PrefixValue = c.args.prefixes.now in
+    let i = c.loop-prefix.prefix-index in
+    let x : PrefixValue = c.prefix-item.result in
+    let more : take (i + 1) list ≡ take i list ++ x ∷ [] = take_more list i x c.loop-prefix-test.true ∙ ap (λ (y : PrefixValue). take i list ++ y ∷ []) (sym c.prefix-item.is) in
+    subst (λ (xs : List PrefixValue). AddsAll c.args.set.now.contents xs c.insert.new.set.contents) (sym more)
+    (adds_more c.args.set.now.contents c.loop-prefix.set.contents c.insert.new.set.contents (take i list) x c.loop-prefix.invariant c.in_ok-insert.ensures)

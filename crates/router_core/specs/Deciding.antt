@@ -1,0 +1,54 @@
+-- Prefixes are decided, and where another route is best it is due to be told.
+use Rattle.std.specs.Prelude.{ℕ, ◌≡◌, ◌<◌, ◌≤◌, ◌==◌, ◌&&◌, not, nat_lt, Bool, List, [], ◌∷◌, length}
+use Rattle.std.specs.FinMap as map
+use Rattle.bgp_types.specs.Prefixes.{PrefixValue}
+use Rattle.ring_net.specs.declared.post.Post.{Post}
+use Rattle.graft_steps.specs.declared.item.Item.{Item}
+use Rattle.bgp_session.specs.Running.{RunningSession}
+use Rattle.session_value.specs.Sets.{Prefixes}
+use Rattle.rib_stages.specs.Values.{table_at}
+use Rattle.graft_model.specs.Sets.{Adds}
+use Rattle.graft_model.specs.Setups.{routers_in}
+use Rattle.graft_model.specs.Steps.{RouterEvent, Decide}
+use Rattle.graft_model.specs.TableRows.{only, holds_established}
+use Rattle.graft_actors.specs.Emissions.{Tally}
+use Rattle.router_core.specs.Parts.{Keeps}
+use Rattle.router_core.specs.Places.{place_of, place_at}
+use Rattle.router_core.specs.Rounds.{Did}
+use Rattle.router_core.specs.Stages.{NoRounds}
+use Rattle.router_core.specs.declared.fields.Fields.{Fields}
+
+-- At the first so many numbers a prefix is in the sets too, where its number passes the test.
+pub record AddsBelow (n : ℕ) (test : ℕ → Bool) (prefix : PrefixValue) (before after : List Prefixes) : Type 0 where
+  pub size : length after ≡ length before
+  pub below : (k : ℕ) → k < n → Adds (table_at before k) (only prefix (test k)) (table_at after k)
+  pub from : (k : ℕ) → n ≤ k → table_at after k ≡ table_at before k
+
+-- the routers to which another best route is due: each other one
+abbrev pub is_other : Fields → ℕ → Bool
+is_other f q = nat_lt q (routers_in f.known.setup) && not (q == f.number.0)
+
+-- the peerings on which it is due: those whose session is established
+abbrev pub is_up_at : Fields → ℕ → Bool
+is_up_at f p = holds_established (place_of (place_at f.places.items p))
+
+-- A prefix is due wherever another best route is.
+pub record DueToAll (prefix : PrefixValue) (old new : Fields) : Type 0 where
+  pub due_in : AddsBelow (length old.due_in) (is_other old) prefix old.due_in new.due_in
+  pub due_out : AddsBelow (length old.due_out) (is_up_at old) prefix old.due_out new.due_out
+  pub same : new ≡ record old { due_in = new.due_in; due_out = new.due_out }
+
+-- A prefix is decided, and dirty no more.
+pub record DecidesOne (prefix : PrefixValue) (old : Fields) (before : Post (Item RunningSession)) (new : Fields) (after : Post (Item RunningSession)) : Type 0 where
+  pub did : (t : ℕ → Tally) → Did old before t (Decide prefix ∷ []) new after t
+  pub dirty : new.rib.dirty ≡ map.remove old.rib.dirty prefix
+  pub same : new ≡ record old { rib = new.rib; due_in = new.due_in; due_out = new.due_out }
+  pub keeps : Keeps new
+
+-- Some prefixes are.
+pub record DecidesSome (old : Fields) (before : Post (Item RunningSession)) (new : Fields) (after : Post (Item RunningSession)) : Type 0 where
+  pub events : List RouterEvent
+  pub did : (t : ℕ → Tally) → Did old before t events new after t
+  pub no_rounds : NoRounds events
+  pub same : new ≡ record old { rib = new.rib; due_in = new.due_in; due_out = new.due_out }
+  pub keeps : Keeps new

@@ -1,0 +1,98 @@
+-- A router as the model has it, and what its fields keep.
+use Rattle.std.specs.Prelude.{ℕ, ◌≡◌, ◌≢◌, ◌<◌, ◌≤◌, Option, Some, None, true, false, is_some, length}
+use Rattle.std.specs.FinMap as map
+use Rattle.bgp_types.specs.Prefixes.{PrefixValue}
+use Rattle.bgp_types.specs.declared.message.SessionState.TheVariants.{Established, Closed}
+use Rattle.session_value.specs.Fronts.{BeginsNothing}
+use Rattle.session_value.specs.Sessions.{SessionValue, state, unread}
+use Rattle.session_value.specs.Sets.{Entries, Prefixes, has}
+use Rattle.rib_stages.specs.Values.{rib_of, table_at}
+use Rattle.bgp_session.specs.Running.{RunningSession}
+use Rattle.graft_steps.specs.declared.order.GraftIds.{GraftIds}
+use Rattle.graft_model.specs.Setups.{Setup, peerings_in, room_of, routers_in}
+use Rattle.graft_model.specs.Parts.{RouterPart}
+use Rattle.graft_runs.specs.Actors.{Router, RouterIs}
+use Rattle.graft_actors.specs.Items.{home_first, remote_first}
+use Rattle.graft_actors.specs.Acts.{OwnPart}
+use Rattle.router_core.specs.Configs.{ArePoliciesOf, AreFirstsOf, IsRibOf}
+use Rattle.router_core.specs.Places.{place_of, place_at}
+use Rattle.router_core.specs.declared.fields.Fields.{Fields}
+use Rattle.router_core.specs.declared.place.Place.{Place}
+use Rattle.router_core.specs.declared.place.Place.TheVariants.{Vacant, Live, Shadow}
+
+abbrev pub router_part : Fields → RouterPart
+router_part f = record {
+  places = λ p. place_of (place_at f.places.items p);
+  entries = (rib_of f.rib).entries;
+  tellings = (rib_of f.rib).tellings;
+  best = f.rib.best;
+  dirty = f.rib.dirty;
+  due_in = table_at f.due_in;
+  due_out = table_at f.due_out;
+}
+
+abbrev pub own_part : Fields → OwnPart
+own_part f = record { setup = f.known.setup; name = Router f.number.0; part = RouterIs (router_part f) }
+
+-- the session that a capsule carries
+abbrev pub carried : RunningSession → SessionValue
+carried capsule = capsule.session
+
+-- ---- what a place keeps
+
+-- A session is its peering's: it has the number of the peering, and the numbers of its first bytes.
+pub record IsOfPeering (setup : Setup) (p : ℕ) (session : SessionValue) : Type 0 where
+  pub peering : session.config.peering.0 ≡ p
+  pub sends : session.config.send_first.0 ≡ home_first setup p
+  pub receives : session.config.receive_first.0 ≡ remote_first setup p
+
+-- A session has read all that it can.
+abbrev pub HasReadAll : SessionValue → Type 0
+HasReadAll session = state session ≢ Closed → BeginsNothing (unread session)
+
+-- the graft is one of this router's, for this peering and a router that is there
+pub record IsGraftOf (setup : Setup) (r p : ℕ) (ids : GraftIds) : Type 0 where
+  pub peering : ids.peering.0 ≡ p
+  pub source : ids.source.0 ≡ r
+  pub target : ids.target.0 < routers_in setup
+
+abbrev pub IsOrderOf : Setup → ℕ → ℕ → Option GraftIds → Type 0
+IsOrderOf setup r p None = Unit {0}
+IsOrderOf setup r p (Some ids) = IsGraftOf setup r p ids
+
+abbrev pub HasNoEntry : Entries → Type 0
+HasNoEntry entries = (x : PrefixValue) → is_some (map.get entries x) ≡ false
+
+abbrev pub IsNothingDue : Prefixes → Type 0
+IsNothingDue due = (x : PrefixValue) → has due x ≡ false
+
+-- Something is due on a session only while it is established.
+abbrev pub IsDueWhileUp : SessionValue → Prefixes → Type 0
+IsDueWhileUp session due = (x : PrefixValue) → has due x ≡ true → state session ≡ Established
+
+-- Where nothing is, nothing was brought in and nothing is due; and nothing is due on a shadow.
+abbrev pub KeepsPlace : Setup → ℕ → ℕ → Entries → Prefixes → Place → Type 0
+KeepsPlace setup r p entries due Vacant = HasNoEntry entries × IsNothingDue due
+KeepsPlace setup r p entries due (Live running order) =
+    IsOfPeering setup p running.session × HasReadAll running.session × IsOrderOf setup r p order × IsDueWhileUp running.session due
+KeepsPlace setup r p entries due (Shadow away) = IsGraftOf setup r p away × IsNothingDue due
+
+-- ---- what the fields keep
+
+pub record Keeps (f : Fields) : Type 0 where
+  -- what it begins with is its laboratory's
+  pub there : f.number.0 < routers_in f.known.setup
+  pub routers : f.routers ≡ routers_in f.known.setup
+  pub few_routers : f.routers ≤ 256
+  pub few_peerings : peerings_in f.known.setup ≤ 256
+  pub room : f.room ≡ room_of f.known.setup f.number.0
+  pub home_as : f.home_as ≡ f.known.setup.home_as
+  pub policies : ArePoliciesOf f.known.setup f.number.0 f.policies
+  pub firsts : AreFirstsOf f.known.setup f.firsts
+  pub rib : IsRibOf f.known.setup f.number.0 f.rib.config
+  -- there is a place, and a set of what is due, for each peering; a set of what is due for each router; and nothing of routers that aren't there
+  pub places : length f.places.items ≡ peerings_in f.known.setup
+  pub due_in : length f.due_in ≡ routers_in f.known.setup
+  pub due_out : length f.due_out ≡ peerings_in f.known.setup
+  pub tellings : (q : ℕ) → routers_in f.known.setup ≤ q → (x : PrefixValue) → is_some (map.get ((rib_of f.rib).tellings q) x) ≡ false
+  pub each : (p : ℕ) → KeepsPlace f.known.setup f.number.0 p ((rib_of f.rib).entries p) (table_at f.due_out p) (place_at f.places.items p)

@@ -1,0 +1,185 @@
+-- What sessions take in and read at their places, what is due then, and what a router keeps meanwhile.
+use Rattle.std.specs.Prelude.{ℕ, ◌≡◌, ◌≢◌, ◌<◌, ◌≤◌, ◌^◌, ◌||◌, Bool, true, false, List, [], ◌∷◌, length, Option, None, Some, is_some, slice_set}
+use Rattle.std.specs.FinMap as map
+use Rattle.std.specs.List.{list_any}
+use Rattle.bgp_types.specs.Prefixes.{PrefixValue, same_prefix}
+use Rattle.bgp_story.specs.Readings.{Routes}
+use Rattle.ring_net.specs.declared.post.Post.{Post}
+use Rattle.tcp_end.specs.declared.arrival.Arrival.{Arrival}
+use Rattle.tcp_seq.specs.Endpoint.{IsInStreams}
+use Rattle.tcp_seq.specs.declared.segment.Segment.{Segment}
+use Rattle.tcp_seq.specs.declared.segment.Way.TheVariants.{Home}
+use Rattle.session_value.specs.declared.config.SessionConfig.{SessionConfig}
+use Rattle.session_value.specs.Sessions.{unread}
+use Rattle.session_value.specs.Sets.{BestRoutes, Entries, Prefixes, has}
+use Rattle.session_value.specs.Ties.{IsTied}
+use Rattle.rib_stages.specs.Values.{rib_of, table_at}
+use Rattle.bgp_session.specs.Fronts.{CantRead}
+use Rattle.bgp_session.specs.Running.{RunningSession}
+use Rattle.bgp_session.specs.Steps.{Arrives, Reads, received_as}
+use Rattle.bgp_session.specs.declared.answers.ReadStep.{ReadStep}
+use Rattle.bgp_session.specs.declared.answers.ReadStep.TheVariants as steps
+use Rattle.graft_steps.specs.declared.item.Item.{Item}
+use Rattle.graft_steps.specs.declared.order.GraftIds.{GraftIds}
+use Rattle.graft_model.specs.Setups.{Setup, peerings_in, room_of, routers_in}
+use Rattle.graft_model.specs.Steps.{RouterEvent, Got}
+use Rattle.graft_actors.specs.Emissions.{Tally}
+use Rattle.router_core.specs.Configs.{ArePoliciesOf, AreFirstsOf, IsRibOf}
+use Rattle.router_core.specs.Entering.{EntersAll, entry_here}
+use Rattle.router_core.specs.Parts.{IsDueWhileUp, IsOfPeering, IsOrderOf, KeepsPlace, Keeps}
+use Rattle.router_core.specs.Places.{RunsAt, place_at}
+use Rattle.router_core.specs.Rounds.{Did}
+use Rattle.router_core.specs.Takes.{Stays}
+use Rattle.router_core.specs.declared.fields.Fields.{Fields}
+use Rattle.router_core.specs.declared.place.Place.{Place}
+use Rattle.router_core.specs.declared.place.Place.TheVariants.{Vacant, Live, Shadow}
+
+-- ---- sets of prefixes
+
+pub record AddsAll (before : Prefixes) (prefixes : List PrefixValue) (after : Prefixes) : Type 0 where
+  pub members : (x : PrefixValue) → has after x ≡ (has before x || list_any (same_prefix x) prefixes)
+
+-- what has a best route is due
+pub record IsDueBest (best : BestRoutes) (due : Prefixes) : Type 0 where
+  pub members : (x : PrefixValue) → has due x ≡ is_some (map.get best x)
+
+-- what was told or has a best route is due
+pub record IsDueAgain (told : Routes) (best : BestRoutes) (due : Prefixes) : Type 0 where
+  pub members : (x : PrefixValue) → has due x ≡ (is_some (map.get told x) || is_some (map.get best x))
+
+-- ---- at a place
+
+-- a segment is one of a session's peering, that it can take
+pub record FitsSession (config : SessionConfig) (g : Segment) : Type 0 where
+  pub peering : g.peering ≡ config.peering
+  pub way : g.way ≡ Home
+  pub len : length g.bytes < 2 ^ 16
+  pub in_streams : IsInStreams (received_as config g)
+
+abbrev pub FitsPlace : Place → Segment → Type 0
+FitsPlace Vacant g = Unit {0}
+FitsPlace (Live s order) g = FitsSession s.session.config g
+FitsPlace (Shadow away) g = Unit {0}
+
+-- The segment arrives at the live session; where none is, it finds none.
+abbrev pub ArrivesAt : Bool → Place → Segment → Place → Type 0
+ArrivesAt live Vacant g new = (live ≡ false) × (new ≡ Vacant)
+ArrivesAt live (Live s order) g new = (live ≡ true) × (arrival : Arrival) × (u : RunningSession) × Arrives arrival s g u × (new ≡ Live u order)
+ArrivesAt live (Shadow away) g new = (live ≡ false) × (new ≡ Shadow away)
+
+-- The live session reads, if it can.
+abbrev pub ReadsAt : Option ReadStep → Place → Place → Type 0
+ReadsAt step Vacant new = (step ≡ None) × (new ≡ Vacant)
+ReadsAt step (Live s order) new = (u : RunningSession) × IsTied s.session × Reads step s u × (new ≡ Live u order)
+ReadsAt step (Shadow away) new = (step ≡ None) × (new ≡ Shadow away)
+
+-- ---- after a message
+
+-- the prefixes that have another route than before the message
+abbrev pub prefixes_in : ReadStep → List PrefixValue
+prefixes_in steps.Opened = []
+prefixes_in steps.Established = []
+prefixes_in (steps.Changed prefixes) = prefixes
+prefixes_in (steps.Closed prefixes) = prefixes
+
+-- All best routes are due on a session that is established now, and nothing on one that is closed.
+abbrev pub DueBy : ReadStep → BestRoutes → Prefixes → Prefixes → Type 0
+DueBy steps.Opened best before after = after ≡ before
+DueBy steps.Established best before after = IsDueBest best after
+DueBy (steps.Changed prefixes) best before after = after ≡ before
+DueBy (steps.Closed prefixes) best before after = after ≡ map.empty
+
+-- the sets of other numbers stay
+pub record OneSet (before : List Prefixes) (p : ℕ) (after : List Prefixes) : Type 0 where
+  pub length : length after ≡ length before
+  pub others : (q : ℕ) → q ≢ p → table_at after q ≡ table_at before q
+
+-- The router follows what the live session of a peering read.
+pub record FollowsStep (old : Fields) (p : ℕ) (s : RunningSession) (step : ReadStep) (new : Fields) : Type 0 where
+  pub same : new ≡ record old { rib = new.rib; due_out = new.due_out }
+  pub entered : EntersAll (rib_of old.rib) p (entry_here old.home_as old.policies s.session) (prefixes_in step) (rib_of new.rib)
+  pub sets : OneSet old.due_out p new.due_out
+  pub due : DueBy step old.rib.best (table_at old.due_out p) (table_at new.due_out p)
+
+-- A session is live at a place, with no stored graft, and what was told on it and what is best is due.
+pub record MakesLive (old : Fields) (p : ℕ) (s : RunningSession) (new : Fields) : Type 0 where
+  pub same : new ≡ record old { places = new.places; due_out = new.due_out }
+  pub held : new.places.items ≡ slice_set old.places.items p (Live s None)
+  pub sets : OneSet old.due_out p new.due_out
+  pub due : IsDueAgain s.session.told old.rib.best (table_at new.due_out p)
+
+-- A session lands: its routes are taken in, and it is live.
+pub record SettlesIn (old : Fields) (s : RunningSession) (new : Fields) : Type 0 where
+  pub same : new ≡ record old { places = new.places; rib = new.rib; due_out = new.due_out }
+  pub entered : EntersAll (rib_of old.rib) s.session.config.peering.0 (entry_here old.home_as old.policies s.session) (map.keys s.session.heard) (rib_of new.rib)
+  pub held : new.places.items ≡ slice_set old.places.items s.session.config.peering.0 (Live s None)
+  pub sets : OneSet old.due_out s.session.config.peering.0 new.due_out
+  pub due : IsDueAgain s.session.told old.rib.best (table_at new.due_out s.session.config.peering.0)
+
+-- ---- what a router keeps meanwhile
+
+-- all that it keeps but what its places do
+pub record KeepsRest (f : Fields) : Type 0 where
+  pub there : f.number.0 < routers_in f.known.setup
+  pub routers : f.routers ≡ routers_in f.known.setup
+  pub few_routers : f.routers ≤ 256
+  pub few_peerings : peerings_in f.known.setup ≤ 256
+  pub room : f.room ≡ room_of f.known.setup f.number.0
+  pub home_as : f.home_as ≡ f.known.setup.home_as
+  pub policies : ArePoliciesOf f.known.setup f.number.0 f.policies
+  pub firsts : AreFirstsOf f.known.setup f.firsts
+  pub rib : IsRibOf f.known.setup f.number.0 f.rib.config
+  pub places : length f.places.items ≡ peerings_in f.known.setup
+  pub due_in : length f.due_in ≡ routers_in f.known.setup
+  pub due_out : length f.due_out ≡ peerings_in f.known.setup
+  pub tellings : (q : ℕ) → routers_in f.known.setup ≤ q → (x : PrefixValue) → is_some (map.get ((rib_of f.rib).tellings q) x) ≡ false
+
+-- A live session of its peering may have more to read.
+pub record KeepsLive (f : Fields) (p : ℕ) : Type 0 where
+  pub session : RunningSession
+  pub order : Option GraftIds
+  pub live : RunsAt f.places.items p session order
+  pub own : IsOfPeering f.known.setup p session.session
+  pub ordered : IsOrderOf f.known.setup f.number.0 p order
+  pub due : IsDueWhileUp session.session (table_at f.due_out p)
+
+-- The router is sound but that this session may have more to read.
+pub record KeepsBut (p : ℕ) (f : Fields) : Type 0 where
+  pub rest : KeepsRest f
+  pub here : KeepsLive f p
+  pub others : (q : ℕ) → q ≢ p → KeepsPlace f.known.setup f.number.0 q ((rib_of f.rib).entries q) (table_at f.due_out q) (place_at f.places.items q)
+
+-- ---- messages one after another
+
+-- how much a session has that it didn't read
+abbrev pub unread_at : Place → ℕ
+unread_at Vacant = 0
+unread_at (Live s order) = length (unread s.session)
+unread_at (Shadow away) = 0
+
+-- The places of other peerings stay, and the session of this one emits nothing and keeps its order.
+pub record StaysBut (p : ℕ) (old new : Fields) : Type 0 where
+  pub same : new ≡ record old { places = new.places; rib = new.rib; due_out = new.due_out }
+  pub others : (q : ℕ) → q ≢ p → place_at new.places.items q ≡ place_at old.places.items q
+  pub stays : (s u : RunningSession) (o q : Option GraftIds) → RunsAt old.places.items p s o → RunsAt new.places.items p u q → Stays s u
+
+-- One message is read, and the router follows it.
+pub record ReadsOne (p : ℕ) (old : Fields) (before : Post (Item RunningSession)) (new : Fields) (after : Post (Item RunningSession)) : Type 0 where
+  pub did : (t : ℕ → Tally) → Did old before t (Got p ∷ []) new after t
+  pub stays : StaysBut p old new
+  pub less : unread_at (place_at new.places.items p) < unread_at (place_at old.places.items p)
+  pub keeps : KeepsBut p new
+
+-- There is nothing to read.
+pub record ReadsNone (p : ℕ) (old : Fields) (before : Post (Item RunningSession)) (new : Fields) (after : Post (Item RunningSession)) : Type 0 where
+  pub same : new ≡ record old { places = new.places }
+  pub places : new.places.items ≡ old.places.items
+  pub post : after ≡ before
+  pub none : (s : RunningSession) (o : Option GraftIds) → RunsAt old.places.items p s o → CantRead s.session
+
+-- All is read that can be, so that the router is sound.
+pub record ReadsAll (p : ℕ) (old : Fields) (before : Post (Item RunningSession)) (new : Fields) (after : Post (Item RunningSession)) : Type 0 where
+  pub events : List RouterEvent
+  pub did : (t : ℕ → Tally) → Did old before t events new after t
+  pub stays : StaysBut p old new
+  pub keeps : Keeps new

@@ -1,0 +1,87 @@
+-- The events of a router one after another: each by its row, with what it emits and puts as a turn has it.
+use Rattle.std.specs.Prelude.{ℕ, zero, suc, ◌≡◌, List, [], ◌∷◌, length, Option}
+use Rattle.std.specs.List.{AllByRecursion}
+use Rattle.ring_net.specs.Deeds.{Deed, Replay, TakesNone}
+use Rattle.ring_net.specs.Posts.{actor_of, Wrote}
+use Rattle.ring_net.specs.declared.post.Post.{Post}
+use Rattle.graft_steps.specs.declared.item.Item.{Item}
+use Rattle.bgp_session.specs.Running.{RunningSession}
+use Rattle.session_value.specs.Sessions.{SessionValue}
+use Rattle.tell_plan.specs.declared.batch.Batch.{Batch}
+use Rattle.graft_model.specs.Points.{at}
+use Rattle.graft_model.specs.Setups.{Setup}
+use Rattle.graft_model.specs.Parts.{Place, Vacant, Live, Frozen, Shadow, Order, RouterPart}
+use Rattle.graft_model.specs.RouterRows.{RouterTaken, RouterSent, IsLive}
+use Rattle.graft_model.specs.Codes.{router_code}
+use Rattle.graft_model.specs.Steps.{RouterEvent, Put, Emit, router_row}
+use Rattle.graft_runs.specs.Makes.{HasCode}
+use Rattle.graft_actors.specs.Acts.{acts}
+use Rattle.graft_actors.specs.Emissions.{IsCareful, Tally, counted}
+use Rattle.router_core.specs.Parts.{router_part, own_part, carried}
+use Rattle.router_core.specs.Updates.{IsNextUpdate}
+use Rattle.router_core.specs.declared.fields.Fields.{Fields}
+
+-- ---- one event
+
+-- the session that is live there emits an old slice, a new one or an owed answer
+pub record EmitsCarefully (part : RouterPart) (p from len : ℕ) : Type 0 where
+  pub session : SessionValue
+  pub order : Option Order
+  pub live : IsLive part p session order
+  pub careful : IsCareful session.end from len
+
+-- so many prefixes are those of the next update of the session that is live there
+pub record PutsNext (setup : Setup) (r : ℕ) (part : RouterPart) (p n : ℕ) : Type 0 where
+  pub session : SessionValue
+  pub order : Option Order
+  pub live : IsLive part p session order
+  pub batch : Batch
+  pub next : IsNextUpdate setup r part p session batch
+  pub size : length batch.prefixes ≡ n
+
+abbrev pub CarefulRouter : Setup → ℕ → RouterPart → RouterEvent → Type 0
+CarefulRouter setup r part (Emit p from len) = EmitsCarefully part p from len
+CarefulRouter setup r part (Put p (suc n)) = PutsNext setup r part p (suc n)
+CarefulRouter setup r part event = Unit {0}
+
+-- what is emitted from a place is counted
+abbrev pub tally_at : Place → ℕ → ℕ → Tally → Tally
+tally_at Vacant from len t = t
+tally_at (Live session order) from len t = counted session.end from len t
+tally_at (Frozen session order) from len t = t
+tally_at (Shadow graft) from len t = t
+
+abbrev pub router_tally : RouterPart → RouterEvent → (ℕ → Tally) → ℕ → Tally
+router_tally part (Emit p from len) t = at t p (tally_at (part.places p) from len (t p))
+router_tally part event t = t
+
+-- ---- events of a part, one after another
+
+-- The events lead from one part to another, each by its row; each segment that is emitted is an old slice, a new one or an owed answer; each UPDATE
+-- that is put is the next one; and the tallies, one a peering, count the segments.
+abbrev pub RouterRound : Setup → ℕ → RouterPart → (ℕ → Tally) → List RouterEvent → RouterPart → (ℕ → Tally) → Type 0
+RouterRound setup r before t [] after u = (after ≡ before) × (u ≡ t)
+RouterRound setup r before t (event ∷ events) after u =
+    (taken : Option RouterTaken) × (sent : List RouterSent) × (mid : RouterPart) × router_row setup r event before taken sent mid × CarefulRouter setup r before event
+    × RouterRound setup r mid (router_tally before event t) events after u
+
+-- the entries of what was done are those of these events
+abbrev pub AreOf : {I : Type 0} → List RouterEvent → List (Deed I) → Type 0
+AreOf [] [] = Unit {0}
+AreOf (event ∷ events) (deed ∷ deeds) = HasCode (router_code event) deed.entry × AreOf events deeds
+AreOf events deeds = ⊥
+
+-- what a router is: its laboratory and its number stay
+pub record SameRouter (old new : Fields) : Type 0 where
+  pub setup : new.known.setup ≡ old.known.setup
+  pub number : new.number ≡ old.number
+
+-- What a piece of a call does that takes no item: the events that it made and wrote.
+pub record Did (old : Fields) (before : Post (Item RunningSession)) (t : ℕ → Tally) (events : List RouterEvent) (new : Fields) (after : Post (Item RunningSession)) (u : ℕ → Tally) : Type 0 where
+  pub router : SameRouter old new
+  pub deeds : List (Deed (Item RunningSession))
+  pub wrote : Wrote before deeds after
+  pub none : AllByRecursion TakesNone deeds
+  pub coded : AreOf events deeds
+  pub replay : Replay (acts carried) (actor_of before) (own_part old) deeds (own_part new)
+  pub round : RouterRound old.known.setup old.number.0 (router_part old) t events (router_part new) u

@@ -1,0 +1,47 @@
+-- Segments that the sessions at places emit.
+use Rattle.std.specs.Prelude.{ℕ, ◌≡◌, ◌⊎◌, ◌<◌, ◌≤◌, ◌+◌, ◌↔◌, true, length, Option, None, IsNone, IfNone, IsSome}
+use Rattle.tcp_seq.specs.declared.segment.Segment.{Segment}
+use Rattle.tcp_seq.specs.Endpoint.{EmitsNext, EmitsAgain, EmitsAnswer, EmitsSlice, again_length, next_length}
+use Rattle.bgp_session.specs.Running.{RunningSession}
+use Rattle.bgp_session.specs.Steps.{EmitsBy}
+use Rattle.graft_actors.specs.Emissions.{reach_of}
+use Rattle.graft_actors.specs.Items.{home_first}
+use Rattle.graft_model.specs.Setups.{routers_in}
+use Rattle.router_core.specs.declared.fields.Fields.{Fields}
+use Rattle.router_core.specs.declared.place.Place.{Place}
+use Rattle.router_core.specs.declared.place.Place.TheVariants.{Vacant, Live, Shadow}
+use Rattle.router_core.specs.declared.stages.send.Outlet.{Outlet}
+
+-- What the session that is live at a place does, with its answer. Where none is there is no answer.
+abbrev pub AtPlace : {A : Type 0} → (RunningSession → Option A → RunningSession → Type 0) → Place → Option A → Place → Type 0
+AtPlace Does Vacant answer new = (answer ≡ None) × (new ≡ Vacant)
+AtPlace Does (Live s order) answer new = (u : RunningSession) × (new ≡ Live u order) × Does s answer u
+AtPlace Does (Shadow away) answer new = (answer ≡ None) × (new ≡ Shadow away)
+
+-- the retransmission turn
+pub record SentAgain (s : RunningSession) (answer : Option Segment) (u : RunningSession) : Type 0 where
+  pub none : IsNone answer ↔ ((again_length s.session.end ≡ 0) ⊎ (s.acked_at_turn < s.session.end.acked))
+  pub within : s.session.end.emitted ≤ length s.session.end.stream
+  pub step : EmitsBy EmitsAgain s.session answer u.session
+  pub slice : EmitsBy EmitsSlice s.session answer u.session
+  pub turned : u.acked_at_turn ≡ s.session.end.acked
+
+-- the next new slice, if there is one
+pub record SentNext (s : RunningSession) (answer : Option Segment) (u : RunningSession) : Type 0 where
+  pub none : IsNone answer ↔ (next_length s.session.end ≡ 0)
+  pub all : IfNone answer (s.session.end.emitted ≡ reach_of s.session.end)
+  pub step : EmitsBy EmitsNext s.session answer u.session
+  pub slice : EmitsBy EmitsSlice s.session answer u.session
+  pub same_turn : u.acked_at_turn ≡ s.acked_at_turn
+
+-- the answer, if one is owed
+pub record SentAnswer (s : RunningSession) (answer : Option Segment) (u : RunningSession) : Type 0 where
+  pub some : IsSome answer ↔ (s.session.end.owed ≡ true)
+  pub step : EmitsBy EmitsAnswer s.session answer u.session
+  pub same_turn : u.acked_at_turn ≡ s.acked_at_turn
+
+-- where the segments go that are emitted on a peering, and the number of the first byte of its home side
+pub record IsOutletOf (f : Fields) (p : ℕ) (outlet : Outlet) : Type 0 where
+  pub place : outlet.place ≡ p
+  pub to : outlet.to ≡ routers_in f.known.setup + p
+  pub first : outlet.first.0 ≡ home_first f.known.setup p

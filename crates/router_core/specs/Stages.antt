@@ -1,0 +1,135 @@
+-- The stages of a router's turn, in their order: segments are sent again, rounds pass, grafts begin, prefixes are decided, routers and sessions are told, and all is
+-- emitted that may be.
+use Rattle.std.specs.Prelude.{ℕ, ◌≡◌, ◌⊎◌, ◌+◌, ◌<◌, nat_lt, if◌then◌else◌, false, List, [], ◌∷◌, Option, Some, None}
+use Rattle.std.specs.FinMap as map
+use Rattle.ring_net.specs.declared.post.Post.{Post}
+use Rattle.tcp_seq.specs.Endpoint.{again_length}
+use Rattle.graft_steps.specs.declared.item.Item.{Item}
+use Rattle.graft_steps.specs.declared.order.GraftIds.{GraftIds}
+use Rattle.bgp_session.specs.Running.{RunningSession}
+use Rattle.bgp_session.specs.Steps.{MayPass}
+use Rattle.graft_model.specs.Steps.{RouterEvent}
+use Rattle.graft_actors.specs.Emissions.{Tally, reach_of}
+use Rattle.router_core.specs.Parts.{router_part, Keeps}
+use Rattle.router_core.specs.Places.{place_at}
+use Rattle.router_core.specs.Rested.{IsDone}
+use Rattle.router_core.specs.Rounds.{Did}
+use Rattle.router_core.specs.Turned.{rounds_on}
+use Rattle.router_core.specs.declared.fields.Fields.{Fields}
+use Rattle.router_core.specs.declared.place.Place.{Place}
+use Rattle.router_core.specs.declared.place.Place.TheVariants.{Vacant, Live, Shadow}
+
+-- ---- how places change
+
+-- A place stays what it is, but that its session may become another one.
+abbrev pub PlaceGoes : (RunningSession → RunningSession → Type 0) → Place → Place → Type 0
+PlaceGoes Becomes Vacant new = new ≡ Vacant
+PlaceGoes Becomes (Live s order) new = (u : RunningSession) × (new ≡ Live u order) × Becomes s u
+PlaceGoes Becomes (Shadow away) new = new ≡ Shadow away
+
+-- A stored graft is refused, and the session stays; or the session leaves in it. All else stays.
+abbrev pub GraftGoes : Place → Place → Type 0
+GraftGoes Vacant new = new ≡ Vacant
+GraftGoes (Live s None) new = new ≡ Live s None
+GraftGoes (Live s (Some ids)) new = (new ≡ Live s None) ⊎ (new ≡ Shadow ids)
+GraftGoes (Shadow away) new = new ≡ Shadow away
+
+-- A session has put more, and all else of its endpoint stays.
+pub record PutsMore (s u : RunningSession) : Type 0 where
+  pub acked : u.session.end.acked ≡ s.session.end.acked
+  pub emitted : u.session.end.emitted ≡ s.session.end.emitted
+  pub at_turn : u.acked_at_turn ≡ s.acked_at_turn
+
+abbrev pub IsLevel : RunningSession → RunningSession → Type 0
+IsLevel s u = u ≡ record s { acked_at_turn = s.session.end.acked }
+
+-- All is emitted that may be, and no answer is owed.
+abbrev pub EmitsAll : RunningSession → RunningSession → Type 0
+EmitsAll s u = u ≡ record s { session = record s.session { end = record s.session.end { emitted = reach_of s.session.end; owed = false } } }
+
+-- a round passed on the session where one may, and no other
+abbrev pub PassesWhereItMay : (round : ℕ) → (rounds : List ℕ) → RunningSession → RunningSession → Type 0
+PassesWhereItMay round rounds s u = PutsMore s u
+    × ((MayPass s.session round × (rounds ≡ round ∷ [])) ⊎ ((¬ MayPass s.session round) × (rounds ≡ []) × (u ≡ s)))
+
+-- ---- the tallies
+
+-- whether the first outstanding bytes of a session are sent again
+abbrev pub again_at : Place → ℕ
+again_at Vacant = 0
+again_at (Live s order) = if nat_lt s.acked_at_turn s.session.end.acked then 0 else (if nat_lt 0 (again_length s.session.end) then 1 else 0)
+again_at (Shadow away) = 0
+
+abbrev pub answer_at : Place → ℕ
+answer_at Vacant = 0
+answer_at (Live s order) = if s.session.end.owed then 1 else 0
+answer_at (Shadow away) = 0
+
+abbrev pub with_again : Fields → (ℕ → Tally) → ℕ → Tally
+with_again f t p = record (t p) { again = (t p).again + again_at (place_at f.places.items p) }
+
+abbrev pub with_answers : Fields → (ℕ → Tally) → ℕ → Tally
+with_answers f t p = record (t p) { answers = (t p).answers + answer_at (place_at f.places.items p) }
+
+-- ---- the stages
+
+-- no round passes in the events
+abbrev pub NoRounds : List RouterEvent → Type 0
+NoRounds events = (p : ℕ) → rounds_on p events ≡ []
+
+pub record SendsAgain (old : Fields) (before : Post (Item RunningSession)) (new : Fields) (after : Post (Item RunningSession)) : Type 0 where
+  pub events : List RouterEvent
+  pub did : (t : ℕ → Tally) → Did old before t events new after (with_again old t)
+  pub no_rounds : NoRounds events
+  pub places : (p : ℕ) → PlaceGoes IsLevel (place_at old.places.items p) (place_at new.places.items p)
+  pub same : new ≡ record old { places = new.places }
+  pub keeps : Keeps new
+
+pub record PassesRounds (old : Fields) (before : Post (Item RunningSession)) (new : Fields) (after : Post (Item RunningSession)) : Type 0 where
+  pub events : List RouterEvent
+  pub did : (t : ℕ → Tally) → Did old before t events new after t
+  pub places : (p : ℕ) → PlaceGoes (PassesWhereItMay old.turns (rounds_on p events)) (place_at old.places.items p) (place_at new.places.items p)
+  pub same : new ≡ record old { places = new.places; rib = new.rib; due_out = new.due_out }
+  pub keeps : Keeps new
+
+pub record BeginsGrafts (old : Fields) (before : Post (Item RunningSession)) (new : Fields) (after : Post (Item RunningSession)) : Type 0 where
+  pub events : List RouterEvent
+  pub did : (t : ℕ → Tally) → Did old before t events new after t
+  pub no_rounds : NoRounds events
+  pub places : (p : ℕ) → GraftGoes (place_at old.places.items p) (place_at new.places.items p)
+  pub same : new ≡ record old { places = new.places; due_out = new.due_out }
+  pub keeps : Keeps new
+
+pub record DecidesAll (old : Fields) (before : Post (Item RunningSession)) (new : Fields) (after : Post (Item RunningSession)) : Type 0 where
+  pub events : List RouterEvent
+  pub did : (t : ℕ → Tally) → Did old before t events new after t
+  pub no_rounds : NoRounds events
+  pub clean : new.rib.dirty ≡ map.empty
+  pub same : new ≡ record old { rib = new.rib; due_in = new.due_in; due_out = new.due_out }
+  pub keeps : Keeps new
+
+pub record TellsAll (old : Fields) (before : Post (Item RunningSession)) (new : Fields) (after : Post (Item RunningSession)) : Type 0 where
+  pub events : List RouterEvent
+  pub did : (t : ℕ → Tally) → Did old before t events new after t
+  pub no_rounds : NoRounds events
+  pub told : (q : ℕ) → (router_part new).due_in q ≡ map.empty
+  pub same : new ≡ record old { due_in = new.due_in }
+  pub keeps : Keeps new
+
+-- On each session all is put that is to be told, or its next update has no room or can't be written.
+pub record PutsAll (old : Fields) (before : Post (Item RunningSession)) (new : Fields) (after : Post (Item RunningSession)) : Type 0 where
+  pub events : List RouterEvent
+  pub did : (t : ℕ → Tally) → Did old before t events new after t
+  pub no_rounds : NoRounds events
+  pub places : (p : ℕ) → PlaceGoes PutsMore (place_at old.places.items p) (place_at new.places.items p)
+  pub done : (p : ℕ) → IsDone old.known.setup old.number.0 (router_part new) p ((router_part new).places p)
+  pub same : new ≡ record old { places = new.places; due_out = new.due_out }
+  pub keeps : Keeps new
+
+pub record Emits (old : Fields) (before : Post (Item RunningSession)) (new : Fields) (after : Post (Item RunningSession)) : Type 0 where
+  pub events : List RouterEvent
+  pub did : (t : ℕ → Tally) → Did old before t events new after (with_answers old t)
+  pub no_rounds : NoRounds events
+  pub places : (p : ℕ) → PlaceGoes EmitsAll (place_at old.places.items p) (place_at new.places.items p)
+  pub same : new ≡ record old { places = new.places }
+  pub keeps : Keeps new

@@ -1,0 +1,46 @@
+-- What a router says of one take, beside its event.
+use Rattle.std.specs.Prelude.{ℕ, ◌≡◌, ◌≤◌, List, Option}
+use Rattle.ring_net.specs.Deeds.{Deed}
+use Rattle.ring_net.specs.Posts.{TookItem}
+use Rattle.ring_net.specs.declared.post.Post.{Post}
+use Rattle.graft_steps.specs.declared.item.Item.{Item}
+use Rattle.graft_steps.specs.declared.item.Item.TheVariants as items
+use Rattle.graft_steps.specs.declared.order.GraftIds.{GraftIds}
+use Rattle.bgp_session.specs.Running.{RunningSession}
+use Rattle.graft_model.specs.Steps.{RouterEvent}
+use Rattle.graft_actors.specs.Acts.{acts, IsWelcome}
+use Rattle.graft_actors.specs.Emissions.{Tally}
+use Rattle.router_core.specs.Parts.{router_part, own_part, carried, Keeps}
+use Rattle.router_core.specs.Places.{RunsAt}
+use Rattle.router_core.specs.Rounds.{AreOf, RouterRound, SameRouter}
+use Rattle.router_core.specs.declared.fields.Fields.{Fields}
+
+-- The session of a peering that stays live through a take emits nothing, and its retransmission turn is what it was.
+pub record Stays (old new : RunningSession) : Type 0 where
+  pub acked : old.session.end.acked ≤ new.session.end.acked
+  pub emitted : new.session.end.emitted ≡ old.session.end.emitted
+  pub at_turn : new.acked_at_turn ≡ old.acked_at_turn
+
+-- The events of a take of an item that is welcome, and the sessions that stay.
+pub record TakesRows (old : Fields) (deeds : List (Deed (Item RunningSession))) (new : Fields) : Type 0 where
+  pub events : List RouterEvent
+  pub coded : AreOf events deeds
+  pub round : (t : ℕ → Tally) → RouterRound old.known.setup old.number.0 (router_part old) t events (router_part new) t
+  pub stays : (p : ℕ) (s u : RunningSession) (o q : Option GraftIds) → RunsAt old.places.items p s o → RunsAt new.places.items p u q → Stays s u
+
+pub record Took (old : Fields) (from : ℕ) (item : Item RunningSession) (deeds : List (Deed (Item RunningSession))) (new : Fields) : Type 0 where
+  pub router : SameRouter old new
+  pub turns : new.turns ≡ old.turns
+  pub rows : IsWelcome carried (own_part old) from item → TakesRows old deeds new
+
+-- a take, after which the router is sound
+pub record TakesIt (from : ℕ) (item : Item RunningSession) (old : Fields) (before : Post (Item RunningSession)) (new : Fields) (after : Post (Item RunningSession)) : Type 0 where
+  pub took : TookItem own_part (acts carried) Took from item old before new after
+  pub keeps : Keeps new
+
+-- an item that no router takes
+abbrev pub IsOther : {C : Type 0} → Item C → Type 0
+IsOther (items.PointAt k) = Unit {0}
+IsOther (items.Report k outcome) = Unit {0}
+IsOther (items.SayOrder step) = Unit {0}
+IsOther item = ⊥

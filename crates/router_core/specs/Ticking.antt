@@ -1,0 +1,19 @@
+-- A round passes on the session that is live at a place, where one may.
+use Rattle.std.specs.Prelude.{ℕ, ◌≡◌, Option, Some, None}
+use Rattle.session_value.specs.Ties.{IsTied}
+use Rattle.bgp_session.specs.Running.{RunningSession}
+use Rattle.bgp_session.specs.Steps.{MayPass, Ticks}
+use Rattle.bgp_session.specs.declared.answers.ReadStep.{ReadStep}
+use Rattle.bgp_session.specs.declared.answers.ReadStep.TheVariants as reads
+use Rattle.bgp_session.specs.declared.answers.TickStep.{TickStep}
+use Rattle.bgp_session.specs.declared.answers.TickStep.TheVariants.{Plain, Beat, Expired}
+
+abbrev pub Ticked : ℕ → RunningSession → Option TickStep → RunningSession → Type 0
+Ticked round s None u = (¬ MayPass s.session round) × (u ≡ s)
+Ticked round s (Some step) u = MayPass s.session round × IsTied s.session × Ticks step s round u
+
+-- what the router follows then: the end of the session, or nothing
+abbrev pub followed : TickStep → ReadStep
+followed Plain = reads.Opened
+followed Beat = reads.Opened
+followed (Expired prefixes) = reads.Closed prefixes

@@ -1,0 +1,52 @@
+-- What is put next on a session, and why it may not be.
+use Rattle.std.specs.Prelude.{ℕ, ◌≡◌, ◌<◌, ◌+◌, List, length, Option, Some, None}
+use Rattle.bgp_types.specs.declared.message.Message.TheVariants.{UpdateMsg}
+use Rattle.bgp_types.specs.declared.message.SessionState.TheVariants.{Established}
+use Rattle.bgp_types.specs.Spelling.{spell}
+use Rattle.bgp_story.specs.Legal.{is_wide}
+use Rattle.session_value.specs.Sessions.{SessionValue, state, peering_of}
+use Rattle.session_value.specs.Cases.{update_for}
+use Rattle.tell_plan.specs.Plans.{IsNext, IsWritableFor}
+use Rattle.tell_plan.specs.declared.batch.Batch.{Batch}
+use Rattle.graft_model.specs.Setups.{Setup}
+use Rattle.graft_model.specs.Parts.{RouterPart, Order}
+use Rattle.graft_model.specs.RouterRows.{IsLive, IsToTell}
+use Rattle.graft_model.specs.Decisions.{to_tell}
+
+-- The next update of a session: the prefixes that are to be told the same as the first of all that are to be told, as many as one message of 4,096 octets holds.
+abbrev pub IsNextUpdate : Setup → ℕ → RouterPart → ℕ → SessionValue → Batch → Type 0
+IsNextUpdate setup r part p session batch =
+    IsNext (IsToTell setup r part p session) (to_tell setup r part session) (is_wide (peering_of session.config) session.story) batch
+
+abbrev pub length_with : SessionValue → Batch → ℕ
+length_with session batch = length session.end.stream + length (spell (UpdateMsg (update_for batch.attrs batch.prefixes)) (is_wide (peering_of session.config) session.story))
+
+-- An established session is stuck at a length: its next update would take what was put to that length, above 1,044,480.
+pub record IsStuck (setup : Setup) (r : ℕ) (part : RouterPart) (p : ℕ) (session : SessionValue) (n : ℕ) : Type 0 where
+  pub established : state session ≡ Established
+  pub batch : Batch
+  pub next : IsNextUpdate setup r part p session batch
+  pub writable : IsWritableFor batch
+  pub size : n ≡ length_with session batch
+  pub above : 1044480 < n
+
+-- Its next update has attributes that no message has.
+pub record IsUnwritable (setup : Setup) (r : ℕ) (part : RouterPart) (p : ℕ) (session : SessionValue) : Type 0 where
+  pub established : state session ≡ Established
+  pub batch : Batch
+  pub next : IsNextUpdate setup r part p session batch
+  pub unwritable : ¬ IsWritableFor batch
+
+-- ---- a session without room
+
+-- the live session of a peering is stuck at a length
+pub record IsStuckAt (setup : Setup) (r : ℕ) (part : RouterPart) (p n : ℕ) : Type 0 where
+  pub session : SessionValue
+  pub order : Option Order
+  pub live : IsLive part p session order
+  pub stuck : IsStuck setup r part p session n
+
+-- the lowest peering whose session is stuck, and the length
+abbrev pub IsFirstStuck : Setup → ℕ → RouterPart → Option (ℕ × ℕ) → Type 0
+IsFirstStuck setup r part None = (p n : ℕ) → ¬ IsStuckAt setup r part p n
+IsFirstStuck setup r part (Some x) = IsStuckAt setup r part x.0 x.1 × ((p n : ℕ) → p < x.0 → ¬ IsStuckAt setup r part p n)

@@ -1,0 +1,110 @@
+//! What is due to be told, by number.
+
+ghost use Rattle.std.specs.Prelude.{ℕ, ◌≡◌, ◌<◌, length, IfOk, OnOk, OnErr};
+ghost use Rattle.std.specs.FinMap as map;
+ghost use Rattle.bgp_types.specs.Tables.{first_above};
+ghost use Rattle.session_value.specs.Points.{at};
+ghost use Rattle.rib_stages.specs.Values.{table_at};
+
+use bgp_types::{NoMemory, Prefix, Table};
+use prefix_trie::TrieTable;
+use std::alloc::Global;
+use std::marker::Model;
+
+/// Sets of prefixes by number.
+#[derive(Drop)]
+pub(crate) struct DueSets {
+    sets: Vec<TrieTable<()>>,
+}
+
+impl Model for DueSets {
+    ghost use Rattle.std.specs.Prelude.{List};
+    ghost use Rattle.std.specs.Coded.{coded_list};
+    ghost use Rattle.std.specs.FinMap as map;
+    ghost use base.Stored.{coded_unit};
+    ghost use Rattle.bgp_types.specs.Tables.{coded_prefix};
+    ghost use Rattle.session_value.specs.Sets.{Prefixes};
+    ghost use Rattle.rib_stages.specs.Values.{contents_of};
+
+    ghost Value = { List Prefixes };
+
+    ghost coded = { coded_list (map.code coded_prefix coded_unit) };
+
+    ghost view = { λ due. contents_of due.sets.items };
+}
+
+/// Puts a prefix into a set. If memory runs out, nothing changes.
+fn insert(set: &mut TrieTable<()>, prefix: Prefix) -> Result<(), NoMemory>
+    ensures ok { OnOk result (set.new.contents ≡ map.insert set.old.contents prefix tt) }
+    ensures err { OnErr result (set.new.contents ≡ set.old.contents) }
+{
+    match set.set(prefix, ()) {
+        Ok(_) => Ok(()),
+        Err(_) => Err(NoMemory),
+    }
+}
+
+impl DueSets {
+    /// So many empty sets.
+    pub(crate) fn new(alloc: Global, count: usize) -> Result<DueSets, NoMemory>
+        ensures count { IfOk result (λ due. length due ≡ count) }
+        ensures empty { IfOk result (λ due. (n : ℕ) → table_at due n ≡ map.empty) }
+    {
+        let mut sets = Vec::new(alloc);
+        for _n in 0..count {
+            sets.push(TrieTable::new(alloc))?;
+        }
+        Ok(DueSets { sets })
+    }
+
+    /// How many sets there are.
+    pub(crate) fn len(&self) -> usize
+        ensures { result ≡ length self.now }
+    {
+        self.sets.len()
+    }
+
+    /// The set of a number, which there is.
+    pub(crate) fn set(&self, n: usize) -> &TrieTable<()>
+        requires { n < length self.now }
+        ensures { result.now.contents ≡ table_at self.now n }
+    {
+        &self.sets[n]
+    }
+
+    /// The least prefix that is due, or the least above another.
+    pub(crate) fn next_after(&self, n: usize, prefix: Option<Prefix>) -> Option<Prefix>
+        requires { n < length self.now }
+        ensures { result ≡ first_above prefix (map.keys (table_at self.now n)) }
+    {
+        self.sets[n].next_after(prefix)
+    }
+
+    /// Makes a prefix due. If memory runs out, nothing changes.
+    pub(crate) fn add(&mut self, n: usize, prefix: Prefix) -> Result<(), NoMemory>
+        requires { n < length self.old }
+        ensures length { length self.new ≡ length self.old }
+        ensures ok { OnOk result (table_at self.new ≡ at (table_at self.old) n (map.insert (table_at self.old n) prefix tt)) }
+        ensures err { OnErr result (table_at self.new ≡ table_at self.old) }
+    {
+        insert(&mut self.sets[n], prefix)
+    }
+
+    /// A prefix is due no more.
+    pub(crate) fn remove(&mut self, n: usize, prefix: Prefix)
+        requires { n < length self.old }
+        ensures length { length self.new ≡ length self.old }
+        ensures removed { table_at self.new ≡ at (table_at self.old) n (map.remove (table_at self.old n) prefix) }
+    {
+        self.sets[n].remove(prefix);
+    }
+
+    /// Another set is due.
+    pub(crate) fn put(&mut self, n: usize, set: TrieTable<()>)
+        requires { n < length self.old }
+        ensures length { length self.new ≡ length self.old }
+        ensures put { table_at self.new ≡ at (table_at self.old) n set.contents }
+    {
+        self.sets[n] = set;
+    }
+}

@@ -1,0 +1,34 @@
+//! A router's fields.
+
+use crate::config::{Firsts, Policies};
+use crate::due::DueSets;
+use crate::place::Place;
+use bgp_types::Items;
+use graft_actors::Known;
+use graft_edge::RouterId;
+use rib_stages::Rib;
+use std::alloc::Global;
+
+/// The fields of a router.
+#[derive(Drop)]
+pub struct Fields {
+    pub(crate) alloc: Global,
+    /// The laboratory, which only proofs read.
+    pub(crate) known: Known,
+    pub(crate) number: RouterId,
+    pub(crate) routers: u32,
+    pub(crate) room: u32,
+    /// The AS of the home network.
+    pub(crate) home_as: u32,
+    pub(crate) policies: Policies,
+    /// The numbers of the first bytes, by peering.
+    pub(crate) firsts: Items<Firsts>,
+    pub(crate) rib: Rib,
+    /// The place for each peering.
+    pub(crate) places: Vec<Place>,
+    /// What is due to be told to each router, and on each peering.
+    pub(crate) due_in: DueSets,
+    pub(crate) due_out: DueSets,
+    /// How many turns were made. Each is a round of one second.
+    pub(crate) turns: u32,
+}

@@ -1,0 +1,134 @@
+//! What a router has left to do.
+
+ghost use Rattle.std.specs.Prelude.{ℕ, ◌≡◌, ◌≤◌, Option, Some, None, length, min, option_map, MatchBool};
+ghost use Rattle.rib_stages.specs.Values.{table_at};
+ghost use Rattle.settled_check.specs.Firsts.{IsLowestOf};
+ghost use Rattle.settled_check.specs.Left.{HasSome, HasStream, graft_at as graft_lem};
+ghost use Rattle.settled_check.specs.Rests.{IsRouterRest};
+ghost use Rattle.router_core.specs.Parts.{Keeps, router_part};
+ghost use Rattle.router_core.specs.Places.{lower_of, place_at, place_of};
+
+use crate::due::DueSets;
+use crate::fields::Fields;
+use crate::place::Place;
+use graft_edge::{PeeringId, RouterId};
+use graft_steps::RouterRest;
+
+/// The lowest number for which something is due.
+fn first_due(due: &DueSets) -> Option<u8>
+    requires { length due.now ≤ 256 }
+    ensures { IsLowestOf (λ n. HasSome (table_at due.now n)) result }
+{
+    for number in 0..due.len() {
+        if due.next_after(number, None).is_some() {
+            return Some(number as u8);
+        }
+    }
+    None
+}
+
+/// The graft at a place.
+fn graft_at(place: &Place) -> Option<u32>
+    ensures { result ≡ graft_lem (place_of place.now) }
+{
+    match place {
+        Place::Vacant => None,
+        Place::Live { order, .. } => match order {
+            Some(order) => Some(order.ids().graft),
+            None => None,
+        },
+        Place::Shadow { away } => Some(away.ids().graft),
+    }
+}
+
+/// The lower of two numbers, where there are any.
+fn lower(one: Option<u32>, other: Option<u32>) -> Option<u32>
+    ensures { result ≡ lower_of one other }
+{
+    match (one, other) {
+        (Some(one), Some(other)) => Some(one.min(other)),
+        (one, None) => one,
+        (None, other) => other,
+    }
+}
+
+/// The lowest number of a graft at one of the places.
+fn lowest_graft(places: &[Place]) -> Option<u32>
+    ensures { IsLowestOf (λ k. (p : ℕ) × (graft_lem (place_of (place_at places.now p)) ≡ Some k)) result }
+{
+    let mut lowest = None;
+    for place in places {
+        lowest = lower(lowest, graft_at(place));
+    }
+    lowest
+}
+
+/// Whether bytes of a session aren't acknowledged, or it has something to read.
+fn has_stream(place: &Place) -> bool
+    ensures { MatchBool result (HasStream (place_of place.now)) (¬ HasStream (place_of place.now)) }
+{
+    match place {
+        Place::Live { session, .. } => !session.all_acked() || session.frame_waits(),
+        Place::Vacant | Place::Shadow { .. } => false,
+    }
+}
+
+/// The lowest peering with such a session.
+fn first_stream(places: &[Place]) -> Option<u8>
+    requires { length places.now ≤ 256 }
+    ensures { IsLowestOf (λ p. HasStream (place_of (place_at places.now p))) result }
+{
+    for number in 0..places.len() {
+        if has_stream(&places[number]) {
+            return Some(number as u8);
+        }
+    }
+    None
+}
+
+/// That nothing is left, which is said of no router that works.
+pub(crate) fn nothing_left(number: RouterId) -> RouterRest {
+    RouterRest {
+        number,
+        dirty: false,
+        due_in: None,
+        due_out: None,
+        graft: None,
+        stream: None,
+    }
+}
+
+/// The router of a number, where there is one.
+fn router_of(number: Option<u8>) -> Option<RouterId>
+    ensures { option_map (λ q. q.0) result ≡ number }
+{
+    match number {
+        Some(number) => Some(RouterId(number)),
+        None => None,
+    }
+}
+
+/// The peering of a number, where there is one.
+fn peering_of(number: Option<u8>) -> Option<PeeringId>
+    ensures { option_map (λ p. p.0) result ≡ number }
+{
+    match number {
+        Some(number) => Some(PeeringId(number)),
+        None => None,
+    }
+}
+
+/// What is left to do.
+pub(crate) fn rest(router: &Fields) -> RouterRest
+    requires { Keeps router.now }
+    ensures { IsRouterRest router.now.number.0 (router_part router.now) result }
+{
+    RouterRest {
+        number: router.number,
+        dirty: router.rib.next_dirty().is_some(),
+        due_in: router_of(first_due(&router.due_in)),
+        due_out: peering_of(first_due(&router.due_out)),
+        graft: lowest_graft(&router.places),
+        stream: peering_of(first_stream(&router.places)),
+    }
+}

@@ -1,0 +1,113 @@
+//! Decisions (RFC 4271, section 9.1.2).
+
+ghost use Rattle.std.specs.Prelude.{ℕ, ◌≡◌, ◌<◌, length, true, Bool, if◌then◌else◌, OnOk};
+ghost use Rattle.std.specs.FinMap as map;
+ghost use Rattle.ring_net.specs.Posts.{SameEdges};
+ghost use Rattle.session_value.specs.Points.{at};
+ghost use Rattle.session_value.specs.Sets.{has};
+ghost use Rattle.rib_stages.specs.Values.{table_at};
+ghost use Rattle.graft_model.specs.TableRows.{holds_established};
+ghost use Rattle.router_core.specs.Deciding.{AddsBelow, DecidesOne, DueToAll, is_other, is_up_at};
+ghost use Rattle.router_core.specs.Parts.{Keeps};
+ghost use Rattle.router_core.specs.Places.{place_of};
+ghost use Rattle.router_core.specs.Stages.{DecidesAll};
+
+use crate::due::DueSets;
+use crate::fields::Fields;
+use crate::place::Place;
+use bgp_session::Capsule;
+use bgp_types::{Prefix, SessionState};
+use graft_actors::note;
+use graft_edge::NoMemory;
+use graft_steps::Item;
+use ring_net::Post;
+
+/// The kind of the event.
+const DECIDE: u16 = 6;
+
+/// Makes a prefix due at a number, where it is to be.
+fn add_where(sets: &mut DueSets, n: usize, prefix: Prefix, is_due: bool) -> Result<(), NoMemory>
+    requires { n < length sets.old }
+    ensures length { OnOk result (length sets.new ≡ length sets.old) }
+    ensures added { OnOk result (table_at sets.new ≡ at (table_at sets.old) n (if is_due then map.insert (table_at sets.old n) prefix tt else table_at sets.old n)) }
+{
+    if is_due { sets.add(n, prefix) } else { Ok(()) }
+}
+
+/// Whether an established session is held at a place.
+fn is_up(place: &Place) -> bool
+    ensures { result ≡ holds_established (place_of place.now) }
+{
+    match place {
+        Place::Live { session, .. } => session.state() == SessionState::Established,
+        Place::Vacant | Place::Shadow { .. } => false,
+    }
+}
+
+/// Makes a prefix due to each other router.
+fn due_to_routers(router: &mut Fields, prefix: Prefix) -> Result<(), NoMemory>
+    requires { Keeps router.old }
+    ensures added { OnOk result (AddsBelow (length router.old.due_in) (is_other router.old) prefix router.old.due_in router.new.due_in) }
+    ensures same { OnOk result (router.new ≡ record router.old { due_in = router.new.due_in }) }
+{
+    let own = u32::from(router.number.0);
+    for q in 0..router.routers {
+        add_where(&mut router.due_in, q as usize, prefix, q != own)?;
+    }
+    Ok(())
+}
+
+/// Makes a prefix due on each established session.
+fn due_on_sessions(router: &mut Fields, prefix: Prefix) -> Result<(), NoMemory>
+    requires { Keeps router.old }
+    ensures added { OnOk result (AddsBelow (length router.old.due_out) (is_up_at router.old) prefix router.old.due_out router.new.due_out) }
+    ensures same { OnOk result (router.new ≡ record router.old { due_out = router.new.due_out }) }
+{
+    for n in 0..router.places.len() {
+        let is_due = is_up(&router.places[n]);
+        add_where(&mut router.due_out, n, prefix, is_due)?;
+    }
+    Ok(())
+}
+
+/// Makes a prefix due wherever another best route is to be told.
+fn due_to_all(router: &mut Fields, prefix: Prefix) -> Result<(), NoMemory>
+    requires { Keeps router.old }
+    ensures { OnOk result (DueToAll prefix router.old router.new) }
+{
+    due_to_routers(router, prefix)?;
+    due_on_sessions(router, prefix)
+}
+
+/// Decides a dirty prefix.
+fn decide_one(
+    router: &mut Fields,
+    prefix: Prefix,
+    post: &mut Post<Item<Capsule>>,
+) -> Result<(), NoMemory>
+    requires keeps { Keeps router.old }
+    requires dirty { has router.old.rib.dirty prefix ≡ true }
+    ensures edges { SameEdges post.old post.new }
+    ensures decides { OnOk result (DecidesOne prefix router.old post.old router.new post.new) }
+{
+    note(post, DECIDE, prefix.address(), u32::from(prefix.len()), 0)?;
+    if router.rib.decide(prefix)? {
+        due_to_all(router, prefix)?;
+    }
+    Ok(())
+}
+
+/// Decides every dirty prefix, in rising order.
+pub(crate) fn decide_all(
+    router: &mut Fields,
+    post: &mut Post<Item<Capsule>>,
+) -> Result<(), NoMemory>
+    requires { Keeps router.old }
+    ensures edges { SameEdges post.old post.new }
+    ensures done { OnOk result (DecidesAll router.old post.old router.new post.new) }
+{
+    while let Some(prefix) = router.rib.next_dirty() {
+        decide_one(router, prefix, post)?;
+    }
+    Ok(())
+}

@@ -1,0 +1,87 @@
+//! The rounds that pass while hold times run (RFC 4271, sections 4.4, 6.5 and 10).
+
+ghost use Rattle.std.specs.Prelude.{◌≡◌, ◌<◌, length, IfOk, OnOk};
+ghost use Rattle.ring_net.specs.Posts.{SameEdges};
+ghost use Rattle.router_core.specs.Parts.{Keeps};
+ghost use Rattle.router_core.specs.Sending.{AtPlace};
+ghost use Rattle.router_core.specs.Stages.{PassesRounds};
+ghost use Rattle.router_core.specs.Ticking.{followed as followed_lem, Ticked};
+ghost use Rattle.router_core.specs.Visits.{Visits, passing_rounds};
+
+use crate::fields::Fields;
+use crate::place::Place;
+use crate::takes::follow;
+use bgp_session::{Capsule, ReadStep, Session, TickStep};
+use graft_actors::note;
+use graft_edge::{NoMemory, PeeringId};
+use graft_steps::Item;
+use ring_net::Post;
+
+/// The kind of the event.
+const TICK: u16 = 31;
+
+/// Lets a round pass on a session, where it may.
+fn tick_session(session: &mut Session, round: u32) -> Result<Option<TickStep>, NoMemory>
+    ensures { IfOk result (λ step. Ticked round session.old step session.new) }
+{
+    if !session.may_pass(round) {
+        return Ok(None);
+    }
+    let _ = session.story();
+    Ok(Some(session.tick(round)?))
+}
+
+/// Lets a round pass on the session that is live at a place, where it may.
+fn tick(place: &mut Place, round: u32) -> Result<Option<TickStep>, NoMemory>
+    ensures { IfOk result (λ step. AtPlace (Ticked round) place.old step place.new) }
+{
+    match place {
+        Place::Live { session, .. } => tick_session(session, round),
+        Place::Vacant | Place::Shadow { .. } => Ok(None),
+    }
+}
+
+/// What the router follows of a round: the end of the session, or nothing.
+fn followed(step: TickStep) -> ReadStep
+    ensures { result ≡ followed_lem step }
+{
+    match step {
+        TickStep::Plain => ReadStep::Opened,
+        TickStep::Beat => ReadStep::Opened,
+        TickStep::Expired(prefixes) => ReadStep::Closed(prefixes),
+    }
+}
+
+/// Lets the round of this turn pass at a place, where it may, and follows it.
+fn pass_round_at(
+    router: &mut Fields,
+    n: usize,
+    post: &mut Post<Item<Capsule>>,
+) -> Result<(), NoMemory>
+    requires keeps { Keeps router.old }
+    requires place { n < length router.old.places.items }
+    ensures edges { SameEdges post.old post.new }
+    ensures visits { OnOk result (Visits (passing_rounds router.old.turns) n router.old post.old router.new post.new) }
+{
+    let round = router.turns;
+    let Some(step) = tick(&mut router.places[n], round)? else {
+        return Ok(());
+    };
+    note(post, TICK, n as u32, round, 0)?;
+    follow(router, PeeringId(n as u8), followed(step))
+}
+
+/// Lets the round of this turn pass on each session on which one may.
+pub(crate) fn pass_rounds(
+    router: &mut Fields,
+    post: &mut Post<Item<Capsule>>,
+) -> Result<(), NoMemory>
+    requires { Keeps router.old }
+    ensures edges { SameEdges post.old post.new }
+    ensures done { OnOk result (PassesRounds router.old post.old router.new post.new) }
+{
+    for n in 0..router.places.len() {
+        pass_round_at(router, n, post)?;
+    }
+    Ok(())
+}

@@ -1,0 +1,53 @@
+//! What a router takes.
+
+mod graft;
+mod heard;
+mod kinds;
+mod mesh;
+mod named;
+mod order;
+mod prefixes;
+mod reads;
+mod segment;
+
+ghost use Rattle.std.specs.Prelude.{OnOk};
+ghost use Rattle.ring_net.specs.Posts.{SameEdges};
+ghost use Rattle.router_core.specs.Parts.{Keeps};
+ghost use Rattle.router_core.specs.Takes.{TakesIt};
+
+use crate::fields::Fields;
+use bgp_session::Capsule;
+use graft_edge::NoMemory;
+use graft_steps::Item;
+pub(crate) use reads::follow;
+use ring_net::Post;
+
+/// Takes an item of the actor of this number.
+pub(crate) fn take(
+    router: &mut Fields,
+    from: usize,
+    item: Item<Capsule>,
+    post: &mut Post<Item<Capsule>>,
+) -> Result<(), NoMemory>
+    requires { Keeps router.old }
+    ensures edges { SameEdges post.old post.new }
+    ensures took { OnOk result (TakesIt from item router.old post.old router.new post.new) }
+{
+    match item {
+        Item::Seg(segment) => segment::take_segment(router, from, segment, post),
+        Item::Told { prefix, route } => mesh::hear(router, from, prefix, route, post),
+        Item::Moved { graft, capsule } => graft::take_moved(router, from, graft, capsule, post),
+        Item::Back {
+            graft,
+            capsule,
+            refusal,
+        } => graft::take_back(router, from, graft, capsule, refusal, post),
+        Item::Done { graft, peering } => graft::take_done(router, from, graft, peering, post),
+        Item::GraftOrder {
+            graft,
+            peering,
+            target,
+        } => order::admit(router, from, graft, peering, target, post),
+        other => order::drop_other(router, from, other, post),
+    }
+}

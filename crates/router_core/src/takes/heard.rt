@@ -1,0 +1,95 @@
+//! What sessions' routes are here.
+
+ghost use Rattle.std.specs.Prelude.{◌≡◌, option_copied, IfOk, OnOk};
+ghost use Rattle.route_policy.specs.Candidates.{SessionRoute, imported};
+ghost use Rattle.rib_stages.specs.Values.{rib_of};
+ghost use Rattle.rib_stages.specs.Steps.{SetsEntry};
+ghost use Rattle.router_core.specs.Entering.{entry_here, IsBrought, EntersAll};
+
+use crate::config::Policies;
+use crate::takes::named::policy_of;
+use bgp_session::Session;
+use bgp_types::{Attrs, From, NoMemory, Prefix, Route, TryCopy, holds_as};
+use rib_stages::{InEntry, Rib};
+use route_policy::Policy;
+
+/// The preference of a route for which no policy sets one.
+const PREFERENCE: u32 = 100;
+
+/// What an import policy makes of attributes that are heard. A route whose path has the home AS would be a loop, and is none (RFC 4271, sections 9.1.1 and 9.1.2).
+fn import(
+    home_as: u32,
+    policy: Option<&Policy>,
+    remote_as: u32,
+    prefix: Prefix,
+    heard: Option<&Attrs>,
+) -> Result<Option<Route>, NoMemory>
+    ensures { (session : SessionRoute) → session.import_rules ≡ option_copied policy.entry → session.remote_as ≡ remote_as
+        → IfOk result (λ route. route ≡ imported home_as prefix session (option_copied heard.entry)) }
+{
+    let Some(attrs) = heard else {
+        return Ok(None);
+    };
+    if holds_as(&attrs.path, home_as) {
+        return Ok(None);
+    }
+    let route = Route {
+        attrs: attrs.copy()?,
+        pref: PREFERENCE,
+    };
+    match policy {
+        Some(policy) => policy.apply(prefix, route, remote_as),
+        None => Ok(Some(route)),
+    }
+}
+
+/// What a session brings in for a prefix, by the policies that the router has.
+fn brought(
+    home_as: u32,
+    policies: &Policies,
+    session: &Session,
+    prefix: Prefix,
+) -> Result<InEntry, NoMemory>
+    ensures { IfOk result (λ entry. IsBrought home_as policies.now session.now.session prefix entry) }
+{
+    let config = session.config();
+    let policy = policy_of(policies, &config.import);
+    let heard = session.heard().get(prefix);
+    let route = import(home_as, policy, config.remote_as, prefix, heard)?;
+    Ok(InEntry {
+        prefix,
+        route,
+        identifier: session.remote_identifier().unwrap_or(0),
+        address: config.remote_address,
+    })
+}
+
+/// Gives a prefix the entry that a session brings in for it, or none.
+fn enter_one(
+    rib: &mut Rib,
+    home_as: u32,
+    policies: &Policies,
+    session: &Session,
+    prefix: Prefix,
+) -> Result<(), NoMemory>
+    ensures { OnOk result (SetsEntry (rib_of rib.old) session.now.session.config.peering.0 prefix (entry_here home_as policies.now session.now.session prefix) (rib_of rib.new)) }
+{
+    let entry = brought(home_as, policies, session, prefix)?;
+    rib.set_in(From::Peering(session.config().peering), entry)
+}
+
+/// Gives each of the prefixes the entry that a session brings in for it, or none.
+pub(crate) fn enter(
+    rib: &mut Rib,
+    home_as: u32,
+    policies: &Policies,
+    session: &Session,
+    prefixes: &[Prefix],
+) -> Result<(), NoMemory>
+    ensures { OnOk result (EntersAll (rib_of rib.old) session.now.session.config.peering.0 (entry_here home_as policies.now session.now.session) prefixes.now (rib_of rib.new)) }
+{
+    for prefix in prefixes {
+        enter_one(rib, home_as, policies, session, *prefix)?;
+    }
+    Ok(())
+}

@@ -1,0 +1,44 @@
+//! What another router tells.
+
+ghost use Rattle.std.specs.Prelude.{OnOk};
+ghost use Rattle.ring_net.specs.Posts.{SameEdges};
+ghost use Rattle.graft_steps.specs.declared.item.Item.TheVariants as items;
+ghost use Rattle.router_core.specs.Parts.{Keeps};
+ghost use Rattle.router_core.specs.Takes.{TakesIt};
+
+use crate::fields::Fields;
+use crate::takes::kinds::{DROPPED, HEAR};
+use bgp_session::Capsule;
+use bgp_types::{From, Prefix, Route, RouterId};
+use graft_actors::note;
+use graft_edge::NoMemory;
+use graft_steps::Item;
+use rib_stages::InEntry;
+use ring_net::Post;
+
+/// Hears what another router tells of a prefix. It drops what isn't a router's.
+pub(crate) fn hear(
+    router: &mut Fields,
+    from: usize,
+    prefix: Prefix,
+    route: Option<Route>,
+    post: &mut Post<Item<Capsule>>,
+) -> Result<(), NoMemory>
+    requires { Keeps router.old }
+    ensures edges { SameEdges post.old post.new }
+    ensures took { OnOk result (TakesIt from (items.Told prefix route) router.old post.old router.new post.new) }
+{
+    if from >= router.routers as usize {
+        return note(post, DROPPED, 0, 0, 0);
+    }
+    note(post, HEAR, from as u32, 0, 0)?;
+    let telling = InEntry {
+        prefix,
+        route,
+        identifier: 0,
+        address: 0,
+    };
+    router
+        .rib
+        .set_in(From::Router(RouterId(from as u8)), telling)
+}

@@ -1,0 +1,29 @@
+//! A router's policies, by the names that sessions give them.
+
+ghost use Rattle.std.specs.Prelude.{◌≡◌, option_copied, IfOk};
+ghost use Rattle.router_core.specs.Configs.{rules_at};
+ghost use Rattle.router_core.specs.Entering.{rules_by};
+
+use crate::config::{NamedPolicy, Policies};
+use graft_edge::Name;
+use route_policy::Policy;
+
+/// The first of these policies that has a name.
+pub(crate) fn find_named<'a>(policies: &'a [NamedPolicy], name: &Name) -> Option<&'a Policy>
+    ensures { option_copied result ≡ rules_at policies.now name.now }
+{
+    let named = policies
+        .iter()
+        .find(|policy| name.as_str() == policy.name.as_str())?;
+    Some(&named.policy)
+}
+
+/// The policy that the router has for a session's name. None where the session names none, or the router has none of the name.
+pub(crate) fn policy_of<'a>(policies: &'a Policies, name: &Option<Name>) -> Option<&'a Policy>
+    ensures { option_copied result ≡ rules_by policies.now name.now }
+{
+    match name {
+        Some(name) => find_named(policies.as_slice(), name),
+        None => None,
+    }
+}

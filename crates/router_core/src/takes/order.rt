@@ -1,0 +1,62 @@
+//! The orders that a router takes, and items that no router takes.
+
+ghost use Rattle.std.specs.Prelude.{OnOk};
+ghost use Rattle.ring_net.specs.Posts.{SameEdges};
+ghost use Rattle.graft_steps.specs.declared.item.Item.TheVariants as items;
+ghost use Rattle.router_core.specs.Parts.{Keeps};
+ghost use Rattle.router_core.specs.Takes.{IsOther, TakesIt};
+
+use crate::fields::Fields;
+use crate::takes::kinds::{ADMIT, DROPPED};
+use bgp_session::Capsule;
+use graft_actors::note;
+use graft_edge::{NoMemory, PeeringId, RouterId};
+use graft_steps::{Item, Ordered};
+use ring_net::Post;
+
+/// Stores the order of a graft with the live session that it is for. It drops one that isn't the operator's, whose session isn't live here or has an order already, or whose target isn't one of the routers.
+pub(crate) fn admit(
+    router: &mut Fields,
+    from: usize,
+    graft: u32,
+    peering: PeeringId,
+    target: RouterId,
+    post: &mut Post<Item<Capsule>>,
+) -> Result<(), NoMemory>
+    requires { Keeps router.old }
+    ensures edges { SameEdges post.old post.new }
+    ensures took { OnOk result (TakesIt from (items.GraftOrder graft peering target) router.old post.old router.new post.new) }
+{
+    if from != router.routers as usize + router.places.len() {
+        return note(post, DROPPED, 0, 0, 0);
+    }
+    if u32::from(target.0) >= router.routers {
+        return note(post, DROPPED, 0, 0, 0);
+    }
+    let place = usize::from(peering.0);
+    if place >= router.places.len() {
+        return note(post, DROPPED, 0, 0, 0);
+    }
+    if !router.places[place].is_free() {
+        return note(post, DROPPED, 0, 0, 0);
+    }
+    note(post, ADMIT, graft, 0, 0)?;
+    let ordered = Ordered::new(graft, peering, router.number, target);
+    router.places[place].store(ordered);
+    Ok(())
+}
+
+/// Drops an item that no router takes.
+pub(crate) fn drop_other(
+    router: &mut Fields,
+    from: usize,
+    item: Item<Capsule>,
+    post: &mut Post<Item<Capsule>>,
+) -> Result<(), NoMemory>
+    requires keeps { Keeps router.old }
+    requires other { IsOther item }
+    ensures edges { SameEdges post.old post.new }
+    ensures took { OnOk result (TakesIt from item router.old post.old router.new post.new) }
+{
+    note(post, DROPPED, 0, 0, 0)
+}

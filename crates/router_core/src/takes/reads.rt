@@ -1,0 +1,104 @@
+//! What sessions read, and how the router follows it.
+
+ghost use Rattle.std.specs.Prelude.{ℕ, ◌≡◌, ◌<◌, length, Option, IfOk, OnOk, MatchBool};
+ghost use Rattle.ring_net.specs.Posts.{SameEdges};
+ghost use Rattle.graft_steps.specs.declared.order.GraftIds.{GraftIds};
+ghost use Rattle.bgp_session.specs.Running.{RunningSession};
+ghost use Rattle.rib_stages.specs.Values.{rib_of};
+ghost use Rattle.router_core.specs.Entering.{entry_here, EntersAll};
+ghost use Rattle.router_core.specs.Places.{RunsAt};
+ghost use Rattle.router_core.specs.Reading.{FollowsStep, KeepsBut, ReadsAll, ReadsNone, ReadsOne};
+
+use crate::fields::Fields;
+use crate::place::Place;
+use crate::takes::heard::enter;
+use crate::takes::prefixes::all_best;
+use bgp_session::{Capsule, ReadStep};
+use bgp_types::{Prefix, Table};
+use graft_actors::note;
+use graft_edge::{NoMemory, PeeringId};
+use graft_steps::Item;
+use prefix_trie::TrieTable;
+use ring_net::Post;
+
+/// The kind of the event.
+const GOT: u16 = 5;
+
+/// Gives each of the prefixes the entry that the live session at a place brings in for it.
+fn enter_at(router: &mut Fields, place: usize, prefixes: &[Prefix]) -> Result<(), NoMemory>
+    requires { place < length router.old.places.items }
+    ensures same { OnOk result (router.new ≡ record router.old { rib = router.new.rib }) }
+    ensures entered { (s : RunningSession) (o : Option GraftIds) → RunsAt router.old.places.items place s o
+        → OnOk result (EntersAll (rib_of router.old.rib) s.session.config.peering.0 (entry_here router.old.home_as router.old.policies s.session) prefixes.now (rib_of router.new.rib)) }
+{
+    match &router.places[place] {
+        Place::Live { session, .. } => enter(
+            &mut router.rib,
+            router.home_as,
+            &router.policies,
+            session,
+            prefixes,
+        ),
+        Place::Vacant | Place::Shadow { .. } => Ok(()),
+    }
+}
+
+/// Follows what the live session of a peering read: its entries are what it brings in now, and all best routes are due on it once it is established, nothing once
+/// it is closed.
+pub(crate) fn follow(
+    router: &mut Fields,
+    peering: PeeringId,
+    step: ReadStep,
+) -> Result<(), NoMemory>
+    requires places { peering.0 < length router.old.places.items }
+    requires sets { peering.0 < length router.old.due_out }
+    ensures { (s : RunningSession) (o : Option GraftIds) → RunsAt router.old.places.items peering.0 s o → s.session.config.peering.0 ≡ peering.0
+        → OnOk result (FollowsStep router.old peering.0 s step router.new) }
+{
+    let place = usize::from(peering.0);
+    match step {
+        ReadStep::Opened => Ok(()),
+        ReadStep::Established => {
+            let due = all_best(router.alloc, &router.rib)?;
+            router.due_out.put(place, due);
+            Ok(())
+        }
+        ReadStep::Changed(prefixes) => enter_at(router, place, prefixes.as_slice()),
+        ReadStep::Closed(prefixes) => {
+            router.due_out.put(place, TrieTable::new(router.alloc));
+            enter_at(router, place, prefixes.as_slice())
+        }
+    }
+}
+
+/// Lets the live session of a peering read one message, and follows it. It answers whether there was one.
+fn read_one(
+    router: &mut Fields,
+    peering: PeeringId,
+    post: &mut Post<Item<Capsule>>,
+) -> Result<bool, NoMemory>
+    requires { KeepsBut peering.0 router.old }
+    ensures edges { SameEdges post.old post.new }
+    ensures read { IfOk result (λ more. MatchBool more (ReadsOne peering.0 router.old post.old router.new post.new) (ReadsNone peering.0 router.old post.old router.new post.new)) }
+{
+    let Some(step) = router.places[usize::from(peering.0)].read()? else {
+        return Ok(false);
+    };
+    note(post, GOT, u32::from(peering.0), 0, 0)?;
+    follow(router, peering, step)?;
+    Ok(true)
+}
+
+/// Lets the live session of a peering read all that it can.
+pub(crate) fn read_all(
+    router: &mut Fields,
+    peering: PeeringId,
+    post: &mut Post<Item<Capsule>>,
+) -> Result<(), NoMemory>
+    requires { KeepsBut peering.0 router.old }
+    ensures edges { SameEdges post.old post.new }
+    ensures read { OnOk result (ReadsAll peering.0 router.old post.old router.new post.new) }
+{
+    'messages: while read_one(router, peering, post)? {}
+    Ok(())
+}

@@ -1,0 +1,66 @@
+//! The segments that a router takes.
+
+ghost use Rattle.std.specs.Prelude.{◌<◌, length, MatchBool, OnOk};
+ghost use Rattle.ring_net.specs.Posts.{SameEdges};
+ghost use Rattle.graft_steps.specs.declared.item.Item.TheVariants as items;
+ghost use Rattle.tcp_seq.specs.declared.segment.Way.TheVariants as ways;
+ghost use Rattle.graft_actors.specs.Items.{IsSegmentOf};
+ghost use Rattle.router_core.specs.Parts.{Keeps};
+ghost use Rattle.router_core.specs.Takes.{TakesIt};
+
+use crate::fields::Fields;
+use crate::takes::kinds::{ARRIVE, DROPPED, STRAY};
+use crate::takes::reads::read_all;
+use bgp_session::Capsule;
+use graft_actors::note;
+use graft_edge::{NoMemory, PeeringId};
+use graft_steps::Item;
+use ring_net::Post;
+use tcp_seq::{Segment, Way};
+
+/// How many bytes a segment has at most.
+const MOST_BYTES: usize = 65_535;
+
+/// Whether a segment is of this peering and goes home, with numbers of places in streams.
+fn is_of(router: &Fields, peering: PeeringId, segment: &Segment) -> bool
+    requires keeps { Keeps router.now }
+    requires there { peering.0 < length router.now.places.items }
+    ensures { MatchBool result (IsSegmentOf router.now.known.setup peering.0 ways.Home segment.now) (¬ IsSegmentOf router.now.known.setup peering.0 ways.Home segment.now) }
+{
+    let Some(firsts) = router.firsts.get(usize::from(peering.0)) else {
+        return false;
+    };
+    segment.peering == peering
+        && segment.way == Way::Home
+        && segment.bytes.len() <= MOST_BYTES
+        && segment.is_in_streams(firsts.remote, firsts.home)
+}
+
+/// Takes a segment of a far side: it arrives at the live session of its peering, which then reads all that it can, or it finds none and strays. It drops one that isn't of its sender's peering, and one that goes to the remote, is too long, or has the numbers of no place.
+pub(crate) fn take_segment(
+    router: &mut Fields,
+    from: usize,
+    segment: Segment,
+    post: &mut Post<Item<Capsule>>,
+) -> Result<(), NoMemory>
+    requires { Keeps router.old }
+    ensures edges { SameEdges post.old post.new }
+    ensures took { OnOk result (TakesIt from (items.Seg segment) router.old post.old router.new post.new) }
+{
+    let routers = router.routers as usize;
+    if from < routers {
+        return note(post, DROPPED, 0, 0, 0);
+    }
+    if from - routers >= router.places.len() {
+        return note(post, DROPPED, 0, 0, 0);
+    }
+    let peering = PeeringId((from - routers) as u8);
+    if !is_of(router, peering, &segment) {
+        return note(post, DROPPED, 0, 0, 0);
+    }
+    if !router.places[usize::from(peering.0)].arrive(&segment)? {
+        return note(post, STRAY, u32::from(peering.0), 0, 0);
+    }
+    note(post, ARRIVE, u32::from(peering.0), 0, 0)?;
+    read_all(router, peering, post)
+}
