@@ -27,3 +27,8 @@ pub mod SegmentSteps
 pub mod RestSteps
 pub mod BeginSteps
 pub mod RoundSteps
+pub mod PutRows
+pub mod PutPlaces
+pub mod PutPlans
+pub mod OneNext
+pub mod StuckPlaces

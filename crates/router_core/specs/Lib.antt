@@ -19,3 +19,4 @@ pub mod FieldProps
 pub mod Routers
 pub mod Beginning
 pub mod Ticking
+pub mod Putting
