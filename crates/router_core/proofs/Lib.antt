@@ -30,3 +30,8 @@ pub mod SegmentSteps
 pub mod ReturnSteps
 pub mod LandSteps
 pub mod MoveSteps
+pub mod PutRows
+pub mod PutPlaces
+pub mod PutPlans
+pub mod OneNext
+pub mod StuckPlaces

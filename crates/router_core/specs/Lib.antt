@@ -19,3 +19,4 @@ pub mod Ticking
 pub mod Turned
 pub mod FieldProps
 pub mod Routers
+pub mod Putting

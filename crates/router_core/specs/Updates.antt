@@ -50,3 +50,8 @@ pub record IsStuckAt (setup : Setup) (r : ℕ) (part : RouterPart) (p n : ℕ) :
 abbrev pub IsFirstStuck : Setup → ℕ → RouterPart → Option (ℕ × ℕ) → Type 0
 IsFirstStuck setup r part None = (p n : ℕ) → ¬ IsStuckAt setup r part p n
 IsFirstStuck setup r part (Some x) = IsStuckAt setup r part x.0 x.1 × ((p n : ℕ) → p < x.0 → ¬ IsStuckAt setup r part p n)
+
+-- the length at which the live session of a peering is stuck, or it isn't
+abbrev pub StuckAnswer : Setup → ℕ → RouterPart → ℕ → Option ℕ → Type 0
+StuckAnswer setup r part p None = (n : ℕ) → ¬ IsStuckAt setup r part p n
+StuckAnswer setup r part p (Some n) = IsStuckAt setup r part p n

@@ -4,7 +4,7 @@ mod graft;
 mod heard;
 mod kinds;
 mod mesh;
-mod named;
+pub(crate) mod named;
 mod order;
 mod prefixes;
 mod reads;

@@ -1,26 +1,218 @@
 //! What sessions are told (RFC 4271, section 9.2).
 
-ghost use Rattle.std.specs.Prelude.{◌≡◌, IfOk, OnOk, option_map};
+ghost use Rattle.std.specs.Prelude.{◌≡◌, ◌<◌, ◌^◌, ◌-◌, [], length, min, reverse, All, fold, IfOk, OnOk, option_map};
 ghost use Rattle.std.specs.FinMap as map;
+ghost use Rattle.bgp_types.specs.Prefixes.{IsPrefix};
 ghost use Rattle.ring_net.specs.Posts.{SameEdges};
+ghost use Rattle.session_value.specs.Points.{at};
+ghost use Rattle.rib_stages.specs.Values.{table_at};
+ghost use Rattle.tell_plan.specs.Gathering.{AreSound};
+ghost use Rattle.tell_plan.specs.Plans.{IsWritableFor, octets};
 ghost use Rattle.router_core.specs.Parts.{Keeps, router_part};
-ghost use Rattle.router_core.specs.Updates.{IsFirstStuck};
+ghost use Rattle.router_core.specs.Places.{place_at};
+ghost use Rattle.router_core.specs.declared.place.Place.TheVariants.{Live};
+ghost use Rattle.router_core.specs.Putting.{NextAt, OfferedAt, OffersAt, PlannedAt, PutOrDone, PutsAt, PutsSomeAt};
+ghost use Rattle.router_core.specs.Updates.{IsFirstStuck, StuckAnswer, length_with};
 ghost use Rattle.router_core.specs.Stages.{PutsAll};
 
+use crate::due::DueSets;
 use crate::fields::Fields;
-use bgp_session::Capsule;
+use crate::place::Place;
+use crate::takes::named::policy_of;
+use bgp_session::{Capsule, OfferStop};
+use bgp_types::{Message, Prefix, SessionState, TryCopy, Update, message_len};
+use graft_actors::note;
 use graft_edge::{NoMemory, PeeringId};
 use graft_steps::Item;
+use prefix_trie::TrieTable;
+use rib_stages::OutView;
 use ring_net::Post;
+use std::alloc::Global;
+use tell_plan::{Batch, plan};
 
-/// Puts on each established session what is due on it, in UPDATEs that each tell as many prefixes as a message holds.
+/// The kind of the event.
+const PUT: u16 = 1;
+
+/// How many bytes an established session puts at most, so that a NOTIFICATION has room behind them.
+const MOST_PUT: usize = 1_044_480;
+
+/// Offers an UPDATE to the session that is live at a place, and answers whether its stream had room.
+fn offer(place: &mut Place, update: Update) -> Result<bool, NoMemory>
+    requires { OffersAt place.old update }
+    ensures { IfOk result (λ put. OfferedAt put update place.old place.new) }
+{
+    match place {
+        Place::Live { session, .. } => match session.offer(update) {
+            Ok(()) => Ok(true),
+            Err(OfferStop::StreamFull { .. }) => Ok(false),
+            Err(OfferStop::NoMemory) => Err(NoMemory),
+        },
+        Place::Vacant | Place::Shadow { .. } => Ok(false),
+    }
+}
+
+/// Prefixes are due no more.
+fn settle(due: &mut DueSets, n: usize, prefixes: &[Prefix])
+    requires { n < length due.old }
+    ensures length { length due.new ≡ length due.old }
+    ensures settled { table_at due.new ≡ at (table_at due.old) n (fold map.remove (table_at due.old n) prefixes.now) }
+{
+    for prefix in prefixes {
+        due.remove(n, *prefix);
+    }
+}
+
+/// What is to be put on the session at a place, the last UPDATE first.
+fn planned(router: &Fields, n: usize) -> Result<Vec<Batch>, NoMemory>
+    requires keeps { Keeps router.now }
+    requires place { n < length router.now.places.items }
+    ensures planned { IfOk result (λ batches. PlannedAt router.now.known.setup router.now.number.0 (router_part router.now) n (place_at router.now.places.items n) (reverse batches.items)) }
+    ensures sound { IfOk result (λ batches. AreSound batches.items) }
+{
+    let Place::Live { session, .. } = &router.places[n] else {
+        return Ok(Vec::new(router.alloc));
+    };
+    if session.state() != SessionState::Established {
+        return Ok(Vec::new(router.alloc));
+    }
+    let config = session.config();
+    let view = OutView {
+        peering: config.peering,
+        local_address: config.local_address,
+        export: policy_of(&router.policies, &config.export),
+    };
+    let due = router.due_out.set(n);
+    let batches = plan(
+        router.alloc,
+        &router.rib,
+        due,
+        session.told(),
+        &view,
+        session.wide(),
+    )?;
+    let mut batches = batches.into_vec();
+    batches.reverse();
+    Ok(batches)
+}
+
+/// Puts an UPDATE on the session at a place, and answers whether its stream had room.
+fn put_one(
+    router: &mut Fields,
+    n: usize,
+    batch: Batch,
+    post: &mut Post<Item<Capsule>>,
+) -> Result<bool, NoMemory>
+    requires keeps { Keeps router.old }
+    requires place { n < length router.old.places.items }
+    requires next { NextAt router.old.known.setup router.old.number.0 (router_part router.old) n (place_at router.old.places.items n) batch }
+    requires sound { All IsPrefix batch.prefixes }
+    requires writable { IsWritableFor batch }
+    ensures edges { SameEdges post.old post.new }
+    ensures some { OnOk result (PutsSomeAt n router.old post.old router.new post.new) }
+    ensures put { IfOk result (λ put. PutOrDone put n batch router.old router.new) }
+{
+    let prefixes = batch.prefixes.copy()?;
+    let update = batch.into_update(router.alloc);
+    if !offer(&mut router.places[n], update)? {
+        return Ok(false);
+    }
+    settle(&mut router.due_out, n, &prefixes);
+    note(post, PUT, n as u32, prefixes.len() as u32, 0)?;
+    Ok(true)
+}
+
+/// Where everything that is due on the session at a place was told as it is to be, it is due no more.
+fn put_nothing(
+    router: &mut Fields,
+    n: usize,
+    post: &mut Post<Item<Capsule>>,
+) -> Result<(), NoMemory>
+    requires keeps { Keeps router.old }
+    requires place { n < length router.old.places.items }
+    requires clean { router.old.rib.dirty ≡ map.empty }
+    requires planned { PlannedAt router.old.known.setup router.old.number.0 (router_part router.old) n (place_at router.old.places.items n) [] }
+    ensures edges { SameEdges post.old post.new }
+    ensures puts { OnOk result (PutsAt n router.old post.old router.new post.new) }
+{
+    if router.due_out.next_after(n, None).is_none() {
+        return Ok(());
+    }
+    router.due_out.put(n, TrieTable::new(router.alloc));
+    note(post, PUT, n as u32, 0, 0)
+}
+
+/// Puts on the session at a place what is due there.
+fn put_at(router: &mut Fields, n: usize, post: &mut Post<Item<Capsule>>) -> Result<(), NoMemory>
+    requires keeps { Keeps router.old }
+    requires place { n < length router.old.places.items }
+    requires clean { router.old.rib.dirty ≡ map.empty }
+    ensures edges { SameEdges post.old post.new }
+    ensures puts { OnOk result (PutsAt n router.old post.old router.new post.new) }
+{
+    let mut batches = planned(router, n)?;
+    while let Some(batch) = batches.pop() {
+        if !batch.is_writable() || !put_one(router, n, batch, post)? {
+            return Ok(());
+        }
+    }
+    put_nothing(router, n, post)
+}
+
+/// Puts on each established session what is due on it, in UPDATEs that each tell as many prefixes as a message holds. Nothing is to be
+/// decided.
 pub(crate) fn put_all(router: &mut Fields, post: &mut Post<Item<Capsule>>) -> Result<(), NoMemory>
     requires keeps { Keeps router.old }
     requires clean { router.old.rib.dirty ≡ map.empty }
     ensures edges { SameEdges post.old post.new }
     ensures done { OnOk result (PutsAll router.old post.old router.new post.new) }
 {
-    Err(NoMemory)
+    for n in 0..router.places.len() {
+        put_at(router, n, post)?;
+    }
+    Ok(())
+}
+
+/// How many octets the UPDATE of a batch has.
+fn update_len(alloc: Global, batch: Batch, wide: bool) -> usize
+    ensures { result ≡ min (octets wide batch.attrs batch.prefixes) (2 ^ 64 - 1) }
+{
+    let message = Message::UpdateMsg(batch.into_update(alloc));
+    message_len(&message, wide)
+}
+
+/// How long what was put on the session at a place would be with the UPDATE of a batch.
+fn len_with(router: &Fields, n: usize, batch: Batch) -> usize
+    requires place { n < length router.now.places.items }
+    requires next { NextAt router.now.known.setup router.now.number.0 (router_part router.now) n (place_at router.now.places.items n) batch }
+    ensures { (s : _) (o : _) → place_at router.now.places.items n ≡ Live s o → result ≡ length_with s.session batch }
+{
+    match &router.places[n] {
+        Place::Live { session, .. } => {
+            session.put_len() as usize + update_len(router.alloc, batch, session.wide())
+        }
+        Place::Vacant | Place::Shadow { .. } => 0,
+    }
+}
+
+/// The length at which the session at a place is stuck, if it is.
+fn stuck_at(router: &Fields, n: usize) -> Result<Option<usize>, NoMemory>
+    requires keeps { Keeps router.now }
+    requires place { n < length router.now.places.items }
+    ensures { IfOk result (λ answer. StuckAnswer router.now.known.setup router.now.number.0 (router_part router.now) n answer) }
+{
+    let mut batches = planned(router, n)?;
+    let Some(batch) = batches.pop() else {
+        return Ok(None);
+    };
+    if !batch.is_writable() {
+        return Ok(None);
+    }
+    let length = len_with(router, n, batch);
+    if length > MOST_PUT {
+        Ok(Some(length))
+    } else {
+        Ok(None)
+    }
 }
 
 /// The lowest peering whose live session has an UPDATE to put that would take what it put above 1,044,480 bytes, and that length.
@@ -28,5 +220,11 @@ pub(crate) fn stuck(router: &Fields) -> Result<Option<(PeeringId, usize)>, NoMem
     requires { Keeps router.now }
     ensures { IfOk result (λ answer. IsFirstStuck router.now.known.setup router.now.number.0 (router_part router.now) (option_map (λ x. (x.0.0, x.1)) answer)) }
 {
-    Err(NoMemory)
+    for n in 0..router.places.len() {
+        match stuck_at(router, n)? {
+            Some(length) => return Ok(Some((PeeringId(n as u8), length))),
+            None => {}
+        }
+    }
+    Ok(None)
 }

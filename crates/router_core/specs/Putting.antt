@@ -1,0 +1,112 @@
+-- What is put on the session at a place.
+use Rattle.std.specs.Prelude.{ℕ, ◌≡◌, ◌≢◌, ◌<◌, ◌≤◌, List, [], ◌∷◌, length, Option, Some, None, Bool, true, false, MatchBool, fold}
+use Rattle.std.specs.FinMap as map
+use Rattle.ring_net.specs.declared.post.Post.{Post}
+use Rattle.bgp_types.specs.declared.message.SessionState.TheVariants.{Established}
+use Rattle.bgp_types.specs.declared.message.Update.{Update}
+use Rattle.bgp_story.specs.Legal.{IsOneWay, is_wide}
+use Rattle.graft_steps.specs.declared.item.Item.{Item}
+use Rattle.session_value.specs.Cases.{Changes, PutsUpdate, update_for}
+use Rattle.session_value.specs.Points.{at}
+use Rattle.session_value.specs.Sessions.{SessionValue, state, peering_of}
+use Rattle.bgp_session.specs.Running.{RunningSession}
+use Rattle.bgp_session.specs.Steps.{offered_length}
+use Rattle.rib_stages.specs.Values.{table_at}
+use Rattle.tell_plan.specs.Plans.{IsPlan, IsWritableFor}
+use Rattle.tell_plan.specs.declared.batch.Batch.{Batch}
+use Rattle.graft_model.specs.Setups.{Setup}
+use Rattle.graft_model.specs.Parts.{RouterPart}
+use Rattle.graft_model.specs.RouterRows.{IsToTell}
+use Rattle.graft_model.specs.Decisions.{to_tell}
+use Rattle.graft_model.specs.Steps.{RouterEvent, Put}
+use Rattle.graft_actors.specs.Emissions.{Tally}
+use Rattle.router_core.specs.Parts.{router_part, Keeps}
+use Rattle.router_core.specs.Places.{place_at}
+use Rattle.router_core.specs.Rested.{IsDone}
+use Rattle.router_core.specs.Rounds.{Did}
+use Rattle.router_core.specs.Stages.{NoRounds, PlaceGoes, PutsMore}
+use Rattle.router_core.specs.Updates.{IsNextUpdate}
+use Rattle.router_core.specs.Visits.{SameButLeaving}
+use Rattle.router_core.specs.declared.fields.Fields.{Fields}
+use Rattle.router_core.specs.declared.place.Place.{Place}
+use Rattle.router_core.specs.declared.place.Place.TheVariants.{Vacant, Live, Shadow}
+
+-- ---- the offer
+
+-- the UPDATE may be offered
+pub record CanOffer (session : SessionValue) (update : Update) : Type 0 where
+  pub established : state session ≡ Established
+  pub one_way : IsOneWay update (is_wide (peering_of session.config) session.story)
+  pub changes : Changes session.told update
+
+abbrev pub OffersAt : Place → Update → Type 0
+OffersAt Vacant update = ⊥
+OffersAt (Live s order) update = CanOffer s.session update
+OffersAt (Shadow away) update = ⊥
+
+pub record WasPut (s : RunningSession) (update : Update) (u : RunningSession) : Type 0 where
+  pub puts : PutsUpdate s.session update u.session
+  pub same_turn : u.acked_at_turn ≡ s.acked_at_turn
+
+-- the stream has no room for it
+pub record HadNoRoom (s : RunningSession) (update : Update) (u : RunningSession) : Type 0 where
+  pub full : 1044480 < offered_length s.session update
+  pub same : u ≡ s
+
+abbrev pub OfferedAt : Bool → Update → Place → Place → Type 0
+OfferedAt put update Vacant new = ⊥
+OfferedAt put update (Live s order) new = (u : RunningSession) × (new ≡ Live u order) × MatchBool put (WasPut s update u) (HadNoRoom s update u)
+OfferedAt put update (Shadow away) new = ⊥
+
+-- ---- the plan
+
+-- these UPDATEs are to be put, one after another
+abbrev pub PlannedAt : Setup → ℕ → RouterPart → ℕ → Place → List Batch → Type 0
+PlannedAt setup r part p Vacant batches = batches ≡ []
+PlannedAt setup r part p (Live s order) batches =
+    IsPlan (IsToTell setup r part p s.session) (to_tell setup r part s.session) (is_wide (peering_of s.session.config) s.session.story) batches
+PlannedAt setup r part p (Shadow away) batches = batches ≡ []
+
+-- the next UPDATE of the session that is live there
+abbrev pub NextAt : Setup → ℕ → RouterPart → ℕ → Place → Batch → Type 0
+NextAt setup r part p Vacant batch = ⊥
+NextAt setup r part p (Live s order) batch = (state s.session ≡ Established) × IsNextUpdate setup r part p s.session batch
+NextAt setup r part p (Shadow away) batch = ⊥
+
+-- ---- at one place
+
+-- Something was put there.
+pub record PutsSomeAt (n : ℕ) (old : Fields) (before : Post (Item RunningSession)) (new : Fields) (after : Post (Item RunningSession)) : Type 0 where
+  pub events : List RouterEvent
+  pub did : (t : ℕ → Tally) → Did old before t events new after t
+  pub no_rounds : NoRounds events
+  pub goes : PlaceGoes PutsMore (place_at old.places.items n) (place_at new.places.items n)
+  pub others : (q : ℕ) → q ≢ n → (place_at new.places.items q ≡ place_at old.places.items q) × (table_at new.due_out q ≡ table_at old.due_out q)
+  pub same : SameButLeaving old new
+  pub keeps : Keeps new
+
+-- All that may be put was put there.
+pub record PutsAt (n : ℕ) (old : Fields) (before : Post (Item RunningSession)) (new : Fields) (after : Post (Item RunningSession)) : Type 0 where
+  pub some : PutsSomeAt n old before new after
+  pub done : IsDone old.known.setup old.number.0 (router_part new) n ((router_part new).places n)
+
+-- An UPDATE was put: what is left of a plan that begins with it is the plan of what stands then.
+pub record LeavesPlan (n : ℕ) (batch : Batch) (old new : Fields) : Type 0 where
+  pub rest : (batches : List Batch) → PlannedAt old.known.setup old.number.0 (router_part old) n (place_at old.places.items n) (batch ∷ batches)
+      → PlannedAt new.known.setup new.number.0 (router_part new) n (place_at new.places.items n) batches
+
+abbrev pub PutOrDone : Bool → ℕ → Batch → Fields → Fields → Type 0
+PutOrDone true n batch old new = LeavesPlan n batch old new
+PutOrDone false n batch old new = IsDone old.known.setup old.number.0 (router_part new) n ((router_part new).places n)
+
+-- ---- at the first so many
+
+pub record PutsFirst (n : ℕ) (old : Fields) (before : Post (Item RunningSession)) (new : Fields) (after : Post (Item RunningSession)) : Type 0 where
+  pub events : List RouterEvent
+  pub did : (t : ℕ → Tally) → Did old before t events new after t
+  pub no_rounds : NoRounds events
+  pub goes : (p : ℕ) → p < n → PlaceGoes PutsMore (place_at old.places.items p) (place_at new.places.items p)
+  pub done : (p : ℕ) → p < n → IsDone old.known.setup old.number.0 (router_part new) p ((router_part new).places p)
+  pub left : (p : ℕ) → n ≤ p → place_at new.places.items p ≡ place_at old.places.items p
+  pub same : SameButLeaving old new
+  pub keeps : Keeps new
