@@ -1,0 +1,204 @@
+//! An actor that is tried, alone.
+
+use crate::laboratory::{far_side, operator};
+use crate::plans::plans_that_come_through;
+use crate::words::{fault_of, item_of, number, word};
+use anyhow::{Result, bail};
+use far_side::Far;
+use graft_edge::NoMemory;
+use graft_model::kind_of;
+use graft_steps::{GraftLog, Item};
+use operator_core::Operator;
+use ring_net::{JournalEntry, Post};
+use settled_check::{far_rest, operator_rest};
+use std::alloc::Global;
+
+/// The two actors.
+#[derive(Drop)]
+enum Actor {
+    FarSide(Far),
+    TheOperator(Operator),
+}
+
+/// An actor, its post, and how many of its entries were looked at.
+#[derive(Drop)]
+pub struct Bench {
+    actor: Actor,
+    post: Post<Item<u8>>,
+    seen: usize,
+}
+
+/// An event by its kind and its three arguments.
+fn put_entry(text: &mut String, entry: &JournalEntry) -> Result<()> {
+    match kind_of(entry.kind) {
+        Some(kind) => write!(text, "{kind:?} {} {} {}", entry.a, entry.b, entry.c)?,
+        None => text.push_str("dropped")?,
+    }
+    Ok(())
+}
+
+/// Each graft of a log.
+fn log_text(alloc: Global, log: &GraftLog) -> Result<String> {
+    let mut text = String::new(alloc);
+    for entry in log {
+        if !text.is_empty() {
+            text.push_str(", ")?;
+        }
+        write!(text, "{} {:?} {:?}", entry.graft, entry.source, entry.stage)?;
+    }
+    Ok(text)
+}
+
+/// The far side with the fault that a row has, if it has one.
+fn far_of(alloc: Global, words: &[&str]) -> Result<Far> {
+    if words.len() == 1 {
+        return Ok(far_side(alloc, &[])?);
+    }
+    let fault = fault_of(words)?;
+    Ok(far_side(alloc, &[fault])?)
+}
+
+/// In how many plans of faults both streams come through.
+fn through(alloc: Global, words: &[&str]) -> Result<String> {
+    let plans = number(words, 1)?;
+    let through = plans_that_come_through(alloc, plans)?;
+    Ok(format!(in alloc; "{through}")?)
+}
+
+impl Bench {
+    fn new(alloc: Global, actor: Actor) -> Result<Bench, NoMemory> {
+        Ok(Bench {
+            actor,
+            post: Post::begin(alloc, 0, 0, &[0, 1, 2, 3, 4, 5])?,
+            seen: 0,
+        })
+    }
+
+    pub fn of_operator(alloc: Global) -> Result<Bench, NoMemory> {
+        Bench::new(alloc, Actor::TheOperator(operator(alloc)?))
+    }
+
+    fn take(&mut self, from: usize, item: Item<u8>) -> Result<(), NoMemory> {
+        match &mut self.actor {
+            Actor::FarSide(far) => far.take(from, item, &mut self.post),
+            Actor::TheOperator(operator) => operator.take(from, item, &mut self.post),
+        }
+    }
+
+    fn turn(&mut self) -> Result<(), NoMemory> {
+        match &mut self.actor {
+            Actor::FarSide(far) => far.turn(&mut self.post),
+            Actor::TheOperator(operator) => operator.turn(&mut self.post),
+        }
+    }
+
+    fn between(&mut self) -> Result<bool, NoMemory> {
+        match &mut self.actor {
+            Actor::FarSide(far) => far.between(&mut self.post),
+            Actor::TheOperator(operator) => operator.between(&mut self.post),
+        }
+    }
+
+    /// The events since the last look, each by its kind and its three arguments.
+    fn news(&mut self, alloc: Global) -> Result<String> {
+        let mut news = String::new(alloc);
+        for entry in self.post.entries().iter().skip(self.seen) {
+            if !news.is_empty() {
+                news.push_str(", ")?;
+            }
+            put_entry(&mut news, entry)?;
+        }
+        if news.is_empty() {
+            news.push_str("nothing")?;
+        }
+        self.seen = self.post.entries().len();
+        Ok(news)
+    }
+
+    /// What is done at a mark, and its events.
+    fn pause(&mut self, alloc: Global) -> Result<String> {
+        let made = self.between()?;
+        let news = self.news(alloc)?;
+        Ok(format!(in alloc; "{made}, {news}")?)
+    }
+
+    /// The first thing that it still has to do.
+    fn rest(&self, alloc: Global) -> Result<String> {
+        let first = match &self.actor {
+            Actor::FarSide(far) => far_rest(&far.rest()),
+            Actor::TheOperator(operator) => operator_rest(&operator.rest()),
+        };
+        Ok(format!(in alloc; "{first:?}")?)
+    }
+
+    /// The operator's log: of each graft its number, where it was ordered, and how far it is.
+    fn log(&self, alloc: Global) -> Result<String> {
+        match &self.actor {
+            Actor::FarSide(_) => bail!("the operator's"),
+            Actor::TheOperator(operator) => log_text(alloc, operator.log()),
+        }
+    }
+
+    /// Of a far side: how much its remote said and received, and where its link points.
+    fn state(&self, alloc: Global) -> Result<String> {
+        match &self.actor {
+            Actor::FarSide(far) => {
+                let (said, received) = (far.said().len(), far.received().len());
+                Ok(format!(in alloc; "said {said}, received {received}, at {}", far.pointer().0)?)
+            }
+            Actor::TheOperator(_) => bail!("a far side's"),
+        }
+    }
+
+    /// The next item that it sent to an actor.
+    fn sent(&mut self, alloc: Global, words: &[&str]) -> Result<String> {
+        let to = number(words, 1)?;
+        match self.post.take_sent(to as usize) {
+            Some((_stamp, item)) => Ok(format!(in alloc; "{item:?}")?),
+            None => Ok(format!(in alloc; "nothing")?),
+        }
+    }
+
+    /// Begins anew: the operator, or the far side with the fault that the row has, if it has one.
+    fn begin(&mut self, alloc: Global, words: &[&str]) -> Result<()> {
+        let actor = if word(words, 0) == "operator" {
+            Actor::TheOperator(operator(alloc)?)
+        } else {
+            Actor::FarSide(far_of(alloc, words)?)
+        };
+        *self = Bench::new(alloc, actor)?;
+        Ok(())
+    }
+
+    /// Takes the item of a row.
+    fn take_item(&mut self, alloc: Global, words: &[&str]) -> Result<()> {
+        let from = number(words, 1)?;
+        let item = item_of(alloc, words)?;
+        self.take(from as usize, item)?;
+        Ok(())
+    }
+
+    /// What a row that looks at the actor gives.
+    fn look(&mut self, alloc: Global, words: &[&str]) -> Result<String> {
+        match word(words, 0) {
+            "rest" => self.rest(alloc),
+            "log" => self.log(alloc),
+            "state" => self.state(alloc),
+            "sent" => self.sent(alloc, words),
+            "plans" => through(alloc, words),
+            _ => bail!("a call"),
+        }
+    }
+
+    /// What a row gives.
+    pub fn answer(&mut self, alloc: Global, words: &[&str]) -> Result<String> {
+        match word(words, 0) {
+            "operator" | "far" => self.begin(alloc, words)?,
+            "take" => self.take_item(alloc, words)?,
+            "turn" => self.turn()?,
+            "between" => return self.pause(alloc),
+            _ => return self.look(alloc, words),
+        }
+        self.news(alloc)
+    }
+}
