@@ -1,0 +1,42 @@
+-- How long each group of an input may run.
+use Rattle.std.specs.Prelude.{ℕ, ◌+◌, ◌-◌, ◌*◌, ◌≤◌, Bool, true, false, List, [], ◌∷◌, ◌++◌, length, slice_get, unwrap_or, if◌then◌else◌}
+use Rattle.std.specs.List.{flat_map}
+use Rattle.std.specs.Option.{option_map_or}
+use Rattle.lab_tables.specs.declared.input.LabInput.{LabInput}
+use Rattle.lab_tables.specs.declared.input.Step.{Step}
+use Rattle.lab_tables.specs.declared.input.Step.TheVariants.{Settle, Evacuate}
+use Rattle.lab_budgets.specs.declared.budget.Budget.{Budget}
+
+-- how many rounds a settle may make that names no number: 2,048, and 8 for each planned fault
+abbrev pub usual_rounds : LabInput → ℕ
+usual_rounds input = 2048 + 8 * length input.faults
+
+abbrev pub budget_of : ℕ → Step → List Budget
+budget_of usual (Settle rounds least) = record { rounds = unwrap_or rounds usual; least = least } ∷ []
+budget_of usual step = []
+
+abbrev pub is_settle : Step → Bool
+is_settle (Settle rounds least) = true
+is_settle step = false
+
+-- whether the last step of a script ends a group
+abbrev pub ends_itself : List Step → Bool
+ends_itself steps = option_map_or is_settle (slice_get steps (length steps - 1)) false
+
+-- where the last step is no settle, one is added
+abbrev pub added_budget : ℕ → Bool → List Budget
+added_budget usual ended = if ended then [] else record { rounds = usual; least = 0 } ∷ []
+
+-- the budget of each settle, an added one included
+abbrev pub budgets_in : LabInput → List Budget
+budgets_in input = flat_map (budget_of (usual_rounds input)) input.steps ++ added_budget (usual_rounds input) (ends_itself input.steps)
+
+-- a step that doesn't evacuate a router
+abbrev pub moves_one : Step → Bool
+moves_one (Evacuate router) = false
+moves_one step = true
+
+-- A settle makes a round, and may make as many as it makes at least.
+pub record IsSoundBudget (budget : Budget) : Type 0 where
+  pub some : 1 ≤ budget.rounds
+  pub enough : budget.least ≤ budget.rounds
