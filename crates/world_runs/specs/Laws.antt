@@ -1,14 +1,12 @@
 -- The laws of a net's runs.
-use Rattle.std.specs.Prelude.{ℕ, ◌≡◌, ◌≤◌, ◌<◌, Bool, List, map, length, Some}
+use Rattle.std.specs.Prelude.{ℕ, ◌≡◌, ◌≤◌, ◌<◌, List, map, length, Some}
 use Rattle.std.specs.List.{AllByRecursion}
 use Rattle.ring_net.specs.Deeds.{Deed, Noted, deeds}
-use Rattle.ring_net.specs.Phases.{View, IsNew, InOrder, AllAt, Between}
+use Rattle.ring_net.specs.Phases.{View, IsNew, InOrder, AllAt}
 use Rattle.journal_merge.specs.Worlds as worlds
 use Rattle.journal_merge.specs.Growth.{Grew}
+use Rattle.journal_merge.specs.Laws.{at_mark}
 use Rattle.graft_steps.specs.declared.item.Item.{Item}
-use Rattle.graft_steps.specs.declared.rest.RouterRest.{RouterRest}
-use Rattle.graft_steps.specs.declared.rest.FarRest.{FarRest}
-use Rattle.graft_steps.specs.declared.rest.OperatorRest.{OperatorRest}
 use Rattle.session_value.specs.Sessions.{SessionValue}
 use Rattle.graft_model.specs.Setups.{Setup, IsSetup}
 use Rattle.graft_model.specs.Parts.{World}
@@ -53,10 +51,10 @@ module _ {A C : Type 0} (own : A → OwnPart) (session : C → SessionValue) whe
   RunsGoOn = (setup : Setup) (u v : View A (Item C)) (levels : List ℕ) (notes : ℕ → List (Noted (Item C))) (clock : ℕ) → IsSetup setup → length u.actors ≡ actors_in setup → InOrder u → AllAt u clock
       → Grew own (acts session) u v levels notes → ((k : ℕ) → AllByRecursion IsNoGo (deeds (notes k))) → Ran own session setup u → Ran own session setup v
 
-  -- so does a Go, where the world is quiet
+  -- so does what an actor did at a mark, one event at most, where the world is quiet: a Go too
   abbrev pub GoesOn : Type 0
-  GoesOn = (paused : A → List (Deed (Item C)) → A → Type 0) (setup : Setup) (k : ℕ) (u v : View A (Item C)) (answer : Bool) (clock : ℕ) → IsSetup setup → length u.actors ≡ actors_in setup → k < length u.actors
-      → InOrder u → AllAt u clock → (did : Between own (acts session) paused k u v answer) → length did.deeds ≤ 1 → QuietAt own session setup u → Ran own session setup u → Ran own session setup v
+  GoesOn = (setup : Setup) (k : ℕ) (u v : View A (Item C)) (levels : List ℕ) (did : List (Deed (Item C))) (clock : ℕ) → IsSetup setup → length u.actors ≡ actors_in setup → InOrder u → AllAt u clock
+      → Grew own (acts session) u v levels (at_mark own (acts session) k did) → length did ≤ 1 → QuietAt own session setup u → Ran own session setup u → Ran own session setup v
 
 -- ---- what holds on the way
 

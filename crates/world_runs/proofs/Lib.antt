@@ -1,0 +1,6 @@
+mod Comes
+mod Goes
+mod Acts
+mod Runs
+mod Nets
+mod OnTheWay
