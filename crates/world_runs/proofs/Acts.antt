@@ -26,12 +26,13 @@ use Rattle.world_runs.proofs.Goes.{after_goes}
 
 -- ---- items as things
 
-items_map : {A B : Type 0} (f : A → B) (b : ℕ) (sent : List (ℕ × A)) → map f (items_for b sent) ≡ items_for b (map (λ x. (x.0, f x.1)) sent)
+map_more : {A B : Type 0} (f : A → B) (t : Bool) (x : A) (xs : List A) (ys : List B) → map f xs ≡ ys → map f (if t then x ∷ xs else xs) ≡ (if t then f x ∷ ys else ys)
+map_more f true x xs ys e = ap (λ zs. f x ∷ zs) e
+map_more f false x xs ys e = e
+
+items_map : {A B : Type 0} (f : A → B) (b : ℕ) (sent : List (ℕ × A)) → map f (items_for b sent) ≡ items_for b (map (λ (x : ℕ × A). (x.0, f x.1)) sent)
 items_map f b [] = refl
-items_map {A} {B} f b (x ∷ sent) = by_test (x.0 == b) where
-  by_test : (t : Bool) → map f (if t then x.1 ∷ items_for b sent else items_for b sent) ≡ (if t then f x.1 ∷ items_for b (map (λ (y : ℕ × A). (y.0, f y.1)) sent) else items_for b (map (λ (y : ℕ × A). (y.0, f y.1)) sent))
-  by_test true = ap (λ (ys : List B). f x.1 ∷ ys) (items_map f b sent)
-  by_test false = items_map f b sent
+items_map {A} f b (x ∷ sent) = map_more f (x.0 == b) x.1 (items_for b sent) (items_for b (map (λ (y : ℕ × A). (y.0, f y.1)) sent)) (items_map f b sent)
 
 taken_map : {A B : Type 0} (f : A → B) (a : ℕ) (taken : Option (ℕ × A)) → map f (taken_of a taken) ≡ taken_of a (option_map (λ x. (x.0, f x.1)) taken)
 taken_map f a None = refl

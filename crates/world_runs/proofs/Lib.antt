@@ -4,3 +4,4 @@ mod Acts
 mod Runs
 mod Nets
 mod OnTheWay
+mod Itself

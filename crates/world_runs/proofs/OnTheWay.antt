@@ -30,7 +30,7 @@ linked_fit one other linked = (
   record { acked = linked.back.acked; received = omega (arith, linked.back.within, linked.back.emitted) },
 )
 
-below_or_past : (m n : ℕ) → (m < n) ⊎ (n ≤ m)
+pub below_or_past : (m n : ℕ) → (m < n) ⊎ (n ≤ m)
 below_or_past m n = grind arith
 
 module _ (setup : Setup) (w : World) (owned : Owned setup w) (unbroken : (p : ℕ) → p < peerings_in setup → Has setup (IsUnbroken setup) w p) where

@@ -1,5 +1,5 @@
 -- The laws of a net's runs.
-use Rattle.std.specs.Prelude.{ℕ, ◌≡◌, ◌≤◌, ◌<◌, List, map, length, Some}
+use Rattle.std.specs.Prelude.{ℕ, ◌≡◌, ◌≤◌, ◌<◌, List, [], map, length, Some}
 use Rattle.std.specs.List.{AllByRecursion}
 use Rattle.ring_net.specs.Deeds.{Deed, Noted, deeds}
 use Rattle.ring_net.specs.Phases.{View, IsNew, InOrder, AllAt}
@@ -65,3 +65,7 @@ RunsAreTransparent = (setup : Setup) (events : List Event) (w : World) → IsSet
 -- what a settled check asks of a world is so on the way of a run
 abbrev pub WorldsAreOnTheWay : Type 0
 WorldsAreOnTheWay = (setup : Setup) (w : World) → IsSetup setup → Reached setup w → IsWithin setup w → IsOnTheWay setup w
+
+-- no router writes to itself
+abbrev pub NobodyWritesToItself : Type 0
+NobodyWritesToItself = (setup : Setup) (w : World) (r : ℕ) → IsSetup setup → Reached setup w → w.mesh r r ≡ []

@@ -2,7 +2,7 @@
 
 ghost use Rattle.session_value.specs.Sessions.{SessionValue};
 ghost use Rattle.graft_actors.specs.Acts.{OwnPart};
-ghost use Rattle.world_runs.specs.Laws.{AnActIsAStep, ActsAreARun, NewNetsRan, RunsGoOn, GoesOn, RunsAreTransparent, WorldsAreOnTheWay};
+ghost use Rattle.world_runs.specs.Laws.{AnActIsAStep, ActsAreARun, NewNetsRan, RunsGoOn, GoesOn, RunsAreTransparent, WorldsAreOnTheWay, NobodyWritesToItself};
 
 use graft_actors::acts_are_events;
 use graft_laws::{
@@ -39,9 +39,10 @@ pub fn runs_are_transparent()
     always_transparent();
 }
 
-/// On the way of a run a world is one of which the rests of its actors tell whether it is quiet.
+/// On the way of a run a world is one of which the rests of its actors tell whether it is quiet, and no router writes to itself.
 pub fn worlds_are_on_the_way()
-    ensures { WorldsAreOnTheWay }
+    ensures way { WorldsAreOnTheWay }
+    ensures itself { NobodyWritesToItself }
 {
     every_world_is_owned();
     sessions_are_unbroken();
