@@ -1,46 +1,158 @@
 //! Reads cases of inputs and prints what each one is read as. What the library gives is proved; these
 //! are worked cases in TOML as people write it, with answers from the rules of its keys.
 //!
-//! The text begins with an input. A case is a line `== what it shows`, and behind it lines of that input
-//! that it leaves out, after a `-`, and lines that stand in place of the first of them, after a `+`.
+//! The text has parts, which a line `====` parts. A part begins with an input. A case is a line `== what
+//! it shows`, and behind it changes of that input, a line each:
+//!
+//! - `-line` leaves this line out, and the lines that follow as `+line` stand in its place;
+//! - `>line` is a line of an input of its own;
+//! - `*n text` stands for the text n times, in place of `+` or `>`: `\n` in it ends a line, and in the copy
+//!   with the number k, from 0, `@0` is k modulo 256, `@1` is k divided by 256, and `@n` is k + 1;
+//! - `!crlf` ends lines by CR and LF, `!bom` puts a byte order mark in front, `!pad n` adds a comment up to n
+//!   bytes, and `!byte n` puts a byte in place of all.
 #![tactic(auto)]
 
 use bgp_types::{Address, PrefixList};
-use lab_input::{LabInput, PeeringInput, RouterInput, Step, read_lab};
+use lab_input::{LabInput, PeeringInput, RouterInput, Step, is_built, read_lab};
 use std::alloc::{AllocError, Global};
+use std::fmt::Write;
 use std::io;
 
-/// Whether a case leaves a line out.
-fn is_left_out(case: &str, line: &str) -> bool {
-    case.lines()
-        .any(|change| change.strip_prefix("-") == Some(line))
+/// Adds a line of the copy with the number `k`.
+fn put_numbered(text: &mut String, line: &str, k: u32) -> Result<(), AllocError> {
+    let mut pieces = line.split('@');
+    if let Some(first) = pieces.next() {
+        text.push_str(first)?;
+    }
+    for piece in pieces {
+        if let Some(rest) = piece.strip_prefix("0") {
+            write!(text, "{}{rest}", k % 256)?;
+        } else if let Some(rest) = piece.strip_prefix("1") {
+            write!(text, "{}{rest}", k / 256)?;
+        } else if let Some(rest) = piece.strip_prefix("n") {
+            write!(text, "{}{rest}", u64::from(k) + 1)?;
+        } else {
+            text.push_str(piece)?;
+        }
+    }
+    Ok(())
 }
 
-/// Adds the lines that a case puts in.
-fn put_in(text: &mut String, case: &str) -> Result<(), AllocError> {
-    for change in case.lines() {
-        if let Some(line) = change.strip_prefix("+") {
-            text.push_str(line)?;
+/// Adds copies of a text.
+fn put_copies(text: &mut String, change: &str) -> Result<(), AllocError> {
+    let (count, copy) = change.split_once(" ").unwrap_or((change, ""));
+    for k in 0..count.parse::<u32>().unwrap_or(0) {
+        for line in copy.split("\\n") {
+            put_numbered(text, line, k)?;
             text.push_str("\n")?;
         }
     }
     Ok(())
 }
 
-/// The input of a case.
-fn input_of(alloc: Global, base: &str, case: &str) -> Result<String, AllocError> {
+/// Adds a line that a change puts in.
+fn put_in(text: &mut String, change: &str) -> Result<(), AllocError> {
+    if let Some(copies) = change.strip_prefix("*") {
+        return put_copies(text, copies);
+    }
+    if let Some(line) = change.strip_prefix("+") {
+        text.push_str(line)?;
+        text.push_str("\n")?;
+    }
+    if let Some(line) = change.strip_prefix(">") {
+        text.push_str(line)?;
+        text.push_str("\n")?;
+    }
+    Ok(())
+}
+
+/// Adds a line of the input that a case changes, or what stands in its place.
+fn put_line(text: &mut String, case: &str, line: &str) -> Result<(), AllocError> {
+    let mut is_out = false;
+    let mut is_here = false;
+    for change in case.lines() {
+        if let Some(left_out) = change.strip_prefix("-") {
+            is_here = left_out == line;
+            is_out = is_out || is_here;
+        } else if is_here {
+            put_in(text, change)?;
+        }
+    }
+    if !is_out {
+        text.push_str(line)?;
+        text.push_str("\n")?;
+    }
+    Ok(())
+}
+
+/// The lines of a case.
+fn lines_of(alloc: Global, base: &str, case: &str) -> Result<String, AllocError> {
     let mut text = String::new(alloc);
-    let mut is_put = false;
-    for line in base.lines() {
-        if !is_left_out(case, line) {
-            text.push_str(line)?;
-            text.push_str("\n")?;
-        } else if !is_put {
-            put_in(&mut text, case)?;
-            is_put = true;
+    if case.lines().any(|change| change.starts_with(">")) {
+        for change in case.lines() {
+            put_in(&mut text, change)?;
+        }
+    } else {
+        for line in base.lines() {
+            put_line(&mut text, case, line)?;
         }
     }
     Ok(text)
+}
+
+/// The same lines, ended by CR and LF.
+fn with_crlf(alloc: Global, text: &str) -> Result<String, AllocError> {
+    let mut other = String::new(alloc);
+    for line in text.lines() {
+        other.push_str(line)?;
+        other.push_str("\r\n")?;
+    }
+    Ok(other)
+}
+
+/// The text with a comment behind it, so that it has so many bytes.
+fn padded(alloc: Global, text: String, len: usize) -> Result<String, AllocError> {
+    let mut text = text;
+    text.push_str("#")?;
+    let mut chunk = String::new(alloc);
+    for _ in 0..4096 {
+        chunk.push_str("x")?;
+    }
+    for _ in 0..len.saturating_sub(text.len()) / 4096 {
+        text.push_str(chunk.as_str())?;
+    }
+    for _ in text.len()..len {
+        text.push_str("x")?;
+    }
+    Ok(text)
+}
+
+/// The input of a case.
+fn input_of(alloc: Global, base: &str, case: &str) -> Result<String, AllocError> {
+    let mut text = lines_of(alloc, base, case)?;
+    for change in case.lines() {
+        if change == "!crlf" {
+            text = with_crlf(alloc, text.as_str())?;
+        } else if change == "!bom" {
+            let rest = text;
+            text = String::from_str(alloc, "\u{feff}")?;
+            text.push_str(rest.as_str())?;
+        } else if let Some(len) = change.strip_prefix("!pad ") {
+            text = padded(alloc, text, len.parse::<usize>().unwrap_or(0))?;
+        }
+    }
+    Ok(text)
+}
+
+/// The byte that stands in place of all, where a case has one.
+fn byte_of(case: &str) -> Option<u8> {
+    let mut byte = None;
+    for change in case.lines() {
+        if let Some(number) = change.strip_prefix("!byte ") {
+            byte = number.parse::<u8>().ok();
+        }
+    }
+    byte
 }
 
 fn print_router(rt: &HostRuntime, router: &RouterInput) -> io::Result<()> {
@@ -87,6 +199,7 @@ fn print_step(rt: &HostRuntime, step: &Step) -> io::Result<()> {
             print!(rt; "  {} withdraws", peering.0)?;
             print_prefixes(rt, prefixes)
         }
+        other => println!(rt; "  {other:?}"),
     }
 }
 
@@ -104,18 +217,37 @@ fn print_input(rt: &HostRuntime, input: &LabInput) -> io::Result<()> {
     Ok(())
 }
 
+/// Prints what bytes are read as.
+fn print_read(rt: &HostRuntime, shows: &str, bytes: &[u8]) -> io::Result<()> {
+    match read_lab(rt.alloc(), bytes) {
+        Ok(input) => match is_built(rt.alloc(), &input) {
+            Ok(true) => {
+                println!(rt; "{shows}")?;
+                print_input(rt, &input)
+            }
+            Ok(false) => println!(rt; "{shows}: bad input: not built"),
+            Err(_) => println!(rt; "{shows}: no memory"),
+        },
+        Err(stop) => println!(rt; "{shows}: {stop}"),
+    }
+}
+
+/// Prints what a case is read as.
+fn print_case(rt: &HostRuntime, base: &str, case: &str) -> io::Result<()> {
+    let (shows, changes) = case.split_once("\n").unwrap_or((case, ""));
+    if let Some(byte) = byte_of(changes) {
+        return print_read(rt, shows, &[byte]);
+    }
+    let text = input_of(rt.alloc(), base, changes)?;
+    print_read(rt, shows, text.as_bytes())
+}
+
 fn main(rt: HostRuntime) -> io::Result<()> {
     let text = io::read_to_string(rt.alloc(), rt.reader())?;
-    let (base, cases) = text.split_once("\n== ").unwrap_or(("", ""));
-    for case in cases.split("\n== ") {
-        let (shows, changes) = case.split_once("\n").unwrap_or((case, ""));
-        let text = input_of(rt.alloc(), base, changes)?;
-        match read_lab(rt.alloc(), text.as_bytes()) {
-            Ok(input) => {
-                println!(rt; "{shows}")?;
-                print_input(&rt, &input)?;
-            }
-            Err(stop) => println!(rt; "{shows}: {stop}")?,
+    for part in text.split("\n====\n") {
+        let (base, cases) = part.split_once("\n== ").unwrap_or(("", ""));
+        for case in cases.split("\n== ") {
+            print_case(&rt, base, case)?;
         }
     }
     Ok(())

@@ -1,8 +1,7 @@
-pub mod Documents
-pub mod Every
-pub mod Found
+pub mod Afters
+pub mod Bytes
+pub mod Firsts
+pub mod Keys
 pub mod Ready
-pub mod Repeated
 pub mod SaidAttrs
 pub mod SaidPrefixes
-pub mod Scripts

@@ -1,28 +1,18 @@
 -- The prefixes that a step names: each is one, each stands once, and there are few.
-use Rattle.std.proofs.Common.{◌≡◌, ℕ, ◌+◌, ◌*◌, ◌<◌, ◌≤◌, List, [], ◌∷◌, ◌++◌, length, Bool, true, false, cond, sym, subst, arith, length-append, length-take}
-use Rattle.std.specs.Prelude.{sum_by, All}
-use Rattle.std.specs.List.{AllByRecursion, IsDistinct, list_any}
+use Rattle.std.proofs.Common.{ℕ, ◌+◌, ◌*◌, ◌<◌, ◌≤◌, List, [], ◌∷◌, ◌++◌, length, Bool, true, false, cond, arith, length-append, length-take}
+use Rattle.std.specs.Prelude.{sum_by, All, codes}
+use Rattle.std.specs.List.{IsDistinct, list_any}
 use Rattle.std.specs.Int.{w32, to_be_bytes}
 use Rattle.std.proofs.lemmas.List.Elements.{All-from_recursion}
 use Rattle.std.proofs.lemmas.List.Sums.{sum_by-cons}
-use Rattle.toml.specs.Data.{Data, Items, no_items, item, Members}
+use Rattle.toml.specs.Data.{Members}
 use Rattle.bgp_types.specs.Lengths.{prefix_size}
-use Rattle.bgp_types.specs.Prefixes.{PrefixValue, IsPrefix, octets_for, same_prefix, put_once, once_after}
-use Rattle.bgp_types.specs.Texts.{IsPrefixText}
-use Rattle.bgp_types.proofs.OnceLaws.{IsPrefix-prefix_of, once_each, each_once}
-use Rattle.lab_input.specs.Fields.{Each, GivesPrefix, PrefixesAt}
-
--- P holds of each value of an array, where it holds of whatever an item gives
-pub each_all : {A : Type 0} (Gives : Data → A → Type 0) (P : A → Type 0) (items : Items) (values : List A) → ((d : Data) (x : A) → Gives d x → P x) → Each Gives items values → AllByRecursion P values
-each_all Gives P no_items [] kept each = tt
-each_all Gives P no_items (x ∷ xs) kept each = absurd each
-each_all Gives P (item d ds) [] kept each = absurd each
-each_all Gives P (item d ds) (x ∷ xs) kept each = (kept d x each.0, each_all Gives P ds xs kept each.1)
-
--- ---- each is a prefix
-
-IsPrefix-text : (text : List ℕ) (p : PrefixValue) → IsPrefixText text p → IsPrefix p
-IsPrefix-text text p is = subst IsPrefix (sym is.prefix) (IsPrefix-prefix_of p.len is.address is.short is.fits)
+use Rattle.bgp_types.specs.Prefixes.{PrefixValue, IsPrefix, octets_for, same_prefix, put_once, once_after, EachOnce}
+use Rattle.bgp_types.proofs.OnceLaws.{once_each, each_once}
+use Rattle.lab_keys.specs.Values.{items_at, prefixes_at}
+use Rattle.lab_keys.proofs.NoFlaws.{IsWithin, prefixes_formed}
+use Rattle.lab_tables.specs.Scripts.{said_prefixes}
+use Rattle.std.proofs.Common.{refl}
 
 -- ---- how many there are
 
@@ -70,14 +60,15 @@ pub record AreSaid (ps : List PrefixValue) : Type 0 where
   pub some : 0 < length ps
   pub few : length ps ≤ 200
 
-pub prefixes_said : (t : Members) (key : List ℕ) (ps : List PrefixValue) → PrefixesAt t key ps → AreSaid ps
-prefixes_said t key ps is =
-    let written : List PrefixValue = is.written in
-    let all : AllByRecursion IsPrefix written = each_all GivesPrefix IsPrefix is.at.items written (λ (d : Data) (p : PrefixValue) (gives : GivesPrefix d p). IsPrefix-text gives.text p gives.prefix_text) is.at.gives in
-    let same : once_after [] written ≡ ps = sym ((each_once written ps).1 is.once) in
+pub prefixes_said : (t : Members) → IsWithin 1 200 (length (prefixes_at (codes "prefixes") t)) → AreSaid (said_prefixes t)
+prefixes_said t within =
+    let written : List PrefixValue = prefixes_at (codes "prefixes") t in
+    let enough : 1 ≤ length written = within.enough in
+    let few : length written ≤ 200 = within.few in
+    let once : EachOnce written (once_after [] written) = (each_once written (once_after [] written)).0 refl in
     record {
-      formed = subst (All IsPrefix) same (All-from_recursion IsPrefix (once_after [] written) (once_each [] written tt all));
-      once = is.once.distinct;
-      some = subst (λ (qs : List PrefixValue). 0 < length qs) same (once_some written is.at.enough);
-      few = subst (λ (qs : List PrefixValue). length qs ≤ 200) same (let few = is.at.few in let h = once_no_more [] written in omega arith);
+      formed = All-from_recursion IsPrefix (once_after [] written) (once_each [] written tt (prefixes_formed (items_at (codes "prefixes") t)));
+      once = once.distinct;
+      some = once_some written (omega arith);
+      few = let h = once_no_more [] written in omega arith;
     }

@@ -1,21 +1,56 @@
--- Which bytes are an input, and which input they are.
-use Rattle.std.specs.Prelude.{◌≡◌, ℕ, ◌≤◌, List, length, Some, Result, Ok, Err}
+-- Which bytes are an input, which input they are, and which rule is the first that others don't meet.
+use Rattle.std.specs.Prelude.{◌≡◌, ℕ, ◌+◌, nat_lt, List, [], ◌∷◌, length, Option, Some, None, option_map, Result, Ok, Err, codes, if◌then◌else◌}
 use Rattle.toml.specs.Data.{Members}
-use Rattle.lab_input.specs.declared.input.LabInput.{LabInput}
-use Rattle.lab_input.specs.declared.input.LabStop.{LabStop}
-use Rattle.lab_input.specs.declared.input.LabStop.TheVariants.{Bad, NoMemory}
-use Rattle.lab_input.specs.Documents.{document_of}
-use Rattle.lab_input.specs.Tables.{GivesLab}
+use Rattle.lab_keys.specs.declared.flaw.Flaw.{Flaw}
+use Rattle.lab_keys.specs.declared.flaw.Flaw.TheVariants as flaws
+use Rattle.lab_keys.specs.Places.{path_text}
+use Rattle.lab_keys.specs.Kinds.{first_of}
+use Rattle.lab_tables.specs.declared.input.LabInput.{LabInput}
+use Rattle.lab_input.specs.declared.bad.LabStop.{LabStop}
+use Rattle.lab_input.specs.declared.bad.LabStop.TheVariants.{Bad, NoMemory}
+use Rattle.lab_input.specs.declared.bad.BadInput.{BadInput}
+use Rattle.lab_input.specs.declared.bad.BadInput.TheVariants.{NotToml, Shape, Limit}
+use Rattle.lab_input.specs.Bytes.{document_of}
+use Rattle.lab_tables.specs.Documents.{shaped, lab_of}
+use Rattle.lab_input.specs.Names.{named}
+use Rattle.lab_input.specs.Counts.{counted}
 
--- The bytes are at most 4 MiB and a document that gives this input.
-pub record InputOf (bytes : List ℕ) (input : LabInput) : Type 0 where
-  pub short : length bytes ≤ 4194304
-  pub document : Members
-  pub is : document_of bytes ≡ Some document
-  pub gives : GivesLab document input
+abbrev pub bad_of : Flaw → BadInput
+bad_of (flaws.Shape at) = Shape (path_text at)
+bad_of (flaws.Limit at n) = Limit (path_text at) n
 
--- A value is given that is so; or no value is so, and then the input is bad; or memory ran out.
-abbrev pub FindsOrStops : {A : Type 0} → (A → Type 0) → Result A LabStop → Type 0
-FindsOrStops Is (Ok x) = Is x
-FindsOrStops {A} Is (Err (Bad _)) = (x : A) → ¬ (Is x)
-FindsOrStops Is (Err NoMemory) = Unit {0}
+-- ---- the rules in their order
+
+-- the first rule that a document doesn't meet: 3, shapes and limits; 4, names; 5, counts
+abbrev pub bad_in : Members → Option BadInput
+bad_in doc = first_of (option_map bad_of (shaped doc) ∷ named doc ∷ counted (lab_of doc) ∷ [])
+
+abbrev pub unless : Option BadInput → LabInput → Result LabInput BadInput
+unless None input = Ok input
+unless (Some bad) input = Err bad
+
+-- rule 2: the bytes are a document
+abbrev pub input_in : Option Members → Result LabInput BadInput
+input_in None = Err NotToml
+input_in (Some doc) = unless (bad_in doc) (lab_of doc)
+
+-- the greatest number of bytes of an input
+abbrev pub most_bytes : ℕ
+most_bytes = 4194304
+
+abbrev pub too_long : BadInput
+too_long = Limit (codes "input") (most_bytes + 1)
+
+-- rule 1: there are few bytes
+unfoldable pub input_of : List ℕ → Result LabInput BadInput
+input_of bytes = if nat_lt most_bytes (length bytes) then Err too_long else input_in (document_of bytes)
+
+-- The bytes are this input.
+abbrev pub InputOf : List ℕ → LabInput → Type 0
+InputOf bytes input = input_of bytes ≡ Ok input
+
+-- What a reader answers: the value, or its fault, or that memory ran out.
+abbrev pub Answers : Result LabInput BadInput → Result LabInput LabStop → Type 0
+Answers answer (Ok input) = answer ≡ Ok input
+Answers answer (Err (Bad bad)) = answer ≡ Err bad
+Answers answer (Err NoMemory) = Unit {0}

@@ -1,5 +1,6 @@
-pub mod Documents
-pub mod Fields
-pub mod Labs
+pub mod Bytes
 pub mod Said
-pub mod Tables
+pub mod Names
+pub mod Counts
+pub mod Built
+pub mod Labs

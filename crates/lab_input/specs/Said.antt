@@ -1,19 +1,20 @@
--- What the steps of an input say, and what an accepted input is ready for.
+-- What the steps of an input say, and what an input that the program can run is ready for.
 use Rattle.std.specs.Prelude.{◌≡◌, ◌^◌, ◌<◌, ◌≤◌, [], ◌∷◌, length, Some, None, All, false}
 use Rattle.bgp_types.specs.declared.message.Message.TheVariants.{UpdateMsg}
 use Rattle.bgp_types.specs.declared.message.Update.{Update}
 use Rattle.bgp_types.specs.Values.{is_no_host}
 use Rattle.bgp_types.specs.Writable.{IsWritable}
-use Rattle.lab_input.specs.declared.input.LabInput.{LabInput}
-use Rattle.lab_input.specs.declared.input.PeeringInput.{PeeringInput}
-use Rattle.lab_input.specs.declared.input.RouterInput.{RouterInput}
-use Rattle.lab_input.specs.declared.input.Step.{Step}
-use Rattle.lab_input.specs.declared.input.Step.TheVariants.{Announce, Withdraw}
+use Rattle.lab_tables.specs.declared.input.LabInput.{LabInput}
+use Rattle.lab_tables.specs.declared.input.PeeringInput.{PeeringInput}
+use Rattle.lab_tables.specs.declared.input.RouterInput.{RouterInput}
+use Rattle.lab_tables.specs.declared.input.Step.{Step}
+use Rattle.lab_tables.specs.declared.input.Step.TheVariants.{Announce, Withdraw}
 
--- the UPDATE that the remote of a step's peering says
+-- the UPDATE that the remote of a step's peering says; it is empty where the step is of another kind
 abbrev pub update_of : Step → Update
 update_of (Announce peering prefixes a) = record { withdrawn = []; attrs = Some a; nlri = prefixes }
 update_of (Withdraw peering prefixes) = record { withdrawn = prefixes; attrs = None; nlri = [] }
+update_of _ = record { withdrawn = []; attrs = None; nlri = [] }
 
 -- One router, one peering at it, and steps whose UPDATEs can be written with AS numbers of two octets.
 pub record IsReady (input : LabInput) : Type 0 where

@@ -1,0 +1,352 @@
+//! What is counted over a whole input.
+
+ghost use Rattle.std.specs.Prelude.{◌≡◌, ◌==◌, ◌&&◌, ◌++◌, length, sum_by, count_by, IfOk};
+ghost use Rattle.std.specs.List.{flat_map};
+ghost use Rattle.bgp_types.specs.declared.message.Message.TheVariants.{UpdateMsg};
+ghost use Rattle.bgp_types.specs.Spelling.{spell};
+ghost use Rattle.lab_keys.specs.Kinds.{first_of, each_from};
+ghost use Rattle.lab_input.specs.Said.{update_of as update_of_lem};
+ghost use Rattle.lab_input.specs.Counts.{grafts_of as grafts_of_lem, settles_of as settles_of_lem, added_settle as added_settle_lem, prefixes_of as prefixes_of_lem, prefixes_named as prefixes_named_lem, peerings_at as peerings_at_lem, room_flaw as room_flaw_lem, is_wide as is_wide_lem, said_by as said_by_lem, said_on as said_on_lem, most_said as most_said_lem, said_flaw as said_flaw_lem, over as over_lem, counted as counted_lem};
+
+use crate::bad::BadInput;
+use crate::told::{first, over};
+use bgp_types::{Items, Message, NoMemory, PrefixList, TryCopy, Update, message_len};
+use lab_tables::{LabInput, PeeringInput, RouterInput, Step, each_once};
+use std::alloc::Global;
+
+/// The most grafts, an evacuate step counted as one for each peering.
+const MOST_GRAFTS: u64 = 256;
+
+/// The most settles, an added one among them.
+const MOST_SETTLES: u64 = 64;
+
+/// The most different prefixes of networks and of announce and withdraw steps.
+const MOST_PREFIXES: u64 = 4096;
+
+/// The most octets that the remote of a peering says.
+const MOST_SAID: u64 = 1_048_576;
+
+/// The same of a remote that sends KEEPALIVEs of its own.
+const MOST_SAID_BEATING: u64 = 524_288;
+
+/// How many grafts a step makes at most, with so many peerings.
+fn grafts_of(peerings: u64, step: &Step) -> u64
+    ensures { result ≡ grafts_of_lem peerings step.now }
+{
+    match step {
+        Step::Graft { .. } => 1,
+        Step::Evacuate { .. } => peerings,
+        _ => 0,
+    }
+}
+
+/// How many grafts steps make at most. Memory holds no steps whose sum passes 64 bits.
+fn grafts_in(peerings: u64, steps: &[Step]) -> Result<u64, NoMemory>
+    ensures { IfOk result (λ n. n ≡ sum_by (grafts_of_lem peerings) steps.now) }
+{
+    let mut grafts = 0u64;
+    for step in steps {
+        grafts = grafts
+            .checked_add(grafts_of(peerings, step))
+            .ok_or(NoMemory)?;
+    }
+    Ok(grafts)
+}
+
+fn settles_of(step: &Step) -> u64
+    ensures { result ≡ settles_of_lem step.now }
+{
+    match step {
+        Step::Settle { .. } => 1,
+        _ => 0,
+    }
+}
+
+/// One settle, where the last step isn't one.
+fn added_settle(steps: &[Step]) -> u64
+    ensures { result ≡ added_settle_lem steps.now }
+{
+    if steps.is_empty() {
+        return 1;
+    }
+    1 - settles_of(&steps[steps.len() - 1])
+}
+
+/// How many settles steps make, with an added one.
+fn settles_in(steps: &[Step]) -> Result<u64, NoMemory>
+    ensures { IfOk result (λ n. n ≡ sum_by settles_of_lem steps.now + added_settle_lem steps.now) }
+{
+    let mut settles = 0u64;
+    for step in steps {
+        settles = settles.checked_add(settles_of(step)).ok_or(NoMemory)?;
+    }
+    settles.checked_add(added_settle(steps)).ok_or(NoMemory)
+}
+
+/// Adds the prefixes of a step.
+fn add_prefixes(all: &mut PrefixList, step: &Step) -> Result<(), NoMemory>
+    ensures { OnOk result (all.new ≡ all.old ++ prefixes_of_lem step.now) }
+{
+    match step {
+        Step::Announce { prefixes, .. } => all.extend(prefixes),
+        Step::Withdraw { prefixes, .. } => all.extend(prefixes),
+        _ => Ok(()),
+    }
+}
+
+/// The networks of routers.
+fn networks_of(alloc: Global, routers: &[RouterInput]) -> Result<PrefixList, NoMemory>
+    ensures { IfOk result (λ all. all ≡ flat_map (λ r. r.networks) routers.now) }
+{
+    let mut all = PrefixList::new(alloc);
+    for router in routers {
+        all.extend(&router.networks)?;
+    }
+    Ok(all)
+}
+
+/// Adds the prefixes of steps.
+fn add_all(all: PrefixList, steps: &[Step]) -> Result<PrefixList, NoMemory>
+    ensures { IfOk result (λ whole. whole ≡ all ++ flat_map prefixes_of_lem steps.now) }
+{
+    let mut all = all;
+    for step in steps {
+        add_prefixes(&mut all, step)?;
+    }
+    Ok(all)
+}
+
+/// How many different prefixes an input names.
+fn prefixes_in(alloc: Global, input: &LabInput) -> Result<u64, NoMemory>
+    ensures { IfOk result (λ n. n ≡ length (once_after [] (prefixes_named_lem input.now))) }
+{
+    let all = add_all(networks_of(alloc, &input.routers)?, &input.steps)?;
+    let once = each_once(alloc, &all)?;
+    Ok(once.len() as u64)
+}
+
+/// How many peerings start at a router.
+fn peerings_at(peerings: &[PeeringInput], router: u64) -> u64
+    ensures { result ≡ peerings_at_lem peerings.now router }
+{
+    peerings
+        .iter()
+        .filter(|peering| peering.at.0 as u64 == router)
+        .count() as u64
+}
+
+/// A router with more peerings than it has room for.
+fn router_room(
+    alloc: Global,
+    peerings: &[PeeringInput],
+    number: u64,
+    router: &RouterInput,
+) -> Result<Option<BadInput>, NoMemory>
+    ensures { IfOk result (λ bad. bad ≡ room_flaw_lem peerings.now number router.now) }
+{
+    let there = peerings_at(peerings, number);
+    let bad = over(alloc, "sessions", router.sessions as u64, there)?;
+    Ok(bad)
+}
+
+/// The first router with more peerings than it has room for.
+fn room_flaw(
+    alloc: Global,
+    peerings: &[PeeringInput],
+    routers: &[RouterInput],
+) -> Result<Option<BadInput>, NoMemory>
+    ensures { IfOk result (λ bad. bad ≡ each_from (room_flaw_lem peerings.now) 0 routers.now) }
+{
+    for (i, router) in routers.iter().enumerate() {
+        let found = router_room(alloc, peerings, i as u64, router)?;
+        match found {
+            Some(bad) => return Ok(Some(bad)),
+            None => {}
+        }
+    }
+    Ok(None)
+}
+
+/// Whether a remote speaks with AS numbers of four octets: both sides support them.
+fn is_wide(peering: &PeeringInput) -> bool
+    ensures { result ≡ is_wide_lem peering.now }
+{
+    peering.as4 && peering.remote_as4
+}
+
+/// The UPDATE that a step says.
+pub fn update_of(alloc: Global, step: &Step) -> Result<Update, NoMemory>
+    ensures { IfOk result (λ update. update ≡ update_of_lem step.now) }
+{
+    match step {
+        Step::Announce {
+            prefixes,
+            attrs,
+            ..
+        } => Ok(Update {
+            withdrawn: Items::new(alloc),
+            attrs: Some(attrs.copy()?),
+            nlri: prefixes.copy()?,
+        }),
+        Step::Withdraw { prefixes, .. } => Ok(Update {
+            withdrawn: prefixes.copy()?,
+            attrs: None,
+            nlri: Items::new(alloc),
+        }),
+        _ => Ok(Update {
+            withdrawn: Items::new(alloc),
+            attrs: None,
+            nlri: Items::new(alloc),
+        }),
+    }
+}
+
+/// How many octets the UPDATE of a step has.
+fn update_len(alloc: Global, wide: bool, step: &Step) -> Result<u64, NoMemory>
+    ensures { IfOk result (λ n. n ≡ length (spell (UpdateMsg (update_of_lem step.now)) wide)) }
+{
+    let len = message_len(&Message::UpdateMsg(update_of(alloc, step)?), wide);
+    if len == usize::MAX {
+        return Err(NoMemory);
+    }
+    Ok(len as u64)
+}
+
+/// How many octets a step says on a peering.
+fn said_by(alloc: Global, wide: bool, number: u64, step: &Step) -> Result<u64, NoMemory>
+    ensures { IfOk result (λ n. n ≡ said_by_lem wide number step.now) }
+{
+    match step {
+        Step::Announce { peering, .. } if peering.0 as u64 == number => {
+            update_len(alloc, wide, step)
+        }
+        Step::Withdraw { peering, .. } if peering.0 as u64 == number => {
+            update_len(alloc, wide, step)
+        }
+        Step::Raw { peering, bytes } if peering.0 as u64 == number => Ok(bytes.len() as u64),
+        _ => Ok(0),
+    }
+}
+
+/// How many octets the remote of a peering says.
+fn said_on(
+    alloc: Global,
+    steps: &[Step],
+    number: u64,
+    peering: &PeeringInput,
+) -> Result<u64, NoMemory>
+    ensures { IfOk result (λ n. n ≡ said_on_lem steps.now number peering.now) }
+{
+    let wide = is_wide(peering);
+    let mut said = peering.opening.len() as u64;
+    for step in steps {
+        said = said
+            .checked_add(said_by(alloc, wide, number, step)?)
+            .ok_or(NoMemory)?;
+    }
+    Ok(said)
+}
+
+/// The most octets that the remote of a peering says. One that sends KEEPALIVEs of its own says half as
+/// much, so that they have room.
+fn most_said(peering: &PeeringInput) -> u64
+    ensures { result ≡ most_said_lem peering.now }
+{
+    if peering.beats {
+        MOST_SAID_BEATING
+    } else {
+        MOST_SAID
+    }
+}
+
+/// A remote that says too much.
+fn peering_said(
+    alloc: Global,
+    steps: &[Step],
+    number: u64,
+    peering: &PeeringInput,
+) -> Result<Option<BadInput>, NoMemory>
+    ensures { IfOk result (λ bad. bad ≡ said_flaw_lem steps.now number peering.now) }
+{
+    let said = said_on(alloc, steps, number, peering)?;
+    let bad = over(alloc, "said", most_said(peering), said)?;
+    Ok(bad)
+}
+
+/// The first peering whose remote says too much.
+fn said_flaw(
+    alloc: Global,
+    steps: &[Step],
+    peerings: &[PeeringInput],
+) -> Result<Option<BadInput>, NoMemory>
+    ensures { IfOk result (λ bad. bad ≡ each_from (said_flaw_lem steps.now) 0 peerings.now) }
+{
+    for (i, peering) in peerings.iter().enumerate() {
+        let found = peering_said(alloc, steps, i as u64, peering)?;
+        match found {
+            Some(bad) => return Ok(Some(bad)),
+            None => {}
+        }
+    }
+    Ok(None)
+}
+
+/// More grafts than a script has.
+fn grafts_flaw(alloc: Global, input: &LabInput) -> Result<Option<BadInput>, NoMemory>
+    ensures { IfOk result (λ bad. bad ≡ over_lem (codes "grafts") 256 (sum_by (grafts_of_lem (length input.now.peerings)) input.now.steps)) }
+{
+    let grafts = grafts_in(input.peerings.len() as u64, &input.steps)?;
+    let bad = over(alloc, "grafts", MOST_GRAFTS, grafts)?;
+    Ok(bad)
+}
+
+/// More settles than a script has.
+fn settles_flaw(alloc: Global, input: &LabInput) -> Result<Option<BadInput>, NoMemory>
+    ensures { IfOk result (λ bad. bad ≡ over_lem (codes "settles") 64 (sum_by settles_of_lem input.now.steps + added_settle_lem input.now.steps)) }
+{
+    let settles = settles_in(&input.steps)?;
+    let bad = over(alloc, "settles", MOST_SETTLES, settles)?;
+    Ok(bad)
+}
+
+/// More different prefixes than an input names.
+fn prefixes_flaw(alloc: Global, input: &LabInput) -> Result<Option<BadInput>, NoMemory>
+    ensures { IfOk result (λ bad. bad ≡ over_lem (codes "prefixes") 4096 (length (once_after [] (prefixes_named_lem input.now)))) }
+{
+    let prefixes = prefixes_in(alloc, input)?;
+    let bad = over(alloc, "prefixes", MOST_PREFIXES, prefixes)?;
+    Ok(bad)
+}
+
+/// The first count of a whole input that is above its limit.
+fn whole_flaw(alloc: Global, input: &LabInput) -> Result<Option<BadInput>, NoMemory>
+    ensures { IfOk result (λ bad. bad ≡ first_of (over_lem (codes "grafts") 256 (sum_by (grafts_of_lem (length input.now.peerings)) input.now.steps)
+        ∷ over_lem (codes "settles") 64 (sum_by settles_of_lem input.now.steps + added_settle_lem input.now.steps)
+        ∷ over_lem (codes "prefixes") 4096 (length (once_after [] (prefixes_named_lem input.now))) ∷ [])) }
+{
+    let grafts = grafts_flaw(alloc, input)?;
+    let settles = settles_flaw(alloc, input)?;
+    let prefixes = prefixes_flaw(alloc, input)?;
+    Ok(first(grafts, first(settles, first(prefixes, None))))
+}
+
+/// The first count of a router or of a peering that is above its limit.
+fn part_flaw(alloc: Global, input: &LabInput) -> Result<Option<BadInput>, NoMemory>
+    ensures { IfOk result (λ bad. bad ≡ first_of (each_from (room_flaw_lem input.now.peerings) 0 input.now.routers ∷ each_from (said_flaw_lem input.now.steps) 0 input.now.peerings ∷ [])) }
+{
+    let room = room_flaw(alloc, &input.peerings, &input.routers)?;
+    let said = said_flaw(alloc, &input.steps, &input.peerings)?;
+    Ok(first(room, first(said, None)))
+}
+
+/// The first count of an input that is above its limit.
+pub(crate) fn counted(alloc: Global, input: &LabInput) -> Result<Option<BadInput>, NoMemory>
+    ensures { IfOk result (λ bad. bad ≡ counted_lem input.now) }
+{
+    let whole = whole_flaw(alloc, input)?;
+    let part = part_flaw(alloc, input)?;
+    Ok(first(whole, part))
+}
+
+ghost use Rattle.std.specs.Prelude.{◌+◌, [], ◌∷◌, OnOk, codes};
+ghost use Rattle.bgp_types.specs.Prefixes.{once_after};

@@ -1,0 +1,261 @@
+//! The names of tables.
+
+ghost use Rattle.std.specs.Prelude.{◌≡◌, [], IfOk, map, codes, option_copied};
+ghost use Rattle.std.specs.List.{find};
+ghost use Rattle.std.specs.Option.{option_map_or};
+ghost use Rattle.toml.specs.View.{table_view};
+ghost use Rattle.lab_keys.specs.Kinds.{first_of};
+ghost use Rattle.lab_keys.specs.Values.{text_at as text_at_lem, maybe_text};
+ghost use Rattle.bgp_types.specs.Texts.{address_text};
+ghost use Rattle.lab_tables.specs.Peerings.{cost_of};
+ghost use Rattle.lab_input.specs.Names.{each_after, cost_named as cost_named_lem, remote_of as remote_of_lem, policies_at as policies_at_lem, peering_flaw, peering_named as peering_named_lem, worded_named as worded_named_lem, step_named as step_named_lem};
+
+use crate::bad::BadInput;
+use crate::names::{repeated_address, unknown, unknown_at};
+use crate::told::{first, repeated_if};
+use bgp_types::{Items, Name, NoMemory, RouterId, TryCopy};
+use lab_keys::{address_or, text_at};
+use lab_tables::{Places, PolicyInput, RouterInput, StepWord, word_at};
+use std::alloc::Global;
+use std::collections::HashSet;
+use toml::Table;
+
+// ---- costs
+
+/// The routers that a cost joins.
+#[derive(Clone, Copy, Debug, PartialEq, Eq, Hash)]
+struct Ends {
+    from: RouterId,
+    to: RouterId,
+}
+
+/// The routers that a cost joins, 0 where there is none of that name.
+fn ends_of(routers: &Places, table: &Table) -> Ends
+    ensures { result ≡ record { from = (cost_of routers.now (table_view table.now)).from; to = (cost_of routers.now (table_view table.now)).to } }
+{
+    Ends {
+        from: RouterId(routers.number_of(text_at("from", table))),
+        to: RouterId(routers.number_of(text_at("to", table))),
+    }
+}
+
+/// The first wrong name of a cost, where one before it may have the same ends.
+fn cost_named(
+    alloc: Global,
+    routers: &Places,
+    again: bool,
+    table: &Table,
+) -> Result<Option<BadInput>, NoMemory>
+    ensures { IfOk result (λ bad. bad ≡ first_of (unknown_lem routers.now (text_at_lem (codes "from") (table_view table.now))
+        ∷ unknown_lem routers.now (text_at_lem (codes "to") (table_view table.now))
+        ∷ repeated_if_lem again (text_at_lem (codes "to") (table_view table.now)) ∷ [])) }
+{
+    let from = unknown(alloc, routers, text_at("from", table))?;
+    let to = unknown(alloc, routers, text_at("to", table))?;
+    let pair = repeated_if(alloc, again, text_at("to", table))?;
+    Ok(first(from, first(to, first(pair, None))))
+}
+
+/// The first wrong name of costs.
+pub(crate) fn costs_named(
+    alloc: Global,
+    routers: &Places,
+    tables: &[&Table],
+) -> Result<Option<BadInput>, NoMemory>
+    ensures { IfOk result (λ bad. bad ≡ each_after (cost_named_lem routers.now) [] (map (λ u. table_view u.now) tables.now)) }
+{
+    let mut seen = HashSet::new(alloc);
+    for table in tables {
+        let is_new = seen.insert(ends_of(routers, table))?;
+        let found = cost_named(alloc, routers, !is_new, table)?;
+        match found {
+            Some(bad) => return Ok(Some(bad)),
+            None => {}
+        }
+    }
+    Ok(None)
+}
+
+// ---- peerings
+
+/// Whether a peering before this one has its name, and its remote's address.
+#[derive(Clone, Copy)]
+struct Again {
+    name: bool,
+    remote: bool,
+}
+
+/// The remote's address.
+fn remote_of(table: &Table) -> u32
+    ensures { result ≡ remote_of_lem (table_view table.now) }
+{
+    address_or(0, "remote_address", table)
+}
+
+/// Whether a router has this name.
+fn is_called(name: &str, router: &RouterInput) -> bool
+    ensures { result ≡ bytes_eq name.now router.now.name }
+{
+    name == router.name.as_str()
+}
+
+/// The first router of this name.
+fn router_called<'r>(routers: &'r [RouterInput], name: &str) -> Option<&'r RouterInput>
+    ensures { option_copied result ≡ find (λ r. bytes_eq name.now r.name) routers.now }
+{
+    routers.iter().find(|router| is_called(name, router))
+}
+
+/// The names of policies.
+fn policy_names(alloc: Global, policies: &[PolicyInput]) -> Result<Items<Name>, NoMemory>
+    ensures { IfOk result (λ names. names ≡ map (λ p. p.name) policies.now) }
+{
+    let mut names = Items::new(alloc);
+    for policy in policies {
+        names.push(policy.name.copy()?)?;
+    }
+    Ok(names)
+}
+
+/// The names of the policies of a router, or none where there is no router.
+fn names_at(alloc: Global, router: Option<&RouterInput>) -> Result<Items<Name>, NoMemory>
+    ensures { IfOk result (λ names. names ≡ option_map_or (λ r. map (λ p. p.name) r.policies) (option_copied router.entry) []) }
+{
+    match router {
+        Some(router) => policy_names(alloc, &router.policies),
+        None => Ok(Items::new(alloc)),
+    }
+}
+
+/// The names of the policies of the router of this name.
+fn policies_at(alloc: Global, routers: &[RouterInput], name: &str) -> Result<Places, NoMemory>
+    ensures { IfOk result (λ names. names ≡ policies_at_lem routers.now name.now) }
+{
+    let names = names_at(alloc, router_called(routers, name))?;
+    let places = Places::of(names)?;
+    Ok(places)
+}
+
+/// A name or an address of a peering that another one before it has, or a router that there isn't.
+fn place_named(
+    alloc: Global,
+    names: &Places,
+    again: Again,
+    table: &Table,
+) -> Result<Option<BadInput>, NoMemory>
+    ensures { IfOk result (λ bad. bad ≡ first_of (repeated_if_lem again.name (text_at_lem (codes "name") (table_view table.now))
+        ∷ unknown_lem names.now (text_at_lem (codes "at") (table_view table.now))
+        ∷ repeated_if_lem again.remote (address_text (remote_of_lem (table_view table.now))) ∷ [])) }
+{
+    let name = repeated_if(alloc, again.name, text_at("name", table))?;
+    let at = unknown(alloc, names, text_at("at", table))?;
+    let address = repeated_address(alloc, again.remote, remote_of(table))?;
+    Ok(first(name, first(at, first(address, None))))
+}
+
+/// A policy that a peering names and its router doesn't have.
+fn policy_named(
+    alloc: Global,
+    routers: &[RouterInput],
+    table: &Table,
+) -> Result<Option<BadInput>, NoMemory>
+    ensures { IfOk result (λ bad. bad ≡ first_of (
+        unknown_at_lem (policies_at_lem routers.now (text_at_lem (codes "at") (table_view table.now))) (maybe_text (codes "import") (table_view table.now))
+        ∷ unknown_at_lem (policies_at_lem routers.now (text_at_lem (codes "at") (table_view table.now))) (maybe_text (codes "export") (table_view table.now)) ∷ [])) }
+{
+    let policies = policies_at(alloc, routers, text_at("at", table))?;
+    let import = unknown_at(alloc, &policies, "import", table)?;
+    let export = unknown_at(alloc, &policies, "export", table)?;
+    Ok(first(import, first(export, None)))
+}
+
+/// The first wrong name of a peering, where one before it may have its name or its remote's address.
+fn peering_named(
+    alloc: Global,
+    routers: &[RouterInput],
+    names: &Places,
+    again: Again,
+    table: &Table,
+) -> Result<Option<BadInput>, NoMemory>
+    requires { names.now ≡ map (λ r. r.name) routers.now }
+    ensures { IfOk result (λ bad. bad ≡ peering_flaw routers.now again.name again.remote (table_view table.now)) }
+{
+    let place = place_named(alloc, names, again, table)?;
+    let policy = policy_named(alloc, routers, table)?;
+    Ok(first(place, policy))
+}
+
+/// The first wrong name of peerings.
+pub(crate) fn peerings_named(
+    alloc: Global,
+    routers: &[RouterInput],
+    names: &Places,
+    tables: &[&Table],
+) -> Result<Option<BadInput>, NoMemory>
+    requires { names.now ≡ map (λ r. r.name) routers.now }
+    ensures { IfOk result (λ bad. bad ≡ each_after (peering_named_lem routers.now) [] (map (λ u. table_view u.now) tables.now)) }
+{
+    let mut called = HashSet::new(alloc);
+    let mut remotes = HashSet::new(alloc);
+    for table in tables {
+        let new_name = called.insert(text_at("name", table))?;
+        let new_remote = remotes.insert(remote_of(table))?;
+        let again = Again {
+            name: !new_name,
+            remote: !new_remote,
+        };
+        let found = peering_named(alloc, routers, names, again, table)?;
+        match found {
+            Some(bad) => return Ok(Some(bad)),
+            None => {}
+        }
+    }
+    Ok(None)
+}
+
+// ---- steps
+
+/// The first wrong name of a step of this word.
+fn worded_named(
+    alloc: Global,
+    routers: &Places,
+    peerings: &Places,
+    word: StepWord,
+    table: &Table,
+) -> Result<Option<BadInput>, NoMemory>
+    ensures { IfOk result (λ bad. bad ≡ worded_named_lem word routers.now peerings.now (table_view table.now)) }
+{
+    match word {
+        StepWord::Settles => Ok(None),
+        StepWord::Evacuates => unknown(alloc, routers, text_at("router", table)),
+        StepWord::Grafts => {
+            if let Some(bad) = unknown(alloc, peerings, text_at("peering", table))? {
+                return Ok(Some(bad));
+            }
+            unknown(alloc, routers, text_at("to", table))
+        }
+        _ => unknown(alloc, peerings, text_at("peering", table)),
+    }
+}
+
+/// The first wrong name of steps.
+pub(crate) fn steps_named(
+    alloc: Global,
+    routers: &Places,
+    peerings: &Places,
+    tables: &[&Table],
+) -> Result<Option<BadInput>, NoMemory>
+    ensures { IfOk result (λ bad. bad ≡ first_of (map (λ u. step_named_lem routers.now peerings.now (table_view u.now)) tables.now)) }
+{
+    for table in tables {
+        let word = word_at(table);
+        if let Some(bad) = worded_named(alloc, routers, peerings, word, table)? {
+            return Ok(Some(bad));
+        }
+    }
+    Ok(None)
+}
+
+ghost use Rattle.std.specs.Prelude.{◌∷◌};
+ghost use Rattle.lab_input.specs.Names.{unknown as unknown_lem, unknown_at as unknown_at_lem, repeated_if as repeated_if_lem};
+ghost use Rattle.std.specs.Str.{bytes_eq};

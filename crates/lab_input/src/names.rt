@@ -1,0 +1,146 @@
+//! Names that are repeated, and names of nothing.
+
+ghost use Rattle.std.specs.Prelude.{◌≡◌, [], IfOk};
+ghost use Rattle.toml.specs.View.{table_view};
+ghost use Rattle.bgp_types.specs.Texts.{address_text, prefix_text};
+ghost use Rattle.lab_keys.specs.Values.{maybe_text as maybe_text_lem};
+ghost use Rattle.lab_input.specs.Names.{unknown as unknown_lem, unknown_at as unknown_at_lem, each_after, network_again as network_again_lem, policy_again as policy_again_lem, router_again as router_again_lem, repeated_if as repeated_if_lem};
+
+use crate::bad::BadInput;
+use crate::told::{first, repeated_if};
+use bgp_types::{Address, Name, NoMemory, Prefix};
+use lab_keys::maybe_text;
+use lab_tables::{Places, PolicyInput, RouterInput};
+use std::alloc::Global;
+use std::collections::HashSet;
+use toml::Table;
+
+/// A text that is none of these names.
+pub(crate) fn unknown(
+    alloc: Global,
+    names: &Places,
+    text: &str,
+) -> Result<Option<BadInput>, NoMemory>
+    ensures { IfOk result (λ bad. bad ≡ unknown_lem names.now text.now) }
+{
+    if names.has(text) {
+        return Ok(None);
+    }
+    Ok(Some(BadInput::Unknown(Name::from_text(alloc, text)?)))
+}
+
+/// A text at a key that is none of these names.
+pub(crate) fn unknown_at(
+    alloc: Global,
+    names: &Places,
+    key: &str,
+    table: &Table,
+) -> Result<Option<BadInput>, NoMemory>
+    ensures { IfOk result (λ bad. bad ≡ unknown_at_lem names.now (maybe_text_lem key.now (table_view table.now))) }
+{
+    match maybe_text(key, table) {
+        Some(text) => unknown(alloc, names, text),
+        None => Ok(None),
+    }
+}
+
+/// A repeated address, where a test says so.
+pub(crate) fn repeated_address(
+    alloc: Global,
+    again: bool,
+    address: u32,
+) -> Result<Option<BadInput>, NoMemory>
+    ensures { IfOk result (λ bad. bad ≡ repeated_if_lem again (address_text address)) }
+{
+    if !again {
+        return Ok(None);
+    }
+    let text = format!(in alloc; "{}", Address(address))?;
+    Ok(Some(BadInput::Repeated(Name::from_string(text))))
+}
+
+/// A network that stands there already.
+fn network_again(alloc: Global, again: bool, network: Prefix) -> Result<Option<BadInput>, NoMemory>
+    ensures { IfOk result (λ bad. bad ≡ repeated_if_lem again (prefix_text network)) }
+{
+    if !again {
+        return Ok(None);
+    }
+    let text = format!(in alloc; "{network}")?;
+    Ok(Some(BadInput::Repeated(Name::from_string(text))))
+}
+
+/// The first network of a router that stands there twice.
+fn networks_again(alloc: Global, networks: &[Prefix]) -> Result<Option<BadInput>, NoMemory>
+    ensures { IfOk result (λ bad. bad ≡ each_after network_again_lem [] networks.now) }
+{
+    let mut seen = HashSet::new(alloc);
+    for network in networks {
+        let is_new = seen.insert(*network)?;
+        let found = network_again(alloc, !is_new, *network)?;
+        match found {
+            Some(bad) => return Ok(Some(bad)),
+            None => {}
+        }
+    }
+    Ok(None)
+}
+
+/// The first policy of a router whose name another one before it has.
+fn policies_again(alloc: Global, policies: &[PolicyInput]) -> Result<Option<BadInput>, NoMemory>
+    ensures { IfOk result (λ bad. bad ≡ each_after policy_again_lem [] policies.now) }
+{
+    let mut seen = HashSet::new(alloc);
+    for policy in policies {
+        let name = policy.name.as_str();
+        let is_new = seen.insert(name)?;
+        let found = repeated_if(alloc, !is_new, name)?;
+        match found {
+            Some(bad) => return Ok(Some(bad)),
+            None => {}
+        }
+    }
+    Ok(None)
+}
+
+/// The first name of a router that is repeated, where a router before it may have its name or its identifier.
+fn router_again(
+    alloc: Global,
+    again_name: bool,
+    again_id: bool,
+    router: &RouterInput,
+) -> Result<Option<BadInput>, NoMemory>
+    ensures { IfOk result (λ bad. bad ≡ first_of (repeated_if_lem again_name router.now.name ∷ repeated_if_lem again_id (address_text router.now.id)
+        ∷ each_after network_again_lem [] router.now.networks ∷ each_after policy_again_lem [] router.now.policies ∷ [])) }
+{
+    let name = repeated_if(alloc, again_name, router.name.as_str())?;
+    let id = repeated_address(alloc, again_id, router.id)?;
+    let network = networks_again(alloc, &router.networks)?;
+    let policy = policies_again(alloc, &router.policies)?;
+    Ok(first(name, first(id, first(network, first(policy, None)))))
+}
+
+/// The first name of routers that is repeated.
+pub(crate) fn routers_again(
+    alloc: Global,
+    routers: &[RouterInput],
+) -> Result<Option<BadInput>, NoMemory>
+    ensures { IfOk result (λ bad. bad ≡ each_after router_again_lem [] routers.now) }
+{
+    let mut names = HashSet::new(alloc);
+    let mut ids = HashSet::new(alloc);
+    for router in routers {
+        let name = router.name.as_str();
+        let new_name = names.insert(name)?;
+        let new_id = ids.insert(router.id)?;
+        let found = router_again(alloc, !new_name, !new_id, router)?;
+        match found {
+            Some(bad) => return Ok(Some(bad)),
+            None => {}
+        }
+    }
+    Ok(None)
+}
+
+ghost use Rattle.std.specs.Prelude.{◌∷◌};
+ghost use Rattle.lab_keys.specs.Kinds.{first_of};

@@ -1,0 +1,50 @@
+//! Faults that are told by a text or a number.
+
+ghost use Rattle.std.specs.Prelude.{◌≡◌, IfOk};
+ghost use Rattle.lab_input.specs.Names.{repeated_if as repeated_if_lem};
+ghost use Rattle.lab_input.specs.Counts.{over as over_lem};
+
+use crate::bad::BadInput;
+use bgp_types::{Name, NoMemory};
+use std::alloc::Global;
+
+/// A repeated text, where a test says so.
+pub(crate) fn repeated_if(
+    alloc: Global,
+    again: bool,
+    text: &str,
+) -> Result<Option<BadInput>, NoMemory>
+    ensures { IfOk result (λ bad. bad ≡ repeated_if_lem again text.now) }
+{
+    if !again {
+        return Ok(None);
+    }
+    Ok(Some(BadInput::Repeated(Name::from_text(alloc, text)?)))
+}
+
+/// A count above its limit.
+pub(crate) fn over(
+    alloc: Global,
+    name: &str,
+    most: u64,
+    n: u64,
+) -> Result<Option<BadInput>, NoMemory>
+    ensures { IfOk result (λ bad. bad ≡ over_lem name.now most n) }
+{
+    if n <= most {
+        return Ok(None);
+    }
+    Ok(Some(BadInput::Limit(Name::from_text(alloc, name)?, n)))
+}
+
+/// The first of two faults.
+pub(crate) fn first(fault: Option<BadInput>, later: Option<BadInput>) -> Option<BadInput>
+    ensures { result ≡ option_or fault later }
+{
+    match fault {
+        Some(bad) => Some(bad),
+        None => later,
+    }
+}
+
+ghost use Rattle.std.specs.Option.{option_or};

@@ -1,0 +1,6 @@
+//! The model's laboratory that an input describes.
+#![tactic(auto)]
+
+mod laws;
+
+pub use laws::{accepted_is_a_setup, accepted_is_in_range};
