@@ -1,0 +1,2 @@
+pub mod BadText
+pub mod CheckText
