@@ -3,9 +3,9 @@
 
 mod lab;
 mod pipe;
+mod report;
 mod run;
-mod texts;
 
-pub use lab::{BestEntry, FarView, Lab, Place, RouterTable, RunEnd, SessionView};
+pub use lab::Lab;
+pub use report::report;
 pub use run::run_lab;
-pub use texts::report;
