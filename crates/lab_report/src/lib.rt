@@ -4,11 +4,11 @@
 mod accepted;
 mod lab;
 mod refused;
-mod report;
 mod texts;
+mod whole;
 
 pub use accepted::check_text;
 pub use lab::{BestEntry, FarView, Lab, Place, RouterTable, RunEnd, SessionView, ToldEntry};
 pub use refused::bad_text;
-pub use report::report;
 pub use texts::{push_end, push_log, push_peerings, push_routers};
+pub use whole::report;

@@ -3,9 +3,9 @@
 
 mod lab;
 mod pipe;
-mod report;
 mod run;
+mod whole;
 
 pub use lab::Lab;
-pub use report::report;
 pub use run::run_lab;
+pub use whole::report;
