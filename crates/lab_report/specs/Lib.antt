@@ -1,2 +1,3 @@
 pub mod BadText
 pub mod CheckText
+pub mod Report

@@ -1,2 +1,1 @@
 pub mod Headlines
-pub mod Numbered

@@ -17,11 +17,11 @@ use Rattle.pipe_model.specs.Runs.{Run}
 use Rattle.pipe_model.specs.Worlds.{Session, World, first_world}
 use Rattle.pipe_world.specs.Entries.{entries_after}
 use Rattle.route_policy.specs.declared.best.Best.{Best}
-use Rattle.pipe_lab.specs.declared.lab.BestEntry.{BestEntry}
+use Rattle.lab_report.specs.declared.lab.BestEntry.{BestEntry}
 use Rattle.pipe_lab.specs.declared.lab.Lab.{Lab}
-use Rattle.pipe_lab.specs.declared.lab.Place.TheVariants.{Held}
-use Rattle.pipe_lab.specs.declared.lab.RunEnd.TheVariants.{Settled}
-use Rattle.pipe_lab.specs.declared.lab.SessionView.{SessionView}
+use Rattle.lab_report.specs.declared.lab.Place.TheVariants.{Held}
+use Rattle.lab_report.specs.declared.lab.RunEnd.TheVariants.{Settled}
+use Rattle.lab_report.specs.declared.lab.SessionView.{SessionView}
 
 -- the octets that a step says: its UPDATE, with AS numbers of two octets (RFC 4271, section 4.3)
 abbrev pub said_by : Step → List ℕ
@@ -52,13 +52,13 @@ best_entry e = record { prefix = e.0; from = e.1.from; route = e.1.route }
 abbrev pub session_view : Pipe → Session → SessionView
 session_view pipe s = record { story = record { lines = s.story; remote_as = pipe.remote_as }; heard = table.len s.heard; told = table.len s.told }
 
--- Each session of the peering is held by router 0. The best routes stand in rising prefix.
+-- Each session of the peering is held by router 0. The best routes stand in rising prefix, and there is no other router that tells of any.
 pub record Observed (pipe : Pipe) (w : World) (lab : Lab) : Type 0 where
   pub end : lab.end ≡ Settled
   pub placement : lab.placement ≡ map (λ _. Held (record { 0 = 0 })) (sessions_in w)
   pub sessions : lab.sessions ≡ map (session_view pipe) (sessions_in w)
   pub far : lab.far ≡ record { said = w.said; received = w.received; pointer = record { 0 = w.pointer } } ∷ []
-  pub tables : lab.tables ≡ record { best = map best_entry (table.entries w.best) } ∷ []
+  pub tables : lab.tables ≡ record { best = map best_entry (table.entries w.best); heard = [] } ∷ []
 
 -- ---- the headline
 

@@ -4,8 +4,8 @@
 mod lab;
 mod pipe;
 mod run;
-mod texts;
+mod whole;
 
-pub use lab::{BestEntry, FarView, Lab, Place, RouterTable, RunEnd, SessionView};
+pub use lab::Lab;
 pub use run::run_lab;
-pub use texts::report;
+pub use whole::report;

@@ -1,17 +1,17 @@
 //! The run of an input, and what is seen of the world that it ends in.
 
-ghost use Rattle.std.specs.Prelude.{◌≡◌, IfOk, map};
+ghost use Rattle.std.specs.Prelude.{◌≡◌, [], IfOk, map};
 ghost use Rattle.std.specs.FinMap as table;
 ghost use Rattle.lab_input.specs.Said.{IsReady};
 ghost use Rattle.pipe_world.specs.Views.{Stands, world_of};
 ghost use Rattle.pipe_lab.specs.Seen.{Observed, Headline, best_entry};
-ghost use Rattle.pipe_lab.specs.Report.{AreCounted};
 
-use crate::lab::{BestEntry, FarView, Lab, Place, RouterTable, RunEnd, SessionView};
+use crate::lab::Lab;
 use crate::pipe::pipe_of;
 use bgp_types::{Items, NoMemory, Octets, Prefix, RouterId, TryCopy};
 use graft_edge::Gate;
 use lab_input::LabInput;
+use lab_report::{BestEntry, FarView, Place, RouterTable, RunEnd, SessionView};
 use loc_rib::LocRib;
 use pipe_world::{PipeWorld, run_pipe};
 use route_policy::Best;
@@ -30,7 +30,8 @@ fn entry_of(prefix: Prefix, best: &Best) -> Result<BestEntry, NoMemory>
 
 /// The best routes of a router, in rising prefix.
 fn table_of(alloc: Global, loc: &LocRib) -> Result<RouterTable, NoMemory>
-    ensures { IfOk result (λ t. t.best ≡ map best_entry (table.entries loc.now.best)) }
+    ensures best { IfOk result (λ t. t.best ≡ map best_entry (table.entries loc.now.best)) }
+    ensures heard { IfOk result (λ t. t.heard ≡ []) }
 {
     let mut best = Items::new(alloc);
     let mut last = None;
@@ -40,7 +41,10 @@ fn table_of(alloc: Global, loc: &LocRib) -> Result<RouterTable, NoMemory>
         }
         last = Some(prefix);
     }
-    Ok(RouterTable { best })
+    Ok(RouterTable {
+        best,
+        heard: Items::new(alloc),
+    })
 }
 
 /// What is seen of a world in which nothing is left to do.
@@ -86,7 +90,6 @@ pub fn run_lab<G: Gate>(alloc: Global, input: LabInput, gate: &G) -> Result<Lab,
     requires { IsReady input }
     ensures input { IfOk result (λ lab. lab.input ≡ input) }
     ensures headline { IfOk result (λ lab. Headline lab) }
-    ensures counted { IfOk result (λ lab. AreCounted lab) }
 {
     let pipe = pipe_of(alloc, &input)?;
     let world = run_pipe(alloc, pipe, gate)?;

@@ -10,5 +10,5 @@ returns-clause-observed c =
       placement = c.in_ok-one.ensures;
       sessions = seen_session w c.len-heard.result 0 c.in_ok-one-2.field-0 c.requires.kept.remote c.len-heard.ensures refl c.in_ok-one-2.ensures;
       far = c.in_ok-one-3.ensures ∙ ap (λ r. record { said = w.said; received = r; pointer = w.pipe.start } ∷ []) (c.in_ok-received.ensures ∙ ap (take w.received) c.deref.ensures);
-      tables = c.in_ok-one-4.ensures ∙ ap (λ best. record { best = best } ∷ []) c.in_ok-table.ensures;
+      tables = c.in_ok-one-4.ensures ∙ ap (λ best. record { best = best; heard = c.in_ok-table.table.heard } ∷ []) c.in_ok-table.ensures.best ∙ ap (λ heard. record { best = map best_entry (table.entries w.loc.best); heard = heard } ∷ []) c.in_ok-table.ensures.heard;
     }

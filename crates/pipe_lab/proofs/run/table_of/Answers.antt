@@ -1,7 +1,7 @@
 use Rattle.std.proofs.Common.{◌≡◌, Some, None, sym, ap, ◌∙◌, ◌++◌, List, [], ◌∷◌, map}
 use Rattle.std.specs.Option.{option_copied}
 use Rattle.std.specs.FinMap as table
-use Rattle.pipe_lab.specs.declared.lab.BestEntry.{BestEntry}
+use Rattle.lab_report.specs.declared.lab.BestEntry.{BestEntry}
 use Rattle.pipe_lab.specs.Seen.{best_entry}
 use Rattle.bgp_types.proofs.WalkLaws.{fewer, kept, walk_begins, walk_more, walk_finds, walk_ends}
 use Rattle.pipe_lab.proofs.run.table_of.Goals.{in-Some-get+in_ok-entry_of+in_ok-push, in_default-get}
@@ -28,5 +28,5 @@ loop-prefix-preserved c =
           absurd (walk_finds best_entry (table.entries best) c.loop-prefix.last c.in-Some.prefix (table.entries_sorted best) next (sym (table.get-entries best c.in-Some.prefix) ∙ none))
     ]
 
-pub returns : goal.returns
-returns c = walk_ends best_entry (table.entries c.args.loc.now.best) c.loop-prefix.best c.loop-prefix.last (sym c.next_after.ensures ∙ c.in_default.is) c.loop-prefix.invariant
+pub returns-clause-best : goal.returns-clause-best
+returns-clause-best c = walk_ends best_entry (table.entries c.args.loc.now.best) c.loop-prefix.best c.loop-prefix.last (sym c.next_after.ensures ∙ c.in_default.is) c.loop-prefix.invariant

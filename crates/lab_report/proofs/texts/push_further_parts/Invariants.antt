@@ -1,8 +1,8 @@
 use Rattle.std.proofs.Common.{◌≡◌, ◌++◌, take, string_bytes}
 use Rattle.std.specs.Prelude.{codes}
 use Rattle.std.specs.List.{flat_map}
-use Rattle.pipe_lab.specs.Report.{part_text}
-use Rattle.pipe_lab.proofs.texts.push_further_parts.Given as goal
+use Rattle.lab_report.specs.Report.{part_text}
+use Rattle.lab_report.proofs.texts.push_further_parts.Given as goal
 
 -- the text so far is that of the members so far
 abbrev pub invariant-loop-part : goal.invariant-loop-part

@@ -1,7 +1,7 @@
 use Rattle.std.proofs.Common.{◌≡◌, ◌++◌, map, string_bytes}
 use Rattle.std.specs.List.{flat_map}
-use Rattle.pipe_lab.specs.Report.{best_line}
-use Rattle.pipe_lab.proofs.texts.push_table.Given as goal
+use Rattle.lab_report.specs.Report.{best_line}
+use Rattle.lab_report.proofs.texts.push_table.Given as goal
 
 -- the text so far is that of the members so far
 abbrev pub invariant-loop-entry : goal.invariant-loop-entry
