@@ -26,7 +26,7 @@ use Rattle.graft_model.specs.Parts.{OperatorPart}
 use Rattle.graft_model.specs.OperatorRows.{ReportIn, Notes}
 use Rattle.graft_model.specs.Steps.{Order, operator_row}
 use Rattle.graft_runs.specs.Actors.{OperatorIs, Router, FarSide, Operator, ActorName, actor_at}
-use Rattle.graft_runs.specs.Laws.{ActorsHaveNumbers, NumbersAreOfActors}
+use Rattle.graft_runs.specs.Laws.{ActorsHaveNumbers, NumbersAreOfActors, IsGo}
 use Rattle.graft_actors.specs.Acts.{acts, OwnPart, IsWelcome, MayComeFrom}
 use Rattle.settled_check.specs.Left.{HasUnissued, IsOpen}
 use Rattle.operator_core.specs.declared.grafts.Seat.{Seat}
@@ -42,7 +42,7 @@ use Rattle.operator_core.specs.Issues.{IsHeld, waiting_are}
 use Rattle.operator_core.specs.Tasks.{unissued}
 use Rattle.operator_core.specs.Notes.{graft_noted}
 use Rattle.graft_actors.specs.Notes.{deed_of, WroteOne}
-use Rattle.operator_core.specs.Turns.{NothingToOrder, IsHeldUp}
+use Rattle.operator_core.specs.Turns.{BeginNoGroup, NothingToOrder, IsHeldUp}
 use Rattle.operator_core.specs.Progresses.{state, own_part_of, IsKnown, IsSound, HasSeats, HasEntries, IsOpenPlace, Ends, SameScript, HeldUpTo, IsUnchanged, Visits, Does, Turns, Takes}
 use Rattle.operator_core.proofs.Lists.{compare, all_append_right}
 use Rattle.operator_core.proofs.Steps.{move_there, settle_back, as_many_routers, as_many_steps, number_at}
@@ -87,6 +87,7 @@ pub record Turning {C : Type 0} (start : Progress) (before : Post (Item C)) (pla
   pub deeds : List (Deed (Item C))
   pub wrote : Wrote before deeds after
   pub none : AllByRecursion TakesNone deeds
+  pub no_go : BeginNoGroup deeds
   pub same : SameScript start now
   pub as_many : length now.waiting.items ≡ length start.waiting.items
   pub keeps : Keeps (state now)
@@ -134,6 +135,7 @@ module _ {C : Type 0} where
     deeds = [];
     wrote = wrote_none post;
     none = tt;
+    no_go = tt;
     same = same_script start;
     as_many = refl;
     keeps = keeps;
@@ -148,6 +150,7 @@ module _ {C : Type 0} where
         deeds = t.deeds ++ v.deeds;
         wrote = wrote_then before between after t.deeds v.deeds t.wrote v.wrote;
         none = all-append TakesNone t.deeds v.deeds t.none v.none;
+        no_go = all-append (λ (d : Deed (Item C)). IsGo d.entry → ⊥) t.deeds v.deeds t.no_go v.no_go;
         same = same_then start mid now t.same v.same;
         as_many = v.as_many ∙ t.as_many;
         keeps = v.keeps known_mid t.keeps t.held;
@@ -167,6 +170,7 @@ module _ {C : Type 0} where
       sound = record { known = known_still start now (same_then start last now t.same same) known; keeps = subst Keeps (sym state_is) t.keeps };
     };
     none = t.none;
+    no_go = t.no_go;
     settled = λ step sent after' row. nothing_to_order (state last) t.keeps held step sent after'
         (subst (λ (s : State). operator_row s.setup (Order step) (part_of s) None sent after') state_is
         (subst (λ (s : Setup). operator_row s (Order step) (part_of (state now)) None sent after') (sym (ap (λ k. k.setup) (same.known ∙ t.same.known))) row));

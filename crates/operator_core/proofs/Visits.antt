@@ -36,6 +36,10 @@ use Rattle.operator_core.proofs.Acts.{says, orders}
 pub same_script : (p : Progress) → SameScript p p
 same_script p = record { known = refl; script = refl; numbers = refl; group = refl; next = refl }
 
+-- an order is an event of another kind than the beginning of a group
+no_go : number_of kinds.Order ≡ number_of kinds.Go → ⊥
+no_go e = omega (arith, e)
+
 next_place : (n : ℕ) → n + 1 ≡ suc n
 next_place n = omega arith
 
@@ -57,6 +61,7 @@ module _ {C : Type 0} (old : Progress) (place : ℕ) (task : Task) (there : slic
     deeds = [];
     wrote = wrote_none post;
     none = tt;
+    no_go = tt;
     same = same_script old;
     as_many = refl;
     keeps = λ known keeps helds. keeps;
@@ -104,6 +109,7 @@ module _ {C : Type 0} (old : Progress) (place : ℕ) (task : Task) (there : slic
       deeds = deed_of before (number_of kinds.Order) task.step 0 0 None ((length old.script.rooms + p.0, SayOrder task.step) ∷ []) ∷ [];
       wrote = wrote;
       none = (refl, tt);
+      no_go = (no_go, tt);
       same = then old mid new same mid_new;
       as_many = as_many_tasks waiting;
       keeps = λ known keeps helds. subst Keeps (sym whole) (
@@ -132,6 +138,7 @@ module _ {C : Type 0} (old : Progress) (place : ℕ) (task : Task) (there : slic
       deeds = deed_of before (number_of kinds.Order) task.step 0 0 None ((issued.seat.place.0, GraftOrder (slice_index_or old.numbers task.step 0) p target) ∷ []) ∷ [];
       wrote = issued.wrote;
       none = (refl, tt);
+      no_go = (no_go, tt);
       same = then old mid new issued.same mid_new;
       as_many = as_many_tasks issued.waiting;
       keeps = λ known keeps helds. subst Keeps (sym (whole known))

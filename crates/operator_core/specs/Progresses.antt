@@ -25,7 +25,7 @@ use Rattle.operator_core.specs.Scripts.{IsScriptOf}
 use Rattle.operator_core.specs.Tasks.{unissued}
 use Rattle.operator_core.specs.Grafts.{is_open}
 use Rattle.operator_core.specs.Notes.{graft_noted}
-use Rattle.operator_core.specs.Turns.{NothingToOrder, IsHeldUp}
+use Rattle.operator_core.specs.Turns.{BeginNoGroup, NothingToOrder, IsHeldUp}
 use Rattle.operator_core.specs.Groups.{AreNumbers}
 use Rattle.operator_core.specs.States.{State, part_of}
 use Rattle.operator_core.specs.Keeps.{Keeps}
@@ -110,6 +110,7 @@ module _ {C : Type 0} where
     pub deeds : List (Deed (Item C))
     pub wrote : Wrote before deeds after
     pub none : AllByRecursion TakesNone deeds
+    pub no_go : BeginNoGroup deeds
     pub same : SameScript old new
     pub as_many : length new.waiting.items ≡ length old.waiting.items
     pub keeps : IsKnown old → Keeps (state old) → HeldUpTo old place → Keeps (state new)
@@ -127,6 +128,7 @@ module _ {C : Type 0} where
     pub deeds : List (Deed (Item C))
     pub does : Does old before deeds new after
     pub none : AllByRecursion TakesNone deeds
+    pub no_go : BeginNoGroup deeds
     pub settled : NothingToOrder old.known.setup (part_of (state new))
 
   pub record Takes (from : ℕ) (item : Item C) (old : Progress) (before : Post (Item C)) (new : Progress) (after : Post (Item C)) : Type 0 where

@@ -28,7 +28,7 @@ use Rattle.router_core.specs.declared.fields.Fields.{Fields}
 use Rattle.router_core.specs.declared.place.Place.{Place}
 use Rattle.router_core.specs.declared.place.Place.TheVariants.{Vacant, Live, Shadow}
 use Rattle.router_core.specs.declared.stages.send.Outlet.{Outlet}
-use Rattle.router_core.proofs.Careful.{at_again, at_answer, at_next, careful_again, careful_next, counted_again, counted_next}
+use Rattle.graft_actors.proofs.Careful.{at_again, at_answer, at_next, careful_again, careful_next, counted_again, counted_next}
 use Rattle.router_core.proofs.EmitSteps.{Gives, visits_emitted}
 use Rattle.router_core.proofs.PlaceSteps.{keeps_live, visits_same}
 
