@@ -1,6 +1,7 @@
 -- What is known of a document whose tables have no flaw, and whose names are known.
 use Rattle.std.proofs.Common.{◌≡◌, ℕ, ◌+◌, ◌*◌, ◌/◌, ◌%◌, ◌^◌, ◌<◌, ◌≤◌, Bool, true, false, cond, not, ◌||◌, List, [], ◌∷◌, ◌++◌, length, map, refl, sym, ap, ◌∙◌, subst, arith, nat_lt}
-use Rattle.std.specs.Prelude.{◌==◌, Option, Some, None, option_and_then, unwrap_or, pos, negsuc, codes, is_some, IfSome, Result, Ok, Err, result_unwrap_or}
+use Rattle.std.specs.Prelude.{◌==◌, Option, Some, None, option_and_then, unwrap_or, pos, negsuc, codes, is_some, IfSome, Result, Ok, Err}
+use Rattle.std.specs.Result.{result_unwrap_or}
 use Rattle.hex.specs.Hex.{decode_pairs}
 use Rattle.hex.specs.declared.error.FromHexError.{FromHexError}
 use Rattle.hex.specs.declared.error.FromHexError.TheVariants.{OddLength}
@@ -23,12 +24,15 @@ use Rattle.lab_keys.specs.Kinds.{first_of, flaw_if, beyond, hold_time_flaw, hex_
 use Rattle.lab_keys.specs.KeyRows.{KeyRow}
 use Rattle.lab_keys.specs.Keys.{required, optional, present, key_flaw, keys_flaw, stray_flaw, tables_flaw}
 use Rattle.lab_keys.specs.Texts.{is_hex, octets_in}
-use Rattle.lab_keys.specs.Values.{number_in, number_or, address_or, text_at, maybe_text, octets_at, has, tables_at}
+use Rattle.lab_keys.specs.Values.{number_in, number_or, address_or, text_at, maybe_text, octets_at, has, items_at, tables_at}
 use Rattle.lab_keys.proofs.NoFlaws.{none_left, none_right, IsWithin, number_within, host_required, maybe_fits, tables_all}
 use Rattle.lab_tables.specs.Routers.{router_keys, router_flaw}
-use Rattle.lab_tables.specs.Peerings.{cost_flaw, peering_ends, peering_rest, peering_flaw, opening_of, default_opening, remote_id_of, remote_as4_of}
+use Rattle.lab_tables.specs.Peerings.{cost_flaw, fault_flaw, peering_ends, peering_rest, peering_flaw, opening_of, default_opening, remote_id_of, remote_as4_of}
+use Rattle.lab_tables.specs.declared.input.PeeringInput.{PeeringInput}
+use Rattle.lab_tables.specs.Scripts.{step_flaw}
 use Rattle.lab_tables.specs.Documents.{home_keys, top_names, shaped}
 use Rattle.lab_tables.proofs.Openings.{plain_is, wide_is}
+use Rattle.lab_input.proofs.Ready.{SaysWell, steps_well}
 use Rattle.lab_setup.proofs.Lists.{none_of}
 
 none_some : {A : Type 0} (x : A) → Some x ≡ None → ⊥
@@ -130,6 +134,7 @@ opening_few at t none = by_value (get_member (codes "opening") t) none where
 
 pub record IsPeeringTable (t : Members) : Type 0 where
   pub remote_as : IsWithin 1 4294967295 (number_or 32 0 (codes "remote_as") t)
+  pub address : is_no_host (address_or 0 (codes "remote_address") t) ≡ false
   pub local : is_no_host (address_or 0 (codes "local_address") t) ≡ false
   pub home_hold : is_short_hold (number_or 16 0 (codes "home_hold") t) ≡ false
   pub opening : length (opening_of t) ≤ 4096
@@ -144,6 +149,7 @@ peering_kept doc i t none =
     record {
       remote_as = number_within at t (codes "remote_as") 32 0 1 4294967295 (omega arith)
           (none_of (map (key_flaw at t) peering_ends) 2 (key_flaw at t (required (codes "remote_as") (Number 1 4294967295))) ends refl);
+      address = host_required at t (codes "remote_address") 0 (none_of (map (key_flaw at t) peering_rest) 0 (key_flaw at t (required (codes "remote_address") Host)) rest refl);
       local = host_required at t (codes "local_address") 0 (none_of (map (key_flaw at t) peering_rest) 1 (key_flaw at t (required (codes "local_address") Host)) rest refl);
       home_hold = hold_kept at t (codes "home_hold") 0 (none_of (map (key_flaw at t) peering_rest) 11 (key_flaw at t (optional (codes "home_hold") HoldTime)) rest refl) refl;
       opening = opening_few at t (none_of (map (key_flaw at t) peering_rest) 8 (key_flaw at t (optional (codes "opening") (Hex 0 4096))) rest refl);
@@ -163,6 +169,7 @@ pub record HasTables (doc : Members) : Type 0 where
   pub home_as : IsWithin 1 4294967295 (number_or 32 0 (codes "home_as") doc)
   pub routers : AllByRecursion IsRouterTable (tables_at (codes "router") doc)
   pub peerings : AllByRecursion IsPeeringTable (tables_at (codes "peering") doc)
+  pub steps : (routers : List (List ℕ)) (ps : List PeeringInput) → AllByRecursion (SaysWell routers ps) (tables_at (codes "step") doc)
 
 pub tables_kept : (doc : Members) → shaped doc ≡ None → HasTables doc
 tables_kept doc none =
@@ -173,9 +180,13 @@ tables_kept doc none =
     let c = none_right (tables_flaw tables.Top (codes "router") true 1 8 router_flaw doc) _ b in
     let d = none_right (tables_flaw tables.Top (codes "cost") false 0 56 cost_flaw doc) _ c in
     let peerings = none_left (tables_flaw tables.Top (codes "peering") false 0 32 (peering_flaw doc) doc) _ d in
+    let e = none_right (tables_flaw tables.Top (codes "peering") false 0 32 (peering_flaw doc) doc) _ d in
+    let f = none_right (tables_flaw tables.Top (codes "fault") false 0 1024 fault_flaw doc) _ e in
+    let steps = none_left (tables_flaw tables.Top (codes "step") false 0 4096 (step_flaw (items_at (codes "step") doc)) doc) _ f in
     record {
       home_as = number_within tables.Top doc (codes "home_as") 32 0 1 4294967295 (omega arith)
           (none_of (map (key_flaw tables.Top doc) home_keys) 0 (key_flaw tables.Top doc (required (codes "home_as") (Number 1 4294967295))) home refl);
       routers = tables_all tables.Top doc (codes "router") true 1 8 router_flaw IsRouterTable router_kept routers;
       peerings = tables_all tables.Top doc (codes "peering") false 0 32 (peering_flaw doc) IsPeeringTable (peering_kept doc) peerings;
+      steps = λ routers ps. steps_well doc routers ps steps;
     }

@@ -83,6 +83,10 @@ pub all_numbered : {A B : Type 0} (f : ℕ × A → B) (P : A → Type 0) (Q : B
 all_numbered f P Q each [] i ps = tt
 all_numbered f P Q each (x ∷ xs) i ps = (each i x ps.0, all_numbered f P Q each xs (i + 1) ps.1)
 
+pub all_both : {A : Type 0} (P Q R : A → Type 0) → ((x : A) → P x → Q x → R x) → (xs : List A) → AllByRecursion P xs → AllByRecursion Q xs → AllByRecursion R xs
+all_both P Q R each [] ps qs = tt
+all_both P Q R each (x ∷ xs) ps qs = (each x ps.0 qs.0, all_both P Q R each xs ps.1 qs.1)
+
 pub all_append : {A : Type 0} (P : A → Type 0) (xs ys : List A) → AllByRecursion P xs → AllByRecursion P ys → AllByRecursion P (xs ++ ys)
 all_append P [] ys ps qs = qs
 all_append P (x ∷ xs) ys ps qs = (ps.0, all_append P xs ys ps.1 qs)
@@ -147,6 +151,14 @@ place_of test xs any = ap (λ (t : Bool). unwrap_or (cond t (Some (position_or_l
 pub first_of_text : {A B : Type 0} (test : B → Bool) (f : A → B) (xs : List A) → list_any test (map f xs) ≡ true → slice_get xs (unwrap_or (position test (map f xs)) 0) ≡ find (λ x. test (f x)) xs
 first_of_text test f xs any =
     ap (slice_get xs) (place_of test (map f xs) any ∙ first_mapped test f xs) ∙ first_there (λ x. test (f x)) xs (any_of_mapped test f xs ∙ any)
+
+-- what is found is of all
+pub found_is : {A : Type 0} (P : A → Type 0) (test : A → Bool) (xs : List A) (y : A) → AllByRecursion P xs → find test xs ≡ Some y → P y
+found_is P test [] y all e = absurd (none_is y e)
+found_is P test (x ∷ xs) y all e = by_test (test x) e where
+  by_test : (t : Bool) → cond t (Some x) (find test xs) ≡ Some y → P y
+  by_test true e = subst P (some_is x y e) all.0
+  by_test false e = found_is P test xs y all.1 e
 
 -- ---- counts
 

@@ -44,7 +44,7 @@ use Rattle.lab_setup.proofs.Kept.{IsPeeringTable, IsRouterTable, HasTables, tabl
 use Rattle.lab_setup.proofs.Lists.{IsMadeOf, made_of, some_is, none_is, none_of, none_at, all_at, all_mapped, all_numbered, all_append, first_of_text, get_mapped, get_numbered, length_numbered, get_below, IsIn, below_get, count_numbered}
 use Rattle.lab_setup.proofs.Names.{IsKnown, known, IsNamedPeering, HasNames, names_kept}
 use Rattle.lab_setup.proofs.Names.{number_below as place_below}
-use Rattle.lab_setup.proofs.Said.{said_whole, ends_with_settle}
+use Rattle.lab_setup.proofs.Said.{said_whole, ends_with_settle, all_ended}
 
 -- ---- counts
 
@@ -275,12 +275,6 @@ module _ (doc : Members) (tables : HasTables doc) (names : HasNames doc) (counts
   step_ready Evacuates t none = tt
   step_ready Other t none = tt
 
-  last_ready : (o : Option ScriptStep) → AllByRecursion (IsStep (setup_of input)) (ended_by o)
-  last_ready None = (tt, tt)
-  last_ready (Some (SayStep q bytes)) = (tt, tt)
-  last_ready (Some (MoveStep q target)) = (tt, tt)
-  last_ready (Some SettleStep) = tt
-
   steps_ready : AllByRecursion (IsStep (setup_of input)) (ended (map (script_step (peerings_of doc)) (map (step_of called (peerings_of doc)) (tables_at (codes "step") doc))))
   steps_ready =
       let ts : List Members = tables_at (codes "step") doc in
@@ -290,7 +284,7 @@ module _ (doc : Members) (tables : HasTables doc) (names : HasNames doc) (counts
       all_mapped of (λ t. step_named called remotes t ≡ None) (λ step. IsStep (setup_of input) (script_step (peerings_of doc) step)) (λ t none. step_ready (word_at t) t none) ts names.steps in
       let whole : AllByRecursion (IsStep (setup_of input)) script =
       all_mapped (script_step (peerings_of doc)) (λ step. IsStep (setup_of input) (script_step (peerings_of doc) step)) (IsStep (setup_of input)) (λ step is. is) (map of ts) inputs in
-      all_append (IsStep (setup_of input)) script (ended_by (last_or None script)) whole (last_ready (last_or None script))
+      all_ended (IsStep (setup_of input)) tt script whole
 
   networks_ready : AllByRecursion (λ (r : RouterInput). All IsPrefix r.networks) (routers_of doc)
   networks_ready = all_mapped router_of IsRouterTable (λ (r : RouterInput). All IsPrefix r.networks)

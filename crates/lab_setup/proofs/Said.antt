@@ -1,7 +1,7 @@
 -- What remotes say over a whole script.
 use Rattle.std.proofs.Common.{◌≡◌, ℕ, ◌+◌, ◌<◌, ◌≤◌, Bool, true, false, cond, eqb, List, [], ◌∷◌, ◌++◌, length, map, refl, sym, ap, ◌∙◌, subst, arith}
 use Rattle.std.specs.Prelude.{◌==◌, Option, Some, None, option_map, unwrap_or, slice_get, sum_by}
-use Rattle.std.specs.List.{flat_map, last_or}
+use Rattle.std.specs.List.{AllByRecursion, flat_map, last_or}
 use Rattle.std.proofs.lemmas.Bool.{eqb-true}
 use Rattle.std.proofs.lemmas.List.{length-append}
 use Rattle.bgp_types.specs.declared.message.Message.TheVariants.{UpdateMsg}
@@ -14,6 +14,7 @@ use Rattle.lab_tables.specs.declared.input.Step.TheVariants.{Announce, Withdraw,
 use Rattle.lab_input.specs.Said.{update_of}
 use Rattle.lab_input.specs.Counts.{is_wide, octets_if, said_by}
 use Rattle.lab_setup.specs.Setups.{is_wide_at, script_step, ended_by, ended}
+use Rattle.lab_setup.proofs.Lists.{all_append}
 
 module _ (peerings : List PeeringInput) (p : ℕ) (peering : PeeringInput) (there : slice_get peerings p ≡ Some peering) where
   width : is_wide_at peerings p ≡ is_wide peering
@@ -75,3 +76,12 @@ ends_with_settle steps = by_last (last_or None steps) refl where
   by_last (Some (SayStep q bytes)) e = last_append None steps SettleStep
   by_last (Some (MoveStep q target)) e = last_append None steps SettleStep
   by_last (Some SettleStep) e = no_more None steps ∙ e
+
+-- what is of each step, and of the end of a group
+pub all_ended : (P : ScriptStep → Type 0) → P SettleStep → (steps : List ScriptStep) → AllByRecursion P steps → AllByRecursion P (ended steps)
+all_ended P settle steps all = all_append P steps (ended_by (last_or None steps)) all (by_last (last_or None steps)) where
+  by_last : (o : Option ScriptStep) → AllByRecursion P (ended_by o)
+  by_last None = (settle, tt)
+  by_last (Some (SayStep q bytes)) = (settle, tt)
+  by_last (Some (MoveStep q target)) = (settle, tt)
+  by_last (Some SettleStep) = tt
