@@ -1,10 +1,9 @@
 -- Words ask for one job, and a seed that they name is small.
-use Rattle.std.proofs.Common.{◌≡◌, ℕ, ◌+◌, ◌*◌, ◌<◌, ◌≤◌, List, [], ◌∷◌, length, ap, sym, ◌∙◌, arith, codes}
+use Rattle.std.proofs.Common.{◌≡◌, ℕ, ◌≤◌, List, [], ◌∷◌, length, ap, sym, ◌∙◌, arith, codes}
 use Rattle.std.specs.Prelude.{Option, Some, None}
-use Rattle.std.specs.Char.{digit_value}
 use Rattle.std.specs.Str.Parse.{AllDigits, digits_value}
 use Rattle.lab_words.specs.declared.job.Job.TheVariants.{Run, Check, Make}
-use Rattle.lab_words.specs.Asked.{IsSeedText, IsSeed, Asks}
+use Rattle.lab_words.specs.Asked.{IsSeed, Asks}
 
 same_text : (given : Option (List ℕ)) (a b : List ℕ) → given ≡ Some a → given ≡ Some b → a ≡ b
 same_text given a b is also = cc

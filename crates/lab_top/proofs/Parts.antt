@@ -16,7 +16,7 @@ use Rattle.lab_top.specs.Ends.{AskToRun, Reads, Writes, not_built_text}
 use Rattle.lab_top.specs.declared.finish.Finish.{Finish}
 use Rattle.lab_top.specs.declared.finish.InputStop.{InputStop}
 use Rattle.lab_top.specs.declared.finish.InputStop.TheVariants as stops
-use Rattle.lab_top.specs.Cases.{Outside, ReadsOrStops, WritesOr, FailsUnread, FindsNone, RunsOr, StopsFor, Cause, makes, checks, refuses, runs, Ended, wrote, unread, EndsOr}
+use Rattle.lab_top.specs.Cases.{Outside, ReadsOrStops, WritesOr, FailsUnread, FindsNone, RunsOr, StopsFor, makes, checks, refuses, runs, Ended, wrote, unread, EndsOr}
 
 -- jobs that read the source
 abbrev AskToRead : List (List ℕ) → Type 0

@@ -6,7 +6,7 @@ use Rattle.lab_input.specs.declared.bad.BadInput.{BadInput}
 use Rattle.lab_input.specs.Built.{is_built}
 use Rattle.lab_input.specs.Labs.{input_of, InputOf, too_long}
 use Rattle.lab_words.specs.declared.job.Job.{Job}
-use Rattle.lab_words.specs.declared.job.Job.TheVariants.{Run, Check, Make}
+use Rattle.lab_words.specs.declared.job.Job.TheVariants.{Run, Make}
 use Rattle.lab_words.specs.Asked.{Asks}
 use Rattle.lab_report.specs.BadText.{bad_line}
 use Rattle.lab_report.specs.CheckText.{check_line}

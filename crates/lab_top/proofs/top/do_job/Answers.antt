@@ -2,7 +2,7 @@ use Rattle.std.proofs.Common.{ap, refl, subst}
 use Rattle.std.specs.Prelude.{Err}
 use Rattle.lab_words.specs.Asked.{Asks}
 use Rattle.lab_top.specs.Cases.{usage, wrote}
-use Rattle.lab_top.proofs.Asking.{seed_is_above, seed_is_small}
+use Rattle.lab_top.proofs.Asking.{seed_is_small}
 use Rattle.lab_top.proofs.Parts.{made_ends}
 use Rattle.lab_top.proofs.top.do_job.Goals as goal
 
