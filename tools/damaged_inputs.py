@@ -79,7 +79,7 @@ def main():
     options = argparse.ArgumentParser(usage=__doc__)
     options.add_argument("--count", type=int, default=20000)
     options.add_argument("--seed", type=int, default=7)
-    options.add_argument("command", nargs="+")
+    options.add_argument("command", nargs=argparse.REMAINDER)
     words = sys.argv[1:]
     files = words[words.index("--") + 1 :]
     given = options.parse_args(words[: words.index("--")])
