@@ -19,9 +19,14 @@ pub enum RunEnd {
         pending: Pending,
     },
     /// What is to be put next on the session of this peering would take its stream to this length, above 1,044,480 bytes.
-    StreamFull { peering: PeeringId, length: u32 },
+    StreamFull {
+        peering: PeeringId,
+        length: u32,
+    },
     /// The journals have so many entries, at least 4,194,304.
-    JournalFull { events: u64 },
+    JournalFull {
+        events: u64,
+    },
 }
 
 /// Where the session of a peering is.
