@@ -2,6 +2,7 @@
 
 /// A command: `graftlab WORD.. < INPUT ! read N write N`. The input is a file or `N blanks`, and may be left out, as may what
 /// fails: the calls, from 1, at which the source and the sink do.
+#[derive(Clone, Copy)]
 pub struct Case<'a> {
     pub words: &'a str,
     pub input: &'a str,

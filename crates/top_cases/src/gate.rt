@@ -4,6 +4,7 @@ use graft_edge::Gate;
 use std::sync::atomic::{AtomicU64, Ordering};
 
 /// Counts how often each of the three actors passes.
+#[derive(Drop)]
 pub struct CountingGate {
     passes: [AtomicU64; 3],
 }
