@@ -124,12 +124,16 @@ peering_line input sessions placement p = view_words (slice_get sessions p.0) (p
 
 -- ---- grafts
 
+-- a name, with a text in brackets
+abbrev pub named_text : List ℕ → List ℕ → List ℕ
+named_text name inner = name ++ codes "(" ++ inner ++ codes ")"
+
 abbrev pub refusal_text : Refusal → List ℕ
 refusal_text SameRouter = codes "SameRouter"
-refusal_text (NotEstablished state) = codes "NotEstablished(" ++ state_text state ++ codes ")"
-refusal_text (HoldTooShort hold) = codes "HoldTooShort(" ++ decimal hold ++ codes ")"
-refusal_text (RouterFull room) = codes "RouterFull(" ++ decimal room ++ codes ")"
-refusal_text (PolicyMissing name) = codes "PolicyMissing(" ++ name ++ codes ")"
+refusal_text (NotEstablished state) = named_text (codes "NotEstablished") (state_text state)
+refusal_text (HoldTooShort hold) = named_text (codes "HoldTooShort") (decimal hold)
+refusal_text (RouterFull room) = named_text (codes "RouterFull") (decimal room)
+refusal_text (PolicyMissing name) = named_text (codes "PolicyMissing") name
 
 abbrev pub outcome_text : Outcome → List ℕ
 outcome_text Accepted = codes "accepted"

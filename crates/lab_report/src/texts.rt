@@ -1,8 +1,8 @@
 //! The words and lines of a report.
 
-ghost use Rattle.std.specs.Prelude.{◌≡◌, ◌++◌, OnOk, string_bytes, codes, decimal, slice_get, option_map};
+ghost use Rattle.std.specs.Prelude.{◌≡◌, ◌++◌, OnOk, string_bytes, codes, decimal, slice_get};
 ghost use Rattle.std.specs.List.{flat_map, enumerate_from};
-ghost use Rattle.lab_report.specs.Report.{ases_text, part_text, path_text, from_text, router_name, peering_name, best_line, router_lines, peering_line, named_line, table_lines, place_words, session_words, place_text, state_text, end_words, end_line, refusal_text, outcome_text, stage_text, source_text, graft_line};
+ghost use Rattle.lab_report.specs.Report.{ases_text, part_text, path_text, from_text, router_name, peering_name, best_line, router_lines, peering_line, named_line, table_lines, place_words, session_words, place_text, state_text, end_words, end_line, named_text, refusal_text, outcome_text, stage_text, source_text, graft_line};
 
 use crate::lab::{BestEntry, Place, RouterTable, RunEnd, SessionView};
 use bgp_types::{AsList, AsPath, From, NoMemory, PathPart, SessionState};
@@ -199,8 +199,8 @@ fn state_name(state: SessionState) -> &'static str
 }
 
 /// Where a session is.
-fn push_where(text: &mut String, input: &LabInput, place: Option<&Place>) -> Result<(), NoMemory>
-    ensures { OnOk result (string_bytes text.new ≡ string_bytes text.old ++ place_text input.now (option_map (λ p. p.now) place)) }
+fn push_where(text: &mut String, input: &LabInput, place: Option<Place>) -> Result<(), NoMemory>
+    ensures { OnOk result (string_bytes text.new ≡ string_bytes text.old ++ place_text input.now place) }
 {
     match place {
         Some(Place::Held(router)) => {
@@ -218,9 +218,9 @@ fn push_place(
     text: &mut String,
     input: &LabInput,
     name: &str,
-    place: Option<&Place>,
+    place: Option<Place>,
 ) -> Result<(), NoMemory>
-    ensures { OnOk result (string_bytes text.new ≡ string_bytes text.old ++ place_words name.now (place_text input.now (option_map (λ p. p.now) place))) }
+    ensures { OnOk result (string_bytes text.new ≡ string_bytes text.old ++ place_words name.now (place_text input.now place)) }
 {
     text.push_str("peering ")?;
     text.push_str(name)?;
@@ -254,7 +254,7 @@ fn push_peering(
     let Some(view) = sessions.get(place) else {
         return Ok(());
     };
-    push_place(text, input, peering.name.as_str(), placement.get(place))?;
+    push_place(text, input, peering.name.as_str(), placement.get(place).copied())?;
     push_session(text, view)
 }
 
@@ -303,26 +303,42 @@ pub fn push_end(text: &mut String, input: &LabInput, end: RunEnd) -> Result<(), 
     Ok(())
 }
 
+/// A name, with a text in brackets.
+fn push_named(text: &mut String, name: &str, inner: &str) -> Result<(), NoMemory>
+    ensures { OnOk result (string_bytes text.new ≡ string_bytes text.old ++ named_text name.now inner.now) }
+{
+    text.push_str(name)?;
+    text.push_str("(")?;
+    text.push_str(inner)?;
+    text.push_str(")")?;
+    Ok(())
+}
+
+/// A name, with a number in brackets.
+fn push_counted(text: &mut String, name: &str, count: u32) -> Result<(), NoMemory>
+    ensures { OnOk result (string_bytes text.new ≡ string_bytes text.old ++ named_text name.now (decimal count)) }
+{
+    text.push_str(name)?;
+    text.push_str("(")?;
+    write!(text, "{count}")?;
+    text.push_str(")")?;
+    Ok(())
+}
+
 /// Why a graft was refused.
 fn push_refusal(text: &mut String, refusal: &Refusal) -> Result<(), NoMemory>
     ensures { OnOk result (string_bytes text.new ≡ string_bytes text.old ++ refusal_text refusal.now) }
 {
     match refusal {
-        Refusal::SameRouter => text.push_str("SameRouter")?,
-        Refusal::NotEstablished(state) => {
-            text.push_str("NotEstablished(")?;
-            text.push_str(state_name(*state))?;
-            text.push_str(")")?;
+        Refusal::SameRouter => {
+            text.push_str("SameRouter")?;
+            Ok(())
         }
-        Refusal::HoldTooShort(hold) => write!(text, "HoldTooShort({hold})")?,
-        Refusal::RouterFull(room) => write!(text, "RouterFull({room})")?,
-        Refusal::PolicyMissing(name) => {
-            text.push_str("PolicyMissing(")?;
-            text.push_str(name.as_str())?;
-            text.push_str(")")?;
-        }
+        Refusal::NotEstablished(state) => push_named(text, "NotEstablished", state_name(*state)),
+        Refusal::HoldTooShort(hold) => push_counted(text, "HoldTooShort", *hold),
+        Refusal::RouterFull(room) => push_counted(text, "RouterFull", *room),
+        Refusal::PolicyMissing(name) => push_named(text, "PolicyMissing", name.as_str()),
     }
-    Ok(())
 }
 
 /// How a graft ended.
