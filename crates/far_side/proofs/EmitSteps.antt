@@ -1,6 +1,6 @@
 -- What the remote sends in a turn.
 use Rattle.std.proofs.Common.{◌≡◌, ℕ, zero, suc, ◌+◌, ◌-◌, ◌<◌, ◌≤◌, List, [], ◌∷◌, ◌++◌, length, Option, Some, Bool, false, refl, sym, ap, subst, ◌∙◌, arith, inl, inr, ◌⊎◌, append_assoc}
-use Rattle.std.specs.Prelude.{nat_lt, IsNone, ◌↔◌}
+use Rattle.std.specs.Prelude.{nat_lt, IsNone, ◌↔◌, if◌then◌else◌}
 use Rattle.std.proofs.lemmas.List.{append-nil}
 use Rattle.std.proofs.lemmas.Bool.{cases_lt, lt-ltb, le-ltb}
 use Rattle.ring_net.specs.declared.post.Post.{Post}

@@ -1,8 +1,8 @@
 -- What whole calls of the operator do.
-use Rattle.std.proofs.Common.{◌≡◌, ℕ, zero, suc, ◌+◌, ◌-◌, ◌<◌, ◌≤◌, Bool, true, false, List, [], ◌∷◌, ◌++◌, length, take, drop, filter, map, Option, Some, None, refl, sym, ap, ◌∙◌, subst, inl, inr, arith}
-use Rattle.std.specs.Prelude.{Result, Ok, Err, OnOk, OnErr, IfOk, ◌≢◌, ◌⊎◌, ◌↔◌, slice_get, slice_index_or, is_some, not, IsTrue}
+use Rattle.std.proofs.Common.{◌≡◌, ℕ, zero, suc, ◌+◌, ◌-◌, ◌<◌, ◌≤◌, Bool, true, false, List, [], ◌∷◌, ◌++◌, length, take, drop, filter, Option, Some, None, refl, sym, ap, ◌∙◌, subst, inl, inr, arith}
+use Rattle.std.specs.Prelude.{Result, Ok, Err, OnOk, OnErr, IfOk, ◌≢◌, ◌↔◌, slice_get, slice_index_or, not}
 use Rattle.std.specs.Option.{option_map, option_and_then}
-use Rattle.std.specs.List.{AllByRecursion, find, list_any}
+use Rattle.std.specs.List.{AllByRecursion, list_any}
 use Rattle.std.proofs.lemmas.Option.{slice_get_within}
 use Rattle.session_value.specs.Sessions.{SessionValue}
 use Rattle.ring_net.specs.declared.post.Post.{Post}
@@ -11,8 +11,6 @@ use Rattle.ring_net.specs.Posts.{actor_of, clock_of, Wrote, SameEdges}
 use Rattle.ring_net.proofs.Replays.{all-append, replay-append}
 use Rattle.ring_net.proofs.PostLaws.{wrote_none, wrote_then}
 use Rattle.ring_net.proofs.TakesEach.{same_edges_then}
-use Rattle.graft_edge.specs.declared.ids.PeeringId.{PeeringId}
-use Rattle.graft_edge.specs.declared.ids.RouterId.{RouterId}
 use Rattle.graft_steps.specs.declared.item.Item.{Item}
 use Rattle.graft_steps.specs.declared.item.Item.TheVariants as items
 use Rattle.graft_steps.specs.declared.refusal.Outcome.{Outcome}
@@ -27,12 +25,10 @@ use Rattle.graft_model.specs.OperatorRows.{ReportIn, Notes}
 use Rattle.graft_model.specs.Steps.{Order, operator_row}
 use Rattle.graft_runs.specs.Actors.{OperatorIs, Router, FarSide, Operator, ActorName, actor_at}
 use Rattle.graft_runs.specs.Laws.{ActorsHaveNumbers, NumbersAreOfActors, IsGo}
-use Rattle.graft_actors.specs.Acts.{acts, OwnPart, IsWelcome, MayComeFrom}
-use Rattle.settled_check.specs.Left.{HasUnissued, IsOpen}
-use Rattle.operator_core.specs.declared.grafts.Seat.{Seat}
+use Rattle.graft_actors.specs.Acts.{acts, IsWelcome, MayComeFrom}
 use Rattle.operator_core.specs.declared.groups.Task.{Task}
 use Rattle.operator_core.specs.declared.progress.Progress.{Progress}
-use Rattle.operator_core.specs.declared.script.ScriptStep.TheVariants.{Say, Graft, Settle}
+use Rattle.operator_core.specs.declared.script.ScriptStep.TheVariants.{Graft, Settle}
 use Rattle.operator_core.specs.Grafts.{is_waiting, is_open, outcome_at, source_in, outcome_in}
 use Rattle.operator_core.specs.Scripts.{IsScriptOf}
 use Rattle.operator_core.specs.Groups.{AreNumbers}
@@ -42,18 +38,18 @@ use Rattle.operator_core.specs.Issues.{IsHeld, waiting_are}
 use Rattle.operator_core.specs.Tasks.{unissued}
 use Rattle.operator_core.specs.Notes.{graft_noted}
 use Rattle.graft_actors.specs.Notes.{deed_of, WroteOne}
-use Rattle.operator_core.specs.Turns.{BeginNoGroup, NothingToOrder, IsHeldUp}
-use Rattle.operator_core.specs.Progresses.{state, own_part_of, IsKnown, IsSound, HasSeats, HasEntries, IsOpenPlace, Ends, SameScript, HeldUpTo, IsUnchanged, Visits, Does, Turns, Takes}
+use Rattle.operator_core.specs.Turns.{BeginNoGroup, IsHeldUp}
+use Rattle.operator_core.specs.Progresses.{state, own_part_of, IsKnown, IsSound, HasSeats, HasEntries, IsOpenPlace, Ends, SameScript, HeldUpTo, Visits, Turns, Takes}
 use Rattle.operator_core.proofs.Lists.{compare, all_append_right}
-use Rattle.operator_core.proofs.Steps.{move_there, settle_back, as_many_routers, as_many_steps, number_at}
-use Rattle.operator_core.proofs.Scripts.{graft_of, step_of_graft}
-use Rattle.operator_core.proofs.Logs.{source_at, outcome_is, source_is}
+use Rattle.operator_core.proofs.Steps.{move_there, as_many_routers, as_many_steps, number_at}
+use Rattle.operator_core.proofs.Scripts.{step_of_graft}
+use Rattle.operator_core.proofs.Logs.{source_at}
 use Rattle.operator_core.proofs.Notes.{note_keeps, note_row, note_ordered, was_none}
 use Rattle.operator_core.proofs.Acts.{notes, drops}
 use Rattle.operator_core.proofs.Issues.{entry_there, entry_of_step}
 use Rattle.operator_core.proofs.Tasks.{split_at, all_taken, kept_alike, any_unissued, none_unissued}
 use Rattle.operator_core.proofs.Visits.{same_script}
-use Rattle.operator_core.proofs.Rests.{nothing_to_order, unissued_there, open_there, in_group_before}
+use Rattle.operator_core.proofs.Rests.{nothing_to_order, unissued_there, open_there}
 use Rattle.operator_core.proofs.Begins.{group_of_all}
 
 -- what is known of one progress is known of another with the same script

@@ -1,16 +1,16 @@
 -- How far the operator is, as the program has it.
-use Rattle.std.specs.Prelude.{ℕ, ◌≡◌, ◌≤◌, ◌<◌, ◌+◌, ◌-◌, ◌↔◌, ◌++◌, Bool, true, false, List, [], ◌∷◌, length, take, Option, Some, None, slice_get, slice_index_or}
+use Rattle.std.specs.Prelude.{ℕ, ◌≡◌, ◌≤◌, ◌<◌, ◌+◌, ◌-◌, ◌↔◌, Bool, true, false, List, [], ◌∷◌, length, take, Option, Some, None, slice_get, slice_index_or}
 use Rattle.std.specs.List.{AllByRecursion}
 use Rattle.graft_edge.specs.declared.ids.PeeringId.{PeeringId}
 use Rattle.graft_edge.specs.declared.ids.RouterId.{RouterId}
 use Rattle.session_value.specs.Sessions.{SessionValue}
 use Rattle.ring_net.specs.declared.post.Post.{Post}
-use Rattle.ring_net.specs.Deeds.{Deed, Replay, TakesNone, TakesFirst}
+use Rattle.ring_net.specs.Deeds.{Deed, Replay, TakesNone}
 use Rattle.ring_net.specs.Posts.{actor_of, Wrote}
 use Rattle.graft_steps.specs.declared.log.GraftEntry.{GraftEntry}
 use Rattle.graft_steps.specs.declared.refusal.Outcome.{Outcome}
 use Rattle.graft_steps.specs.declared.item.Item.{Item}
-use Rattle.graft_steps.specs.declared.item.Item.TheVariants.{GraftOrder, SayOrder}
+use Rattle.graft_steps.specs.declared.item.Item.TheVariants.{GraftOrder}
 use Rattle.graft_model.specs.declared.kind.EventKind.TheVariants as kinds
 use Rattle.graft_model.specs.Codes.{number_of}
 use Rattle.graft_model.specs.First.{first_world}
@@ -18,8 +18,7 @@ use Rattle.graft_actors.specs.declared.known.Known.{Known}
 use Rattle.graft_runs.specs.Actors.{OperatorIs, Operator as TheOperator}
 use Rattle.graft_actors.specs.Acts.{OwnPart, acts}
 use Rattle.operator_core.specs.declared.grafts.Seat.{Seat}
-use Rattle.operator_core.specs.declared.script.ScriptStep.{ScriptStep}
-use Rattle.operator_core.specs.declared.script.ScriptStep.TheVariants.{Say, Graft, Settle}
+use Rattle.operator_core.specs.declared.script.ScriptStep.TheVariants.{Graft, Settle}
 use Rattle.operator_core.specs.declared.progress.Progress.{Progress}
 use Rattle.operator_core.specs.Scripts.{IsScriptOf}
 use Rattle.operator_core.specs.Tasks.{unissued}

@@ -2,7 +2,6 @@
 use Rattle.std.proofs.Common.{◌≡◌, ◌≢◌, ℕ, List, [], ◌∷◌, ◌++◌, Option, Some, None, refl, sym, ap, ◌∙◌, subst, inl, inr, arith}
 use Rattle.std.proofs.lemmas.Bool.Decides.{nat_tests}
 use Rattle.ring_net.specs.Deeds.{Deed, items_for}
-use Rattle.journal_merge.specs.Worlds as worlds
 use Rattle.journal_merge.specs.Worlds.{sends_on}
 use Rattle.journal_merge.proofs.Orders.{equal_or_not}
 use Rattle.graft_steps.specs.declared.item.Item.{Item}
@@ -11,7 +10,7 @@ use Rattle.graft_model.specs.Setups.{Setup}
 use Rattle.graft_laws.proofs.Lists.{all_back, all_join}
 use Rattle.graft_runs.specs.Actors.{ActorPart, ActorName, actor_at}
 use Rattle.graft_actors.specs.Items.{MayGo}
-use Rattle.graft_actors.specs.Acts.{OwnPart, SendsFit, acts}
+use Rattle.graft_actors.specs.Acts.{SendsFit}
 use Rattle.world_runs.specs.Labs.{AllMayGo}
 
 none_behind : {A : Type 0} (xs ys : List A) → xs ++ ys ≡ [] → ys ≡ []

@@ -1,5 +1,5 @@
 -- A router sends nothing to itself.
-use Rattle.std.proofs.Common.{◌≡◌, ◌≢◌, ◌==◌, ℕ, zero, suc, ◌<◌, ◌≤◌, Bool, true, false, List, [], ◌∷◌, ◌++◌, Option, if◌then◌else◌, refl, sym, ap, ◌∙◌, subst, inl, inr, arith}
+use Rattle.std.proofs.Common.{◌≡◌, ◌≢◌, ◌==◌, ℕ, zero, suc, Bool, true, false, List, [], ◌∷◌, ◌++◌, Option, if◌then◌else◌, refl, sym, ap, ◌∙◌, subst, inl, inr, arith}
 use Rattle.std.specs.List.{AllByRecursion}
 use Rattle.std.proofs.lemmas.Bool.Decides.{nat_tests}
 use Rattle.bgp_types.specs.Prefixes.{PrefixValue}
@@ -11,7 +11,7 @@ use Rattle.graft_model.specs.Parts.{RouterPart, Mesh, Told, Moved, Back, Done, W
 use Rattle.graft_model.specs.RouterRows.{RouterTaken, RouterSent, MeshTo, OutwardTo, ReportOut}
 use Rattle.graft_model.specs.TableRows.{Tells}
 use Rattle.graft_model.specs.Steps.{RouterEvent, Put, Emit, Arrive, Stray, Got, Decide, Tell, Hear, Admit, Refuse, Freeze, Leave, Land, TurnBack, Return, Clear, Tick, Event, ByRouter, ByFar, ByOperator, Step, router_row}
-use Rattle.graft_laws.specs.Phases.{Ordered, Stored, Halted, Moving, Landed, Returning, Declined, Cleared, Phase, Idle, Busy, only2, mesh_by, InBounds}
+use Rattle.graft_laws.specs.Phases.{Moving, Landed, Returning, Phase, Busy, only2, mesh_by, InBounds}
 use Rattle.graft_laws.specs.Moves.{mesh_taken, mesh_sent, RouterMoves}
 use Rattle.graft_laws.specs.Owned.{mesh_of, Owned}
 use Rattle.graft_laws.specs.Keeps.{Reached}

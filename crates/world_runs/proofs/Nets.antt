@@ -1,5 +1,5 @@
 -- What a net did goes on with its run.
-use Rattle.std.proofs.Common.{◌≡◌, ◌≢◌, ℕ, zero, suc, ◌<◌, ◌≤◌, ◌+◌, ◌-◌, ◌==◌, List, [], ◌∷◌, ◌++◌, length, Option, Some, None, map, if◌then◌else◌, slice_get, slice_index_or, refl, sym, ap, ◌∙◌, subst, inl, inr, arith}
+use Rattle.std.proofs.Common.{◌≡◌, ◌≢◌, ℕ, ◌<◌, ◌≤◌, ◌+◌, List, [], ◌∷◌, ◌++◌, length, Option, Some, None, map, slice_get, slice_index_or, refl, sym, ap, ◌∙◌, subst, inl, inr, arith}
 use Rattle.std.specs.List.{AllByRecursion}
 use Rattle.std.proofs.lemmas.Bool.Decides.{nat_tests}
 use Rattle.std.proofs.lemmas.Option.{slice_get-get_or, slice_get_within}
@@ -10,20 +10,20 @@ use Rattle.ring_net.specs.Phases.{View, IsNew, InOrder, AllAt}
 use Rattle.ring_net.proofs.Replays.{deeds_noted, entries_deeds}
 use Rattle.journal_merge.specs.Worlds as worlds
 use Rattle.journal_merge.specs.Merges.{Interleaves, IsCut, entries_by}
-use Rattle.journal_merge.specs.Growth.{noted_by, IsWorldOf, Grew, RunsTo}
+use Rattle.journal_merge.specs.Growth.{noted_by, Grew, RunsTo}
 use Rattle.journal_merge.specs.Laws.{at_mark}
 use Rattle.journal_merge.proofs.Orders.{equal_or_not, by_here}
 use Rattle.journal_merge.proofs.Runs.{own_here, own_else}
 use Rattle.journal_merge.proofs.Pieces.{cuts_at_level, merge_runs}
 use Rattle.graft_steps.specs.declared.item.Item.{Item}
 use Rattle.session_value.specs.Sessions.{SessionValue}
-use Rattle.graft_model.specs.Setups.{Setup, PeeringSetup, IsSetup, routers_in, peerings_in}
+use Rattle.graft_model.specs.Setups.{Setup, PeeringSetup, IsSetup, routers_in}
 use Rattle.graft_model.specs.Parts.{World}
 use Rattle.graft_model.specs.Quiet.{Quiet}
 use Rattle.graft_model.specs.First.{first_far, first_world}
 use Rattle.graft_laws.specs.Keeps.{Reached}
 use Rattle.graft_laws.proofs.First.{some_peering}
-use Rattle.graft_runs.specs.Actors.{RouterIs, FarIs, OperatorIs, ActorName, Router, FarSide, Operator, number_in, IsActor, actor_at}
+use Rattle.graft_runs.specs.Actors.{FarIs, OperatorIs, ActorName, Router, FarSide, Operator, number_in, IsActor, actor_at}
 use Rattle.graft_runs.specs.Seen.{Net, Sees, IsFirst, part_of}
 use Rattle.graft_runs.specs.Laws.{AreEntriesOf}
 use Rattle.graft_runs.proofs.Numbers.{of_number}

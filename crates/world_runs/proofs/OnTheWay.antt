@@ -1,15 +1,15 @@
 -- What holds of worlds on the way of a run.
-use Rattle.std.proofs.Common.{◌≡◌, ◌≢◌, ℕ, ◌<◌, ◌≤◌, List, [], ◌++◌, length, Option, sym, ap, ◌∙◌, subst, inl, inr, arith}
+use Rattle.std.proofs.Common.{◌≡◌, ℕ, ◌<◌, ◌≤◌, List, length, sym, ap, ◌∙◌, subst, inl, inr, arith}
 use Rattle.std.specs.Prelude.{◌⊎◌}
 use Rattle.tcp_seq.specs.Endpoint.{Endpoint}
 use Rattle.tcp_seq.specs.Connection.{AreLinked}
 use Rattle.session_value.specs.Sessions.{SessionValue}
 use Rattle.graft_model.specs.Setups.{Setup, IsSetup, peerings_in}
-use Rattle.graft_model.specs.Parts.{Place, Vacant, Live, Order, World}
+use Rattle.graft_model.specs.Parts.{Vacant, Live, World}
 use Rattle.graft_model.specs.First.{first_world}
 use Rattle.graft_model.specs.Steps.{Event, Run}
 use Rattle.graft_model.specs.Claims.{Transparent, sessions_of}
-use Rattle.graft_laws.specs.Keeps.{Reached, Has}
+use Rattle.graft_laws.specs.Keeps.{Has}
 use Rattle.graft_laws.specs.Owned.{Owned}
 use Rattle.graft_laws.specs.Streams.{IsUnbroken}
 use Rattle.graft_laws.proofs.Phases.{live_session}

@@ -1,7 +1,6 @@
 -- How a net of the program's actors, whose items are values of the program, is a world.
-use Rattle.std.specs.Prelude.{ℕ, ◌≡◌, ◌<◌, ◌+◌, List, [], Option, Some, None, map, length, slice_get, slice_index_or}
+use Rattle.std.specs.Prelude.{ℕ, ◌≡◌, ◌<◌, ◌+◌, List, [], Option, Some, map, length, slice_get, slice_index_or}
 use Rattle.std.specs.List.{AllByRecursion}
-use Rattle.ring_net.specs.Phases.{View}
 use Rattle.journal_merge.specs.Worlds as worlds
 use Rattle.graft_steps.specs.declared.item.Item.{Item}
 use Rattle.session_value.specs.Sessions.{SessionValue}

@@ -1,6 +1,7 @@
 -- The laws of a net's runs.
-use Rattle.std.specs.Prelude.{ℕ, ◌≡◌, ◌≤◌, ◌<◌, List, [], map, length, Some}
+use Rattle.std.specs.Prelude.{ℕ, ◌≡◌, ◌≢◌, ◌≤◌, ◌<◌, List, [], map, length, Some}
 use Rattle.std.specs.List.{AllByRecursion}
+use Rattle.ring_net.specs.declared.entry.JournalEntry.{JournalEntry}
 use Rattle.ring_net.specs.Deeds.{Deed, Noted, deeds}
 use Rattle.ring_net.specs.Phases.{View, IsNew, InOrder, AllAt}
 use Rattle.journal_merge.specs.Worlds as worlds
@@ -15,7 +16,7 @@ use Rattle.graft_model.specs.Steps.{Event, Run}
 use Rattle.graft_model.specs.Quiet.{Quiet}
 use Rattle.graft_laws.specs.Keeps.{Reached}
 use Rattle.graft_runs.specs.Actors.{ActorName, actor_at}
-use Rattle.graft_runs.specs.Laws.{IsGo}
+use Rattle.graft_runs.specs.Laws.{IsGo, AreEntriesOf}
 use Rattle.graft_runs.specs.Seen.{IsWithin}
 use Rattle.graft_actors.specs.Acts.{OwnPart, acts}
 use Rattle.settled_check.specs.Worlds.{IsOnTheWay}
@@ -38,6 +39,10 @@ module _ {C : Type 0} (session : C → SessionValue) where
   abbrev pub ActsAreARun : Type 0
   ActsAreARun = (setup : Setup) (lab last : worlds.World OwnPart (Item C)) (deeds : List (Deed (Item C))) (w : World) → IsSetup setup → Reached setup w → IsLab session setup lab w
       → AllByRecursion (λ d. d.entry.actor < actors_in setup) deeds → AllByRecursion IsNoGo deeds → worlds.Run (acts session) lab deeds last → IsRunOfLab session setup w (map (λ d. d.entry) deeds) last
+
+-- No entry of events has kind 0, that of an item that is dropped.
+abbrev pub NothingWasDropped : Type 0
+NothingWasDropped = (setup : Setup) (events : List Event) (entries : List JournalEntry) → AreEntriesOf setup events entries → AllByRecursion (λ e. e.kind ≢ 0) entries
 
 -- ---- a net
 

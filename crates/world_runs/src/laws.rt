@@ -2,7 +2,7 @@
 
 ghost use Rattle.session_value.specs.Sessions.{SessionValue};
 ghost use Rattle.graft_actors.specs.Acts.{OwnPart};
-ghost use Rattle.world_runs.specs.Laws.{AnActIsAStep, ActsAreARun, NewNetsRan, RunsGoOn, GoesOn, RunsAreTransparent, WorldsAreOnTheWay, NobodyWritesToItself};
+ghost use Rattle.world_runs.specs.Laws.{AnActIsAStep, ActsAreARun, NothingWasDropped, NewNetsRan, RunsGoOn, GoesOn, RunsAreTransparent, WorldsAreOnTheWay, NobodyWritesToItself};
 
 use graft_actors::acts_are_events;
 use graft_laws::{
@@ -12,10 +12,11 @@ use graft_laws::{
 use graft_runs::{an_event_is_a_step, parts_begin_as_the_first_world};
 
 /// What an actor of the laboratory does is a step of the world, and what actors do one after another is a run: each item that comes on its way is
-/// welcome, so that none is dropped, and no entry has kind 0.
+/// welcome, so that none is dropped. The entries are those of events, and none of these has kind 0, which the entry of a dropped item has.
 pub fn an_act_is_a_step<C>()
     ensures step { (session : C → SessionValue) → AnActIsAStep session }
     ensures run { (session : C → SessionValue) → ActsAreARun session }
+    ensures kept { NothingWasDropped }
 {
     acts_are_events::<C>();
     an_event_is_a_step();
