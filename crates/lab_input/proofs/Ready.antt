@@ -1,13 +1,14 @@
 -- What an input that the program can run is ready for.
-use Rattle.std.proofs.Common.{◌≡◌, ◌≢◌, ℕ, ◌+◌, ◌<◌, ◌≤◌, Bool, true, false, cond, not, eqb, ◌&&◌, List, [], ◌∷◌, ◌++◌, length, map, refl, sym, ap, ◌∙◌, subst, arith}
+use Rattle.std.proofs.Common.{◌≡◌, ◌≢◌, ℕ, ◌+◌, ◌^◌, ◌<◌, ◌≤◌, Bool, true, false, cond, not, eqb, ◌&&◌, List, [], ◌∷◌, ◌++◌, length, map, refl, sym, ap, ◌∙◌, subst, arith}
 use Rattle.std.specs.Prelude.{Option, Some, None, option_map, Result, Ok, Err, sum_by, All, slice_get, codes, nat_lt, unwrap_or}
 use Rattle.std.specs.Option.{option_or}
+use Rattle.std.specs.Result.{result_unwrap_or}
 use Rattle.std.specs.List.{AllByRecursion, IsDistinct, list_all, list_any, position_or_len, position}
 use Rattle.std.specs.Str.{bytes_eq}
 use Rattle.std.proofs.lemmas.Bool.{false≢true, eqb-true}
 use Rattle.std.proofs.lemmas.Bool.Decides.{nat_tests}
 use Rattle.std.proofs.lemmas.List.{append-nil, length-map}
-use Rattle.std.proofs.lemmas.List.Elements.{All-from_recursion, All-nil}
+use Rattle.std.proofs.lemmas.List.Elements.{All-from_recursion, All-nil, All-weaker}
 use Rattle.toml.specs.Data.{Members, get_member}
 use Rattle.bgp_types.specs.declared.attrs.Attrs.{Attrs}
 use Rattle.bgp_types.specs.declared.message.Message.TheVariants.{UpdateMsg}
@@ -33,7 +34,7 @@ use Rattle.lab_tables.specs.declared.input.LabInput.{LabInput}
 use Rattle.lab_tables.specs.declared.input.PeeringInput.{PeeringInput}
 use Rattle.lab_tables.specs.declared.input.RouterInput.{RouterInput}
 use Rattle.lab_tables.specs.declared.input.Step.{Step}
-use Rattle.lab_tables.specs.declared.input.Step.TheVariants.{Announce, Withdraw}
+use Rattle.lab_tables.specs.declared.input.Step.TheVariants.{Announce, Withdraw, Raw, Graft, Settle, Evacuate}
 use Rattle.lab_tables.specs.declared.words.StepWord.{StepWord}
 use Rattle.lab_tables.specs.declared.words.StepWord.TheVariants.{Announces, Withdraws, SaysRaw, Grafts, Settles, Evacuates, Other}
 use Rattle.lab_tables.specs.Meanings.{number_of}
@@ -139,11 +140,11 @@ router_kept i t none =
     let id = none_left (key_flaw (tables.Router i) t (required (codes "id") Host)) _ (none_right (key_flaw (tables.Router i) t (required (codes "name") Name)) _ keys) in
     record { host = host_required (tables.Router i) t (codes "id") 0 id }
 
-record IsRemote (t : Members) : Type 0 where
-  remote_as : IsWithin 1 4294967295 (number_or 32 0 (codes "remote_as") t)
-  address : is_no_host (address_or 0 (codes "remote_address") t) ≡ false
+pub record IsRemote (t : Members) : Type 0 where
+  pub remote_as : IsWithin 1 4294967295 (number_or 32 0 (codes "remote_as") t)
+  pub address : is_no_host (address_or 0 (codes "remote_address") t) ≡ false
 
-remote_kept : (doc : Members) (i : ℕ) (t : Members) → peering_flaw doc i t ≡ None → IsRemote t
+pub remote_kept : (doc : Members) (i : ℕ) (t : Members) → peering_flaw doc i t ≡ None → IsRemote t
 remote_kept doc i t none =
     let at = tables.Peering i in
     let ends = none_left (keys_flaw at peering_ends t) _ none in
@@ -346,7 +347,8 @@ lab_ready doc kept plain =
     ap (λ ps. map (step_of names ps) (tables_at (codes "step") doc)) peerings in
     let steps_plain : list_all is_plain_step (map (step_of names (p ∷ [])) (tables_at (codes "step") doc)) ≡ true = ap (list_all is_plain_step) (sym steps) ∙ plain.steps in
     let of : IsRemoteOf (Some p) = (let few = peering.holds.remote_as.few in omega arith, peering.holds.address) in
-    let said : AllByRecursion Says (map (step_of names (p ∷ [])) (tables_at (codes "step") doc)) =
+    let steps_of : List Step = map (step_of names (p ∷ [])) (tables_at (codes "step") doc) in
+    let said : AllByRecursion Says steps_of =
     steps_said names p (tables_at (codes "step") doc) of (kept.steps names p) steps_plain in
     record {
       router = r;
@@ -361,17 +363,15 @@ lab_ready doc kept plain =
       remote_as = short p.remote_as short_remote;
       remote_host = peering.holds.address;
       few = let h = length-map (tables_at (codes "step") doc) (step_of names (peerings_of doc)) in let few = kept.few in omega arith;
-      steps = subst (All Says) (sym steps) (All-from_recursion Says (map (step_of names (p ∷ [])) (tables_at (codes "step") doc)) said);
+      steps = subst (All (λ (step : Step). IsWritable (UpdateMsg (update_of step)) false)) (sym steps)
+          (All-weaker Says (λ (step : Step). IsWritable (UpdateMsg (update_of step)) false) (λ step says. says false) steps_of (All-from_recursion Says steps_of said));
     }
 
 not_err : (bad : BadInput) (input : LabInput) → Err bad ≡ Ok input → ⊥
 not_err bad input e = let r : Result LabInput BadInput = Err bad in let same : r ≡ Ok input = e in cc
 
-same_ok : (a b : LabInput) → Ok a ≡ Ok b → a ≡ b
-same_ok a b e = let r : Result LabInput BadInput = Ok a in let same : r ≡ Ok b = e in cc
-
 ok_of : (o : Option BadInput) (lab input : LabInput) → unless o lab ≡ Ok input → (o ≡ None) × (lab ≡ input)
-ok_of None lab input e = let none : Option BadInput = None in let first : none ≡ None = refl in (first, same_ok lab input e)
+ok_of None lab input e = let none : Option BadInput = None in let first : none ≡ None = refl in (first, ap (λ (r : Result LabInput BadInput). result_unwrap_or r lab) e)
 ok_of (Some bad) lab input e = absurd (not_err bad input e)
 
 none_mapped : (o : Option Flaw) → option_map bad_of o ≡ None → o ≡ None

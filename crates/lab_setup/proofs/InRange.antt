@@ -1,5 +1,5 @@
 -- The numbers of the laboratory that an input describes are in the ranges of their types, and what its remotes say are octets.
-use Rattle.std.proofs.Common.{◌≡◌, ℕ, ◌^◌, ◌<◌, Bool, true, false, List, [], ◌∷◌, length, map, refl, sym, ap, ◌∙◌, subst, arith, ◌×◌}
+use Rattle.std.proofs.Common.{◌≡◌, ℕ, ◌^◌, ◌<◌, Bool, true, false, List, [], ◌∷◌, length, map, refl, sym, ap, ◌∙◌, subst, arith}
 use Rattle.std.specs.Prelude.{Option, Some, None, option_map, unwrap_or, slice_get, find, codes}
 use Rattle.std.specs.List.{AllByRecursion, enumerate_from}
 use Rattle.std.specs.Str.{bytes_eq}
@@ -101,13 +101,13 @@ step_octets Other routers ps t says = tt
 -- ---- the whole
 
 module _ (doc : Members) (tables : HasTables doc) (names : HasNames doc) where
-  input : LabInput
+  abbrev input : LabInput
   input = lab_of doc
 
-  called : List (List ℕ)
+  abbrev called : List (List ℕ)
   called = router_names_of doc
 
-  remotes : List (List ℕ)
+  abbrev remotes : List (List ℕ)
   remotes = peering_names_of doc
 
   abbrev IsRemote : PeeringInput → Type 0

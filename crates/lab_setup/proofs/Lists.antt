@@ -5,6 +5,7 @@ use Rattle.std.specs.Option.{option_or}
 use Rattle.std.specs.List.{AllByRecursion, enumerate_from, list_any, position_or_len, position}
 use Rattle.std.proofs.lemmas.Bool.{false≢true}
 use Rattle.std.proofs.lemmas.Bool.Decides.{nat_tests}
+use Rattle.std.proofs.lemmas.List.Sums.{sum_by-cons}
 use Rattle.lab_keys.specs.Kinds.{first_of, each_from}
 use Rattle.lab_keys.proofs.NoFlaws.{none_left, none_right}
 use Rattle.lab_tables.proofs.Groups.{any_of_mapped}
@@ -99,7 +100,7 @@ none_of [] k o none e = absurd (none_is o e)
 none_of (f ∷ fs) zero o none e = subst (λ x. x ≡ None) (some_is f o e) (none_left f (first_of fs) none)
 none_of (f ∷ fs) (suc k) o none e = none_of fs k o (none_right f (first_of fs) none) e
 
-pub none_at : {A E : Type 0} (flaw : ℕ → A → Option E) (xs : List A) (i k : ℕ) (x : A) → each_from flaw i xs ≡ None → slice_get xs k ≡ Some x → flaw (i + k) x ≡ None
+none_at : {A E : Type 0} (flaw : ℕ → A → Option E) (xs : List A) (i k : ℕ) (x : A) → each_from flaw i xs ≡ None → slice_get xs k ≡ Some x → flaw (i + k) x ≡ None
 none_at flaw [] i k x none e = absurd (none_is x e)
 none_at flaw (y ∷ xs) i zero x none e =
     let same : i ≡ i + zero = omega arith in
@@ -107,6 +108,11 @@ none_at flaw (y ∷ xs) i zero x none e =
 none_at flaw (y ∷ xs) i (suc k) x none e =
     let same : i + 1 + k ≡ i + suc k = omega arith in
     subst (λ n. flaw n x ≡ None) same (none_at flaw xs (i + 1) k x (none_right (flaw i y) (each_from flaw (i + 1) xs) none) e)
+
+pub none_here : {A E : Type 0} (flaw : ℕ → A → Option E) (xs : List A) (k : ℕ) (x : A) → each_from flaw 0 xs ≡ None → slice_get xs k ≡ Some x → flaw k x ≡ None
+none_here flaw xs k x none e =
+    let same : 0 + k ≡ k = omega arith in
+    subst (λ n. flaw n x ≡ None) same (none_at flaw xs 0 k x none e)
 
 pub none_after : {A : Type 0} (bad : List A → A → Option BadInput) (P : A → Type 0) → ((before : List A) (x : A) → bad before x ≡ None → P x) → (before xs : List A) → each_after bad before xs ≡ None
     → AllByRecursion P xs
@@ -123,19 +129,20 @@ none_mapped f (x ∷ xs) none = (none_left (f x) (first_of (map f xs)) none, non
 
 pub first_below : {A : Type 0} (test : A → Bool) (xs : List A) → list_any test xs ≡ true → position_or_len test xs < length xs
 first_below test [] any = absurd (false≢true any)
-first_below test (x ∷ xs) any = by_test (test x) any where
-  by_test : (t : Bool) → (t || list_any test xs) ≡ true → cond (not t) (1 + position_or_len test xs) 0 < length (x ∷ xs)
-  by_test true any = omega arith
-  by_test false any = let rest = first_below test xs any in omega arith
+first_below test (x ∷ xs) any = by_test (test x) any (first_below test xs) where
+  by_test : (t : Bool) → (t || list_any test xs) ≡ true → (list_any test xs ≡ true → position_or_len test xs < length xs) → cond (not t) (1 + position_or_len test xs) 0 < length (x ∷ xs)
+  by_test true any rest = omega arith
+  by_test false any rest = let here = rest any in omega arith
 
 pub first_there : {A : Type 0} (test : A → Bool) (xs : List A) → list_any test xs ≡ true → slice_get xs (position_or_len test xs) ≡ find test xs
 first_there test [] any = absurd (false≢true any)
-first_there test (x ∷ xs) any = by_test (test x) any where
-  by_test : (t : Bool) → (t || list_any test xs) ≡ true → slice_get (x ∷ xs) (cond (not t) (1 + position_or_len test xs) 0) ≡ cond t (Some x) (find test xs)
-  by_test true any = refl
-  by_test false any =
+first_there test (x ∷ xs) any = by_test (test x) any (first_there test xs) where
+  by_test : (t : Bool) → (t || list_any test xs) ≡ true → (list_any test xs ≡ true → slice_get xs (position_or_len test xs) ≡ find test xs)
+      → slice_get (x ∷ xs) (cond (not t) (1 + position_or_len test xs) 0) ≡ cond t (Some x) (find test xs)
+  by_test true any rest = refl
+  by_test false any rest =
       let next : 1 + position_or_len test xs ≡ suc (position_or_len test xs) = omega arith in
-      ap (slice_get (x ∷ xs)) next ∙ first_there test xs any
+      ap (slice_get (x ∷ xs)) next ∙ rest any
 
 first_mapped : {A B : Type 0} (test : B → Bool) (f : A → B) (xs : List A) → position_or_len test (map f xs) ≡ position_or_len (λ x. test (f x)) xs
 first_mapped test f [] = refl
@@ -155,10 +162,10 @@ first_of_text test f xs any =
 -- what is found is of all
 pub found_is : {A : Type 0} (P : A → Type 0) (test : A → Bool) (xs : List A) (y : A) → AllByRecursion P xs → find test xs ≡ Some y → P y
 found_is P test [] y all e = absurd (none_is y e)
-found_is P test (x ∷ xs) y all e = by_test (test x) e where
-  by_test : (t : Bool) → cond t (Some x) (find test xs) ≡ Some y → P y
-  by_test true e = subst P (some_is x y e) all.0
-  by_test false e = found_is P test xs y all.1 e
+found_is P test (x ∷ xs) y all e = by_test (test x) e (found_is P test xs y all.1) where
+  by_test : (t : Bool) → cond t (Some x) (find test xs) ≡ Some y → (find test xs ≡ Some y → P y) → P y
+  by_test true e rest = subst P (some_is x y e) all.0
+  by_test false e rest = rest e
 
 -- ---- counts
 
@@ -166,4 +173,7 @@ pub count_numbered : {A B : Type 0} (test : B → Bool) (other : A → Bool) (f 
     → count_by test (map f (enumerate_from i xs)) ≡ count_by other xs
 count_numbered test other f same [] i = refl
 count_numbered test other f same (x ∷ xs) i =
-    ap (λ (t : Bool). cond t 1 0 + count_by test (map f (enumerate_from (i + 1) xs))) (same i x) ∙ ap (λ n. cond (other x) 1 0 + n) (count_numbered test other f same xs (i + 1))
+    sum_by-cons (λ y. cond (test y) 1 0) (f (i, x)) (map f (enumerate_from (i + 1) xs))
+    ∙ ap (λ (t : Bool). cond t 1 0 + count_by test (map f (enumerate_from (i + 1) xs))) (same i x)
+    ∙ ap (λ n. cond (other x) 1 0 + n) (count_numbered test other f same xs (i + 1))
+    ∙ sym (sum_by-cons (λ y. cond (other y) 1 0) x xs)

@@ -250,18 +250,30 @@ update_octets wide u withdrawn nlri has =
 
 default_octets : (as_number hold identifier : ℕ) (as4 : Bool) → AreOctets (default_opening as_number hold identifier as4)
 default_octets a h i false =
-    let bytes = plain_head ++ to_be_bytes w16 (narrow_as a) ++ to_be_bytes w16 h ++ to_be_bytes w32 i ++ plain_tail in
-    let each : Each bytes =
-    joined plain_head _ (tested plain_head refl) (joined (to_be_bytes w16 (narrow_as a)) _ (number_each w16 (narrow_as a)) (joined (to_be_bytes w16 h) _ (number_each w16 h)
+    let fourth = to_be_bytes w32 i ++ plain_tail in
+    let third = to_be_bytes w16 h ++ fourth in
+    let second = to_be_bytes w16 (narrow_as a) ++ third in
+    let each : Each (plain_head ++ second) =
+    joined plain_head second (tested plain_head refl)
+    (joined (to_be_bytes w16 (narrow_as a)) third (number_each w16 (narrow_as a))
+    (joined (to_be_bytes w16 h) fourth (number_each w16 h)
     (joined (to_be_bytes w32 i) plain_tail (number_each w32 i) (tested plain_tail refl)))) in
-    subst AreOctets (plain_is a h i) (octets_are bytes each)
+    subst AreOctets (plain_is a h i) (octets_are (plain_head ++ second) each)
 default_octets a h i true =
-    let cap = 8 ∷ 2 ∷ 6 ∷ 65 ∷ 4 ∷ [] in
-    let bytes = wide_head ++ to_be_bytes w16 (narrow_as a) ++ to_be_bytes w16 h ++ to_be_bytes w32 i ++ cap ++ to_be_bytes w32 a ++ wide_tail in
-    let each : Each bytes =
-    joined wide_head _ (tested wide_head refl) (joined (to_be_bytes w16 (narrow_as a)) _ (number_each w16 (narrow_as a)) (joined (to_be_bytes w16 h) _ (number_each w16 h)
-    (joined (to_be_bytes w32 i) _ (number_each w32 i) (joined cap _ (tested cap refl) (joined (to_be_bytes w32 a) wide_tail (number_each w32 a) (tested wide_tail refl)))))) in
-    subst AreOctets (wide_is a h i) (octets_are bytes each)
+    let cap : List ℕ = 8 ∷ 2 ∷ 6 ∷ 65 ∷ 4 ∷ [] in
+    let sixth = to_be_bytes w32 a ++ wide_tail in
+    let fifth = cap ++ sixth in
+    let fourth = to_be_bytes w32 i ++ fifth in
+    let third = to_be_bytes w16 h ++ fourth in
+    let second = to_be_bytes w16 (narrow_as a) ++ third in
+    let each : Each (wide_head ++ second) =
+    joined wide_head second (tested wide_head refl)
+    (joined (to_be_bytes w16 (narrow_as a)) third (number_each w16 (narrow_as a))
+    (joined (to_be_bytes w16 h) fourth (number_each w16 h)
+    (joined (to_be_bytes w32 i) fifth (number_each w32 i)
+    (joined cap sixth (tested cap refl)
+    (joined (to_be_bytes w32 a) wide_tail (number_each w32 a) (tested wide_tail refl)))))) in
+    subst AreOctets (wide_is a h i) (octets_are (wide_head ++ second) each)
 
 none_octets : AreOctets []
 none_octets i = lit< tt

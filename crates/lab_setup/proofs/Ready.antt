@@ -1,5 +1,5 @@
 -- The laboratory that an input describes is one that the model's world can begin with.
-use Rattle.std.proofs.Common.{◌≡◌, ℕ, ◌+◌, ◌^◌, ◌<◌, ◌≤◌, Bool, true, false, cond, eqb, List, [], ◌∷◌, ◌++◌, length, map, refl, sym, ap, ◌∙◌, subst, arith, ◌×◌}
+use Rattle.std.proofs.Common.{◌≡◌, ℕ, ◌+◌, ◌^◌, ◌<◌, ◌≤◌, Bool, true, false, cond, eqb, List, [], ◌∷◌, ◌++◌, length, map, refl, sym, ap, ◌∙◌, subst, arith}
 use Rattle.std.specs.Prelude.{◌==◌, ◌&&◌, not, ◌||◌, Option, Some, None, option_map, unwrap_or, slice_get, sum_by, count_by, All, find, is_none, codes, nat_lt, is_some, if◌then◌else◌}
 use Rattle.std.specs.Option.{option_or, option_map_or}
 use Rattle.std.specs.List.{AllByRecursion, enumerate_from, flat_map, last_or, list_any, list_all}
@@ -41,7 +41,7 @@ use Rattle.lab_input.specs.Counts.{over, grafts_of, settles_of, added_settle, pr
 use Rattle.lab_setup.specs.Setups.{named_rules, router_setup, identifier_at, config_of, peering_setup, script_step, ended_by, ended, setup_of}
 use Rattle.lab_input.proofs.Ready.{IsAccepted, accepted}
 use Rattle.lab_setup.proofs.Kept.{IsPeeringTable, IsRouterTable, HasTables, tables_kept, number_below}
-use Rattle.lab_setup.proofs.Lists.{IsMadeOf, made_of, some_is, none_is, none_of, none_at, all_at, all_mapped, all_numbered, all_append, first_of_text, get_mapped, get_numbered, length_numbered, get_below, IsIn, below_get, count_numbered}
+use Rattle.lab_setup.proofs.Lists.{IsMadeOf, made_of, some_is, none_is, none_of, none_here, all_at, all_mapped, all_numbered, all_append, first_of_text, get_mapped, get_numbered, length_numbered, get_below, IsIn, below_get, count_numbered}
 use Rattle.lab_setup.proofs.Names.{IsKnown, known, IsNamedPeering, HasNames, names_kept}
 use Rattle.lab_setup.proofs.Names.{number_below as place_below}
 use Rattle.lab_setup.proofs.Said.{said_whole, ends_with_settle, all_ended}
@@ -61,7 +61,7 @@ not_over name most n none = by_test (nat_lt most n) refl none where
       no_more a b e = grind (arith, nat_tests)
 
 -- what is known of an input whose counts are within their limits
-record HasCounts (input : LabInput) : Type 0 where
+pub record HasCounts (input : LabInput) : Type 0 where
   room : (r : ℕ) (router : RouterInput) → slice_get input.routers r ≡ Some router → peerings_at input.peerings r ≤ router.sessions
   said : (p : ℕ) (peering : PeeringInput) → slice_get input.peerings p ≡ Some peering → said_on input.steps p peering ≤ most_said peering
 
@@ -78,8 +78,8 @@ counts_kept input none =
     let no_room : rooms ≡ None = none_of flaws 3 rooms none refl in
     let no_said : saids ≡ None = none_of flaws 4 saids none refl in
     record {
-      room = λ r router there. not_over (codes "sessions") router.sessions (peerings_at input.peerings r) (none_at (room_flaw input.peerings) input.routers 0 r router no_room there);
-      said = λ p peering there. not_over (codes "said") (most_said peering) (said_on input.steps p peering) (none_at (said_flaw input.steps) input.peerings 0 p peering no_said there);
+      room = λ r router there. not_over (codes "sessions") router.sessions (peerings_at input.peerings r) (none_here (room_flaw input.peerings) input.routers r router no_room there);
+      said = λ p peering there. not_over (codes "said") (most_said peering) (said_on input.steps p peering) (none_here (said_flaw input.steps) input.peerings p peering no_said there);
     }
 
 at_most : (a b c : ℕ) → a ≡ b → b ≤ c → c ≤ 2 ^ 20 → a ≤ 2 ^ 20
@@ -93,10 +93,10 @@ most_is false = omega arith
 
 found : {A : Type 0} (test : A → Bool) (xs : List A) → list_any test xs ≡ true → is_none (find test xs) ≡ false
 found test [] any = absurd (false≢true any)
-found test (x ∷ xs) any = by_test (test x) any where
-  by_test : (t : Bool) → cond t true (list_any test xs) ≡ true → is_none (cond t (Some x) (find test xs)) ≡ false
-  by_test true any = refl
-  by_test false any = found test xs any
+found test (x ∷ xs) any = by_test (test x) any (found test xs) where
+  by_test : (t : Bool) → (t || list_any test xs) ≡ true → (list_any test xs ≡ true → is_none (find test xs) ≡ false) → is_none (cond t (Some x) (find test xs)) ≡ false
+  by_test true any rest = refl
+  by_test false any rest = rest any
 
 none_mapped : {A B : Type 0} (f : A → B) (o : Option A) → is_none (option_map f o) ≡ is_none o
 none_mapped f None = refl
@@ -109,15 +109,15 @@ any_named name (p ∷ ps) = ap (λ t. bytes_eq name p.name || t) (any_named name
 -- ---- the routers of the setup
 
 module _ (input : LabInput) where
-  router_there : (r : ℕ) (x : RouterInput) → slice_get input.routers r ≡ Some x → slice_get (setup_of input).routers r ≡ Some (router_setup input (r, x))
+  pub router_there : (r : ℕ) (x : RouterInput) → slice_get input.routers r ≡ Some x → slice_get (setup_of input).routers r ≡ Some (router_setup input (r, x))
   unfolding setup_of
   router_there r x e = get_numbered (router_setup input) input.routers r ∙ ap (option_map (λ y. router_setup input (r, y))) e
 
-  as_many_routers : routers_in (setup_of input) ≡ length input.routers
+  pub as_many_routers : routers_in (setup_of input) ≡ length input.routers
   unfolding setup_of
   as_many_routers = length_numbered (router_setup input) input.routers
 
-  as_many_peerings : peerings_in (setup_of input) ≡ length input.peerings
+  pub as_many_peerings : peerings_in (setup_of input) ≡ length input.peerings
   unfolding setup_of
   as_many_peerings = length_numbered (peering_setup input) input.peerings
 
@@ -158,23 +158,23 @@ beats_kept true beat said few some = few
 beats_kept false beat said few some = absurd (omega arith)
 
 module _ (doc : Members) (tables : HasTables doc) (names : HasNames doc) (counts : HasCounts (lab_of doc)) where
-  input : LabInput
+  abbrev input : LabInput
   input = lab_of doc
 
-  called : List (List ℕ)
+  abbrev called : List (List ℕ)
   called = router_names_of doc
 
   hosts : AllByRecursion (λ (r : RouterInput). is_no_host r.id ≡ false) (routers_of doc)
   hosts = all_mapped router_of IsRouterTable (λ (r : RouterInput). is_no_host r.id ≡ false) (λ t is. is.host) (tables_at (codes "router") doc) tables.routers
 
   module _ (p : ℕ) (t : Members) (at : slice_get (tables_at (codes "peering") doc) p ≡ Some t) (table : IsPeeringTable t) (name : IsNamedPeering (routers_of doc) t) where
-    x : PeeringInput
+    abbrev x : PeeringInput
     x = peering_of doc called t
 
     there : slice_get (peerings_of doc) p ≡ Some x
     there = get_mapped (peering_of doc called) (tables_at (codes "peering") doc) p ∙ ap (option_map (peering_of doc called)) at
 
-    start : ℕ
+    abbrev start : ℕ
     start = number_of called (text_at (codes "at") t)
 
     start_below : start < length (routers_of doc)
@@ -244,7 +244,7 @@ module _ (doc : Members) (tables : HasTables doc) (names : HasNames doc) (counts
 
   -- ---- steps
 
-  remotes : List (List ℕ)
+  abbrev remotes : List (List ℕ)
   remotes = peering_names_of doc
 
   peering_below : (text : List ℕ) → unknown remotes text ≡ None → number_of remotes text < peerings_in (setup_of input)

@@ -4,6 +4,7 @@ use Rattle.std.specs.Prelude.{◌==◌, Option, Some, None, option_map, unwrap_o
 use Rattle.std.specs.List.{AllByRecursion, flat_map, last_or}
 use Rattle.std.proofs.lemmas.Bool.{eqb-true}
 use Rattle.std.proofs.lemmas.List.{length-append}
+use Rattle.std.proofs.lemmas.List.Sums.{sum_by-cons}
 use Rattle.bgp_types.specs.declared.message.Message.TheVariants.{UpdateMsg}
 use Rattle.bgp_types.specs.Spelling.{spell}
 use Rattle.graft_model.specs.Setups.{ScriptStep, SayStep, MoveStep, SettleStep}
@@ -48,6 +49,7 @@ module _ (peerings : List PeeringInput) (p : ℕ) (peering : PeeringInput) (ther
       length-append (said_in_model p (script_step peerings step)) (flat_map (said_in_model p) (map (script_step peerings) steps ++ more))
       ∙ ap (λ n. n + length (flat_map (said_in_model p) (map (script_step peerings) steps ++ more))) (said_step step)
       ∙ ap (λ n. said_by (is_wide peering) p step + n) (said_steps steps more nothing)
+      ∙ sym (sum_by-cons (said_by (is_wide peering) p) step steps)
 
   nothing_more : (o : Option ScriptStep) → length (flat_map (said_in_model p) (ended_by o)) ≡ 0
   nothing_more None = refl
