@@ -1,2 +1,2 @@
-pub mod Notes
-pub mod Walks
+pub mod Places
+pub mod Moves

@@ -1,10 +1,10 @@
 -- Which routes an UPDATE changed.
-use Rattle.std.specs.Prelude.{◌≡◌, ◌≢◌, List, Option, None, false, All, is_some, if◌then◌else◌}
-use Rattle.std.specs.Option.{IfSome}
+use Rattle.std.specs.Prelude.{◌≡◌, ◌≢◌, List, Option, None, true, false, All, if◌then◌else◌}
 use Rattle.std.specs.FinMap as map
 use Rattle.std.specs.List.{list_any}
 use Rattle.std.specs.List.Sorted.{IsStrictlySortedBy}
 use Rattle.bgp_types.specs.declared.attrs.Attrs.{Attrs}
+use Rattle.bgp_types.specs.declared.message.Update.{Update}
 use Rattle.bgp_types.specs.Prefixes.{PrefixValue, same_prefix}
 use Rattle.bgp_types.specs.Tables.{prefix_cmp}
 use Rattle.bgp_story.specs.Readings.{Routes}
@@ -15,17 +15,17 @@ pub record Changed (before after : Routes) (prefixes : List PrefixValue) : Type 
   pub changed : All (λ p. map.get after p ≢ map.get before p) prefixes
   pub others : (p : PrefixValue) → list_any (same_prefix p) prefixes ≡ false → map.get after p ≡ map.get before p
 
--- ---- notes of what prefixes had
+-- ---- an UPDATE, prefix by prefix
 
--- for prefixes the route that each had, or that it had none
-abbrev pub Notes : Type 0
-Notes = map.FinMap prefix_cmp (Option Attrs)
+-- The attributes that an UPDATE gives its prefixes: a prefix that it withdraws has none, unless it announces it too (RFC 4271, section 4.3).
+abbrev pub given : Update → PrefixValue → Option Attrs
+given u p = if list_any (same_prefix p) u.nlri then u.attrs else None
 
--- the first note of a prefix stays
-abbrev pub noted : Notes → PrefixValue → Option Attrs → Notes
-noted notes p had = if is_some (map.get notes p) then notes else map.insert notes p had
+-- a withdrawal, which leaves what is announced
+abbrev pub withdraw_unless : List PrefixValue → Routes → PrefixValue → Routes
+withdraw_unless announced routes p = if list_any (same_prefix p) announced then routes else map.remove routes p
 
--- Each note is of what its prefix had before. A prefix without a note has the same now.
-pub record Tracks (before now : Routes) (notes : Notes) : Type 0 where
-  pub noted : (p : PrefixValue) → IfSome (map.get notes p) (λ had. had ≡ map.get before p)
-  pub others : (p : PrefixValue) → map.get notes p ≡ None → map.get now p ≡ map.get before p
+-- Each prefix of the list has what it is given, and had something else before. A prefix that isn't in the list has what it had before.
+pub record Moved (to : PrefixValue → Option Attrs) (before now : Routes) (prefixes : List PrefixValue) : Type 0 where
+  pub moved : (p : PrefixValue) → list_any (same_prefix p) prefixes ≡ true → (map.get now p ≡ to p) × (map.get now p ≢ map.get before p)
+  pub others : (p : PrefixValue) → list_any (same_prefix p) prefixes ≡ false → map.get now p ≡ map.get before p

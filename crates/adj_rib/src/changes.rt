@@ -1,42 +1,84 @@
-//! What an UPDATE does to routes, with notes of what they were.
+//! What an UPDATE does to routes, with a list of the prefixes that have another route then.
 
-ghost use Rattle.std.specs.Prelude.{◌≡◌, ◌≢◌, MatchBool, fold, option_copied, IfOk, OnOk};
+ghost use Rattle.std.specs.Prelude.{◌≡◌, ◌≢◌, Option, None, Some, true, MatchBool, fold, is_some, IfOk, OnOk};
 ghost use Rattle.std.specs.FinMap as map;
+ghost use Rattle.std.specs.List.{list_any};
+ghost use Rattle.std.specs.List.Sorted.{IsStrictlySortedBy};
+ghost use Rattle.bgp_types.specs.declared.attrs.Attrs.{Attrs};
+ghost use Rattle.bgp_types.specs.Prefixes.{PrefixValue, same_prefix};
+ghost use Rattle.bgp_types.specs.Tables.{prefix_cmp};
 ghost use Rattle.bgp_story.specs.Readings.{Routes, announce as announced};
-ghost use Rattle.adj_rib.specs.Changes.{Changed, Tracks, noted};
+ghost use Rattle.adj_rib.specs.Changes.{Moved, given, withdraw_unless};
 
-use bgp_types::{Attrs, Items, NoMemory, Prefix, PrefixList, Table, TryCopy};
+use bgp_types::{Attrs, Items, NoMemory, Prefix, PrefixList, Table, TryCopy, Update};
 use prefix_trie::TrieTable;
 use std::alloc::Global;
 
-/// For prefixes the route that each had, or that it had none.
-pub type Notes = TrieTable<Option<Attrs>>;
-
-/// Notes what a prefix had. An earlier note of it stays.
-fn note(notes: &mut Notes, prefix: Prefix, had: Option<Attrs>) -> Result<(), NoMemory>
-    ensures { OnOk result (notes.new.contents ≡ noted notes.old.contents prefix had) }
+/// The same prefixes, each once, in rising order.
+pub fn in_order(prefixes: PrefixList) -> PrefixList
+    ensures rising { IsStrictlySortedBy prefix_cmp result }
+    ensures same { (p : PrefixValue) → list_any (same_prefix p) result ≡ list_any (same_prefix p) prefixes }
 {
-    if notes.get(prefix).is_some() {
-        return Ok(());
-    }
-    match notes.set(prefix, had) {
-        Ok(_) => Ok(()),
-        Err(_) => Err(NoMemory),
-    }
+    let mut prefixes = prefixes.into_vec();
+    prefixes.sort_unstable();
+    prefixes.dedup();
+    Items::from_vec(prefixes)
 }
 
-/// Takes the prefixes out, and notes what each had.
+/// Whether a prefix is among prefixes in rising order.
+fn is_among(prefix: Prefix, prefixes: &[Prefix]) -> bool
+    requires { IsStrictlySortedBy prefix_cmp prefixes.now }
+    ensures { result ≡ list_any (same_prefix prefix) prefixes.now }
+{
+    prefixes.binary_search(&prefix).is_ok()
+}
+
+/// The prefixes that an UPDATE announces, each once, in rising order.
+pub fn list_announced(alloc: Global, update: &Update) -> Result<PrefixList, NoMemory>
+    ensures rising { IfOk result (λ prefixes. IsStrictlySortedBy prefix_cmp prefixes) }
+    ensures given { IfOk result (λ prefixes. (p : PrefixValue) → list_any (same_prefix p) prefixes ≡ is_some (given update.now p)) }
+{
+    if update.attrs.is_none() {
+        return Ok(Items::new(alloc));
+    }
+    Ok(in_order(Items::from_slice(alloc, update.nlri.as_slice())?))
+}
+
+/// Takes a prefix out unless it is announced, and lists it where it was there. `announced` is in rising order.
+fn withdraw_one(
+    routes: &mut TrieTable<Attrs>,
+    prefix: Prefix,
+    announced: &[Prefix],
+    changed: &mut PrefixList,
+) -> Result<(), NoMemory>
+    requires { IsStrictlySortedBy prefix_cmp announced.now }
+    ensures routes { OnOk result (routes.new.contents ≡ withdraw_unless announced.now routes.old.contents prefix) }
+    ensures changed { OnOk result ((before : Routes) (to : PrefixValue → Option Attrs) → list_any (same_prefix prefix) announced.now ≡ is_some (to prefix)
+        → Moved to before routes.old.contents changed.old → Moved to before routes.new.contents changed.new) }
+{
+    if is_among(prefix, announced) {
+        return Ok(());
+    }
+    if routes.remove(prefix).is_some() {
+        changed.push(prefix)?;
+    }
+    Ok(())
+}
+
+/// Takes the prefixes out that aren't announced, and lists those that were there. `announced` is in rising order.
 pub fn withdraw(
     routes: &mut TrieTable<Attrs>,
-    notes: &mut Notes,
     prefixes: &[Prefix],
+    announced: &[Prefix],
+    changed: &mut PrefixList,
 ) -> Result<(), NoMemory>
-    ensures routes { OnOk result (routes.new.contents ≡ fold map.remove routes.old.contents prefixes.now) }
-    ensures notes { OnOk result ((before : Routes) → Tracks before routes.old.contents notes.old.contents → Tracks before routes.new.contents notes.new.contents) }
+    requires { IsStrictlySortedBy prefix_cmp announced.now }
+    ensures routes { OnOk result (routes.new.contents ≡ fold (withdraw_unless announced.now) routes.old.contents prefixes.now) }
+    ensures changed { OnOk result ((before : Routes) (to : PrefixValue → Option Attrs) → ((p : PrefixValue) → list_any (same_prefix p) announced.now ≡ is_some (to p))
+        → Moved to before routes.old.contents changed.old → Moved to before routes.new.contents changed.new) }
 {
     for prefix in prefixes {
-        let had = routes.remove(*prefix);
-        note(notes, *prefix, had)?;
+        withdraw_one(routes, *prefix, announced, changed)?;
     }
     Ok(())
 }
@@ -56,62 +98,49 @@ fn set_copy(
     }
 }
 
-/// Gives each of the prefixes this route, and notes what it had.
-pub fn announce(
-    routes: &mut TrieTable<Attrs>,
-    notes: &mut Notes,
-    attrs: &Attrs,
-    prefixes: &[Prefix],
-) -> Result<(), NoMemory>
-    ensures routes { OnOk result (routes.new.contents ≡ fold (announced (Some attrs.now)) routes.old.contents prefixes.now) }
-    ensures notes { OnOk result ((before : Routes) → Tracks before routes.old.contents notes.old.contents → Tracks before routes.new.contents notes.new.contents) }
-{
-    for prefix in prefixes {
-        let had = set_copy(routes, *prefix, attrs)?;
-        note(notes, *prefix, had)?;
-    }
-    Ok(())
-}
-
-/// Whether the routes are the same, or neither is there.
+/// Whether this is the route that a prefix had.
 #[tactic(auto, using(bgp_types::proofs::Equality::attrs_equal))]
-fn is_same(route: Option<&Attrs>, had: &Option<Attrs>) -> bool
-    ensures { MatchBool result (option_copied route.entry ≡ had.now) (option_copied route.entry ≢ had.now) }
+fn is_same(had: &Option<Attrs>, attrs: &Attrs) -> bool
+    ensures { MatchBool result (had.now ≡ Some attrs.now) (had.now ≢ Some attrs.now) }
 {
-    match (route, had) {
-        (None, None) => true,
-        (Some(route), Some(had)) => route == had,
-        _ => false,
-    }
-}
-
-/// Whether a prefix has another route now than before.
-fn is_changed(routes: &TrieTable<Attrs>, notes: &Notes, prefix: Prefix) -> bool
-    ensures { (before : Routes) → Tracks before routes.now.contents notes.now.contents
-        → MatchBool result (map.get routes.now.contents prefix ≢ map.get before prefix) (map.get routes.now.contents prefix ≡ map.get before prefix) }
-{
-    match notes.get(prefix) {
-        Some(had) => !is_same(routes.get(prefix), had),
+    match had {
+        Some(had) => had == attrs,
         None => false,
     }
 }
 
-/// The prefixes that have another route now than before, in rising order.
-pub fn list_changed(
-    alloc: Global,
-    routes: &TrieTable<Attrs>,
-    notes: &Notes,
-) -> Result<PrefixList, NoMemory>
-    ensures { (before : Routes) → Tracks before routes.now.contents notes.now.contents
-        → IfOk result (λ prefixes. Changed before routes.now.contents prefixes) }
+/// Gives a prefix this route, and lists it where it had another or none.
+fn announce_one(
+    routes: &mut TrieTable<Attrs>,
+    prefix: Prefix,
+    attrs: &Attrs,
+    changed: &mut PrefixList,
+) -> Result<(), NoMemory>
+    ensures routes { OnOk result (routes.new.contents ≡ map.insert routes.old.contents prefix attrs.now) }
+    ensures changed { OnOk result ((before : Routes) (to : PrefixValue → Option Attrs) → to prefix ≡ Some attrs.now
+        → Moved to before routes.old.contents changed.old → Moved to before routes.new.contents changed.new) }
 {
-    let mut changed = Items::new(alloc);
-    let mut last = None;
-    while let Some(prefix) = notes.next_after(last) {
-        if is_changed(routes, notes, prefix) {
-            changed.push(prefix)?;
-        }
-        last = Some(prefix);
+    let had = set_copy(routes, prefix, attrs)?;
+    if is_same(&had, attrs) {
+        return Ok(());
     }
-    Ok(changed)
+    changed.push(prefix)?;
+    Ok(())
+}
+
+/// Gives each of the prefixes this route, and lists those that had another or none.
+pub fn announce(
+    routes: &mut TrieTable<Attrs>,
+    prefixes: &[Prefix],
+    attrs: &Attrs,
+    changed: &mut PrefixList,
+) -> Result<(), NoMemory>
+    ensures routes { OnOk result (routes.new.contents ≡ fold (announced (Some attrs.now)) routes.old.contents prefixes.now) }
+    ensures changed { OnOk result ((before : Routes) (to : PrefixValue → Option Attrs) → ((p : PrefixValue) → list_any (same_prefix p) prefixes.now ≡ true → to p ≡ Some attrs.now)
+        → Moved to before routes.old.contents changed.old → Moved to before routes.new.contents changed.new) }
+{
+    for prefix in prefixes {
+        announce_one(routes, *prefix, attrs, changed)?;
+    }
+    Ok(())
 }

@@ -6,8 +6,8 @@ ghost use Rattle.bgp_types.specs.Tables.{first_above};
 ghost use Rattle.bgp_story.specs.Readings.{apply};
 ghost use Rattle.adj_rib.specs.Changes.{Changed};
 
-use crate::changes::{announce, list_changed, withdraw};
-use bgp_types::{Attrs, NoMemory, Prefix, PrefixList, Table, Update};
+use crate::changes::{announce, in_order, list_announced, withdraw};
+use bgp_types::{Attrs, Items, NoMemory, Prefix, PrefixList, Table, Update};
 use prefix_trie::TrieTable;
 use std::alloc::Global;
 use std::marker::Model;
@@ -44,18 +44,30 @@ impl AdjRib {
     }
 
     /// Takes out what an UPDATE withdraws, sets what it announces, and answers the prefixes whose
-    /// routes changed, in rising order. For each prefix of the UPDATE it goes a few ways of at most 33
-    /// steps, however many routes there are. After `NoMemory` some of the prefixes may have changed.
+    /// routes changed, in rising order. A prefix that it withdraws and announces is taken as announced.
+    /// For each prefix of the UPDATE it goes a way of at most 33 steps, however many routes there are,
+    /// and it sorts the prefixes. After `NoMemory` some of the prefixes may have changed.
     pub fn apply(&mut self, update: &Update) -> Result<PrefixList, NoMemory>
         ensures routes { OnOk result (self.new ≡ apply self.old update.now) }
         ensures changed { IfOk result (λ prefixes. Changed self.old self.new prefixes) }
     {
-        let mut notes = TrieTable::new(self.alloc);
-        withdraw(&mut self.routes, &mut notes, update.withdrawn.as_slice())?;
+        let announced = list_announced(self.alloc, update)?;
+        let mut changed = Items::new(self.alloc);
+        withdraw(
+            &mut self.routes,
+            update.withdrawn.as_slice(),
+            announced.as_slice(),
+            &mut changed,
+        )?;
         if let Some(attrs) = &update.attrs {
-            announce(&mut self.routes, &mut notes, attrs, update.nlri.as_slice())?;
+            announce(
+                &mut self.routes,
+                update.nlri.as_slice(),
+                attrs,
+                &mut changed,
+            )?;
         }
-        list_changed(self.alloc, &self.routes, &notes)
+        Ok(in_order(changed))
     }
 
     /// The route of a prefix.

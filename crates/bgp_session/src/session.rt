@@ -176,6 +176,15 @@ impl Session {
         &self.parts.story
     }
 
+    /// The story, of a session of which nothing else is wanted any more. It takes no memory.
+    pub fn into_story(self) -> Story
+        ensures { result ≡ record { lines = self.session.story; remote_as = self.session.config.remote_as } }
+    {
+        let Session { parts } = self;
+        let Parts { story, .. } = Box::into_inner(parts);
+        story
+    }
+
     /// What the session began with.
     pub fn config(&self) -> &SessionConfig
         ensures { result.now ≡ self.now.session.config }

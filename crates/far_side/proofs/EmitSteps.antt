@@ -1,7 +1,7 @@
 -- What the remote sends in a turn.
-use Rattle.std.proofs.Common.{◌≡◌, ℕ, zero, suc, ◌+◌, ◌-◌, ◌<◌, ◌≤◌, List, [], ◌∷◌, ◌++◌, length, take, drop, Option, Some, Bool, false, refl, sym, ap, subst, ◌∙◌, arith, inl, inr, ◌⊎◌, append_assoc}
-use Rattle.std.specs.Prelude.{nat_lt, if◌then◌else◌, IsNone, ◌↔◌}
-use Rattle.std.proofs.lemmas.List.{length-take, length-drop, append-nil}
+use Rattle.std.proofs.Common.{◌≡◌, ℕ, zero, suc, ◌+◌, ◌-◌, ◌<◌, ◌≤◌, List, [], ◌∷◌, ◌++◌, length, Option, Some, Bool, false, refl, sym, ap, subst, ◌∙◌, arith, inl, inr, ◌⊎◌, append_assoc}
+use Rattle.std.specs.Prelude.{nat_lt, IsNone, ◌↔◌, if◌then◌else◌}
+use Rattle.std.proofs.lemmas.List.{append-nil}
 use Rattle.std.proofs.lemmas.Bool.{cases_lt, lt-ltb, le-ltb}
 use Rattle.ring_net.specs.declared.post.Post.{Post}
 use Rattle.graft_steps.specs.declared.item.Item.{Item}
@@ -15,6 +15,7 @@ use Rattle.graft_model.specs.Setups.{routers_in}
 use Rattle.graft_model.specs.Slices.{EmitsAt}
 use Rattle.graft_model.specs.Steps.{FarEvent, Send}
 use Rattle.graft_actors.specs.Emissions.{reach_of, IsCareful, Tally, counted}
+use Rattle.graft_actors.proofs.Careful.{at_again, at_answer, at_next, careful_again, careful_next, counted_again, counted_next}
 use Rattle.far_side.specs.Remotes.{RemoteValue, IsFrom, IsSound, EmitsOf}
 use Rattle.far_side.specs.Links.{LinkValue, IsOn, put_now}
 use Rattle.graft_actors.specs.Notes.{WroteOne}
@@ -44,55 +45,10 @@ same_places f g k = ap (λ (n : ℕ). placed n f.homeward.ack_first g) (k.homewa
 -- ---- one segment
 
 emits_at_next : (e f : Endpoint) (p : PlacedSegment) → IsSound e → EmitsNext e p f → EmitsAt e.emitted (next_length e) e p f
-emits_at_next e f p sound step =
-    record {
-      place = ap (λ (q : PlacedSegment). q.place) step.slice;
-      size = ap (λ (q : PlacedSegment). length q.bytes) step.slice ∙ (let n : length (take (next_length e) (drop e.emitted e.stream)) ≡ next_length e = omega (arith, step.some, length-take (next_length e) (drop e.emitted e.stream), length-drop e.emitted e.stream) in n);
-      emits = inl (next_is_slice e f p sound.acked step);
-    }
+emits_at_next e f p sound step = at_next e f p (next_is_slice e f p sound.acked step) step
 
 emits_at_again : (e f : Endpoint) (p : PlacedSegment) → IsSound e → EmitsAgain e p f → EmitsAt e.acked (again_length e) e p f
-emits_at_again e f p sound step =
-    record {
-      place = ap (λ (q : PlacedSegment). q.place) step.slice;
-      size = ap (λ (q : PlacedSegment). length q.bytes) step.slice ∙ (let n : length (take (again_length e) (drop e.acked e.stream)) ≡ again_length e = omega (arith, step.some, sound.emitted, length-take (again_length e) (drop e.acked e.stream), length-drop e.acked e.stream) in n);
-      emits = inl (again_is_slice e f p sound.emitted sound.flight step);
-    }
-
-emits_at_answer : (e f : Endpoint) (p : PlacedSegment) → EmitsAnswer e p f → EmitsAt e.emitted 0 e p f
-emits_at_answer e f p step =
-    record {
-      place = ap (λ (q : PlacedSegment). q.place) step.answer.empty;
-      size = ap (λ (q : PlacedSegment). length q.bytes) step.answer.empty;
-      emits = inr step.answer;
-    }
-
--- each is an old slice, a new one, or an owed answer
-careful_next : (e : Endpoint) → 0 < next_length e → IsCareful e e.emitted (next_length e)
-careful_next e some = by_length (next_length e) refl some
-  where
-    by_length : (n : ℕ) → next_length e ≡ n → 0 < n → IsCareful e e.emitted n
-    by_length zero is some = absurd (omega (arith, some))
-    by_length (suc n) is some = inr (record { next = refl; all = which })
-      where
-        which : (suc n ≡ 1024) ⊎ (e.emitted + suc n ≡ reach_of e)
-        which = elim (cases_lt (suc n) 1024) [ inl below ↦ inr (omega (arith, is, below)) | inr full ↦ inl (omega (arith, is, full)) ]
-
-careful_again : (e : Endpoint) → 0 < again_length e → IsCareful e e.acked (again_length e)
-careful_again e some = by_length (again_length e) refl some
-  where
-    by_length : (n : ℕ) → again_length e ≡ n → 0 < n → IsCareful e e.acked n
-    by_length zero is some = absurd (omega (arith, some))
-    by_length (suc n) is some = inl (record { first = refl; out = omega (arith, is); all = sym is })
-
--- how the tally counts them
-counted_next : (e : Endpoint) (n : ℕ) (t : Tally) → 0 < n → counted e e.emitted n t ≡ t
-counted_next e zero t some = absurd (omega (arith, some))
-counted_next e (suc n) t some = ap (λ (b : Bool). let u : Tally = if b then record t { again = t.again + 1 } else t in u) (le-ltb e.emitted e.emitted (omega arith))
-
-counted_again : (e : Endpoint) (n : ℕ) (t : Tally) → 0 < n → e.acked < e.emitted → counted e e.acked n t ≡ record t { again = t.again + 1 }
-counted_again e zero t some out = absurd (omega (arith, some))
-counted_again e (suc n) t some out = ap (λ (b : Bool). let u : Tally = if b then record t { again = t.again + 1 } else t in u) (lt-ltb e.acked e.emitted out)
+emits_at_again e f p sound step = at_again e f p sound.emitted (again_is_slice e f p sound.emitted sound.flight step) step
 
 -- the far side with another remote and one more segment on its way home
 put_on : Fields → RemoteValue → PlacedSegment → Fields
@@ -260,7 +216,7 @@ module _ {C : Type 0} (session : C → SessionValue) where
       let events : answer_events f.remote.end ≡ Send f.remote.end.emitted 0 ∷ [] = ap (λ (b : Bool). let es : List FarEvent = if b then Send f.remote.end.emitted 0 ∷ [] else [] in es) step.owed in
       record {
         sent = λ t. subst (λ (es : List FarEvent). Sent session f p t es g q (record t { answers = t.answers + length es })) (sym events)
-            (sent_one session f g p q r segment f.remote.end.emitted 0 keeps same r_is wrote' (emits_at_answer f.remote.end r.end segment step) step.owed t);
+            (sent_one session f g p q r segment f.remote.end.emitted 0 keeps same r_is wrote' (at_answer f.remote.end r.end segment step) step.owed t);
         remote = ap (λ (k : Fields). k.remote) same ∙ is ∙ ap (λ (e : Endpoint). let v : RemoteValue = record f.remote { end = e } in v) step.answer.given;
       }
 
@@ -337,7 +293,7 @@ module _ {C : Type 0} (f h : Fields) (p q : Post (Item C)) (r : RemoteValue) (ke
       → WroteOne p 18 f.remote.end.emitted (length g.bytes) 0 [] q → ForEach (λ (session : C → SessionValue). SentAnswer session f p h q) h
   sent_answer_each g emits is same wrote = for_each _ _
       (λ session. sent_answer session f h p q r (placed f.remote.send_first f.remote.receive_first g) (length g.bytes) keeps emits.1 is (put_same f r g h (emitted_end f.remote r is) same)
-      (size_is f.remote.end r.end (placed f.remote.send_first f.remote.receive_first g) f.remote.end.emitted 0 (length g.bytes) (emits_at_answer f.remote.end r.end (placed f.remote.send_first f.remote.receive_first g) emits.1) refl) wrote)
+      (size_is f.remote.end r.end (placed f.remote.send_first f.remote.receive_first g) f.remote.end.emitted 0 (length g.bytes) (at_answer f.remote.end r.end (placed f.remote.send_first f.remote.receive_first g) emits.1) refl) wrote)
       (λ session s. (s.sent (record { again = 0; answers = 0 })).keeps)
 
   pub sent_answer_none_each : f.remote.end.owed ≡ false → r.end ≡ f.remote.end → r ≡ record f.remote { end = r.end } → h ≡ (let k : Fields = record f { remote = r } in k) → ForEach (λ (session : C → SessionValue). SentAnswer session f p h p) h

@@ -1,1 +1,2 @@
+pub mod Careful
 pub mod Welcome

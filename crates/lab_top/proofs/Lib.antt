@@ -1,4 +1,3 @@
-pub mod Endings
-pub mod Headlines
-pub mod Numbered
-pub mod Words
+pub mod Asking
+pub mod Facts
+pub mod Parts

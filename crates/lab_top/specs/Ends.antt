@@ -1,24 +1,38 @@
--- How the program ends: what each status says of the words, the source and the sink.
-use Rattle.std.specs.Prelude.{◌≡◌, ◌⊎◌, ℕ, ◌<◌, List, [], ◌∷◌, ◌++◌, length, Option, codes}
+-- How a command ends: what its status says of the words, the source and the sink.
+use Rattle.std.specs.Prelude.{◌≡◌, ◌⊎◌, ℕ, ◌<◌, false, List, [], ◌∷◌, ◌++◌, length, Option, Result, Ok, Err, codes}
 use Rattle.graft_edge.specs.Outside.{FaultRose, Took, IsAtEnd, Appended, AppendedFront}
-use Rattle.lab_input.specs.declared.input.LabInput.{LabInput}
-use Rattle.lab_input.specs.Labs.{InputOf}
+use Rattle.lab_tables.specs.declared.input.LabInput.{LabInput}
+use Rattle.lab_input.specs.declared.bad.BadInput.{BadInput}
+use Rattle.lab_input.specs.Built.{is_built}
+use Rattle.lab_input.specs.Labs.{input_of, InputOf, too_long}
+use Rattle.lab_words.specs.declared.job.Job.{Job}
+use Rattle.lab_words.specs.declared.job.Job.TheVariants.{Run, Make}
+use Rattle.lab_words.specs.Asked.{Asks}
+use Rattle.lab_report.specs.BadText.{bad_line}
+use Rattle.lab_report.specs.CheckText.{check_line}
 
--- the words of the one job that there is
-abbrev pub IsRun : List (List ℕ) → Type 0
-IsRun words = words ≡ codes "run" ∷ []
+-- ---- words
 
-abbrev pub usage_text : List ℕ
-usage_text = codes "usage: graftlab run" ++ 10 ∷ []
+-- The words ask for no job.
+abbrev pub AreRefused : List (List ℕ) → Type 0
+AreRefused words = (job : Job) → ¬ (Asks words job)
 
-abbrev pub not_built_text : List ℕ
-not_built_text = codes "bad input: not built" ++ 10 ∷ []
+-- They ask for a run, by some number of workers.
+abbrev pub AskToRun : List (List ℕ) → Type 0
+AskToRun words = (workers : ℕ) × Asks words (Run workers)
 
--- The bytes that were taken from a source are no input: they are more than 4 MiB, or all that there were and none.
-pub record TookBadInput (before after : Option (List ℕ)) : Type 0 where
+-- They ask for the laboratory of some seed.
+abbrev pub AskToMake : List (List ℕ) → Type 0
+AskToMake words = (seed : ℕ) × Asks words (Make seed)
+
+-- ---- the source
+
+-- Bytes were taken from a source, and this is what they are read as: all that there were, or more than 4 MiB, which is a fault.
+pub record Reads (before after : Option (List ℕ)) (answer : Result LabInput BadInput) : Type 0 where
   pub bytes : List ℕ
   pub took : Took before after bytes
-  pub cause : (4194304 < length bytes) ⊎ (IsAtEnd after × ((input : LabInput) → ¬ (InputOf bytes input)))
+  pub enough : IsAtEnd after ⊎ ((4194304 < length bytes) × (answer ≡ Err too_long))
+  pub is : input_of bytes ≡ answer
 
 -- All bytes of a source were taken, and are this input.
 pub record TookInput (before after : Option (List ℕ)) (input : LabInput) : Type 0 where
@@ -27,7 +41,23 @@ pub record TookInput (before after : Option (List ℕ)) (input : LabInput) : Typ
   pub end : IsAtEnd after
   pub is : InputOf bytes input
 
--- 0 settled, 1 refused words, 2 refused input, 4 a read failed, 5 a write failed, 6 no memory
+abbrev pub not_built_text : List ℕ
+not_built_text = codes "bad input: not built" ++ 10 ∷ []
+
+-- The text says why what was read isn't run: its first fault, or that the program can't run such an input yet.
+abbrev pub SaysWhy : Result LabInput BadInput → List ℕ → Type 0
+SaysWhy (Ok input) text = (is_built input ≡ false) × (text ≡ not_built_text)
+SaysWhy (Err bad) text = text ≡ bad_line bad
+
+-- What was taken from a source isn't run, for the reason that the text says.
+pub record TookBadInput (before after : Option (List ℕ)) (text : List ℕ) : Type 0 where
+  pub answer : Result LabInput BadInput
+  pub read : Reads before after answer
+  pub why : SaysWhy answer text
+
+-- ---- the sink
+
+-- 0 all was done, 1 refused words, 2 refused input, 4 a read failed, 5 a write failed, 6 no memory
 abbrev pub IsStatus : ℕ → Type 0
 IsStatus status = (status ≡ 0) ⊎ (status ≡ 1) ⊎ (status ≡ 2) ⊎ (status ≡ 4) ⊎ (status ≡ 5) ⊎ (status ≡ 6)
 
@@ -35,3 +65,18 @@ IsStatus status = (status ≡ 0) ⊎ (status ≡ 1) ⊎ (status ≡ 2) ⊎ (stat
 abbrev pub Writes : (text : List ℕ) → (planned : ℕ) → (faults_before faults_after : ℕ) → (before after : Option (List ℕ)) → (status : ℕ) → Type 0
 Writes text planned faults_before faults_after before after status =
     ((status ≡ planned) × Appended before after text) ⊎ ((status ≡ 5) × FaultRose faults_before faults_after × AppendedFront before after text)
+
+-- what a check says of what it read, and under which status
+abbrev pub verdict_text : Result LabInput BadInput → List ℕ
+verdict_text (Ok input) = check_line input
+verdict_text (Err bad) = bad_line bad
+
+abbrev pub verdict_status : Result LabInput BadInput → ℕ
+verdict_status (Ok input) = 0
+verdict_status (Err bad) = 2
+
+-- What was read from the source was said in a line: that it is an input, or its first fault.
+pub record Checks (left_before left_after : Option (List ℕ)) (faults_before faults_after : ℕ) (before after : Option (List ℕ)) (status : ℕ) : Type 0 where
+  pub answer : Result LabInput BadInput
+  pub read : Reads left_before left_after answer
+  pub wrote : Writes (verdict_text answer) (verdict_status answer) faults_before faults_after before after status

@@ -1,3 +1,2 @@
+pub mod Cases
 pub mod Ends
-pub mod Report
-pub mod Seen

@@ -1,73 +1,61 @@
 //! The program's top call.
 
-ghost use Rattle.std.specs.Prelude.{◌≡◌, ◌↔◌, ◌⊎◌, ◌≤◌, ℕ, None, IsTrue, IsSome, IfSome, OnSome};
+ghost use Rattle.std.specs.Prelude.{◌≡◌, ◌⊎◌, ℕ, None, IsSome, IfSome, OnSome};
 ghost use Rattle.graft_edge.specs.Outside.{FaultRose, Appended, AppendedFront};
-ghost use Rattle.lab_top.specs.Ends.{IsRun, usage_text, not_built_text, TookInput, TookBadInput, IsStatus, Writes};
-ghost use Rattle.lab_top.specs.Report.{report_text};
-ghost use Rattle.lab_top.specs.Seen.{Headline};
+ghost use Rattle.lab_words.specs.declared.job.Job.TheVariants.{Check, Make};
+ghost use Rattle.lab_words.specs.Asked.{usage_text, Asks};
+ghost use Rattle.lab_make.specs.Made.{made};
+ghost use Rattle.pipe_lab.specs.Report.{report_text};
+ghost use Rattle.pipe_lab.specs.Seen.{Headline};
+ghost use Rattle.lab_top.specs.Ends.{AreRefused, AskToRun, AskToMake, TookInput, TookBadInput, IsStatus, Writes, Checks};
+ghost use Rattle.lab_top.specs.Cases.{outside, EndsOr, Ended};
 
-use crate::lab::Lab;
-use crate::report::report;
-use crate::run::run_lab;
-use graft_edge::{Gate, NoMemory, Octets, ReadStop, Sink, Source, Words, read_all, write_all};
-use lab_input::{BadInput, LabInput, LabStop, MOST_BYTES, accepted_is_ready, read_lab};
+use crate::finish::{Finish, NO_MEMORY, USAGE, end_with, without_run};
+use crate::jobs::{check_job, make_job, run_job};
+use graft_edge::{Gate, NoMemory, Sink, Source, Words};
+use lab_words::{Job, USAGE_TEXT, WordStop, read_words};
 use std::alloc::Global;
 
-/// The statuses of the program.
-pub const SETTLED: u8 = 0;
-
-pub const USAGE: u8 = 1;
-
-pub const BAD_INPUT: u8 = 2;
-
-pub const READ_FAILED: u8 = 4;
-
-pub const WRITE_FAILED: u8 = 5;
-
-pub const NO_MEMORY: u8 = 6;
-
-/// How the program ends: its status, and the run where there was one.
-#[derive(Debug, Drop)]
-pub struct Finish {
-    pub status: u8,
-    pub lab: Option<Lab>,
-}
-
-const USAGE_TEXT: &str = "usage: graftlab run\n";
-
-const NOT_BUILT_TEXT: &str = "bad input: not built\n";
-
-/// Whether the words are the one word `run`.
-fn is_run(words: &Words) -> bool
-    ensures { IsTrue result ↔ IsRun words.now }
+/// Does the job that the words ask for. If memory runs out, nothing was written.
+fn do_job<S: Source, K: Sink, G: Gate>(
+    alloc: Global,
+    words: &Words,
+    source: &mut S,
+    sink: &mut K,
+    gate: &G,
+) -> Result<Finish, NoMemory>
+    ensures unread { AreRefused words.now ⊎ AskToMake words.now → source.new ≡ source.old }
+    ensures ended { EndsOr words.now (outside (S.left source.old) (S.faults source.old) (K.written sink.old) (K.faults sink.old)) (outside (S.left source.new) (S.faults source.new) (K.written sink.new) (K.faults sink.new)) result }
 {
-    words.len() == 1 && words.get(0) == "run"
-}
-
-/// Ends with a status, without a run.
-fn without_run(status: u8) -> Finish
-    ensures { result ≡ record { status = status; lab = None } }
-{
-    Finish { status, lab: None }
-}
-
-/// Writes a text and ends with a status, or with that of a write that failed.
-fn end_with<K: Sink>(sink: &mut K, text: &[u8], status: u8, lab: Option<Lab>) -> Finish
-    ensures steady { K.faults sink.old ≤ K.faults sink.new }
-    ensures writes { Writes text.now status (K.faults sink.old) (K.faults sink.new) (K.written sink.old) (K.written sink.new) result.status }
-    ensures lab { result.lab ≡ lab }
-{
-    match write_all(sink, text) {
-        Ok(()) => Finish { status, lab },
-        Err(_) => Finish {
-            status: WRITE_FAILED,
-            lab,
-        },
+    match read_words(alloc, words) {
+        Ok(Job::Run { .. }) => run_job(alloc, source, sink, gate),
+        Ok(Job::Check) => check_job(alloc, source, sink),
+        Ok(Job::Make { seed }) => make_job(alloc, sink, seed),
+        Err(WordStop::Usage) => Ok(end_with(sink, USAGE_TEXT.as_bytes(), USAGE, None)),
+        Err(WordStop::NoMemory) => Err(NoMemory),
     }
 }
 
-/// Runs the command that the words are: `run` reads an input from the source to its end, runs it and
-/// writes the report to the sink. Each actor's turn passes the gate first.
+/// How the command ends that the words are.
+fn finish_of<S: Source, K: Sink, G: Gate>(
+    alloc: Global,
+    words: &Words,
+    source: &mut S,
+    sink: &mut K,
+    gate: &G,
+) -> Finish
+    ensures unread { AreRefused words.now ⊎ AskToMake words.now → source.new ≡ source.old }
+    ensures ended { Ended words.now (outside (S.left source.old) (S.faults source.old) (K.written sink.old) (K.faults sink.old)) (outside (S.left source.new) (S.faults source.new) (K.written sink.new) (K.faults sink.new)) result.status result.lab }
+{
+    match do_job(alloc, words, source, sink, gate) {
+        Ok(finish) => finish,
+        Err(_) => without_run(NO_MEMORY),
+    }
+}
+
+/// Does what the words of a command ask for. `run` reads an input from the source to its end, runs it and
+/// writes the report to the sink; each actor's turn passes the gate first. `check` reads an input and writes
+/// whether it is one. `make` writes the laboratory of a seed. Other words are refused with the usage.
 pub fn graft_main<R, S, K, G>(
     rt: &R,
     words: &Words,
@@ -82,24 +70,31 @@ where
     G: Gate,
     ensures statuses { IsStatus result.status }
 
-    // Other words than `run` are refused, and the source isn't read.
-    ensures usage { ¬ (IsRun words.now) → Writes usage_text 1 (K.faults sink.old) (K.faults sink.new) (K.written sink.old) (K.written sink.new) result.status }
-    ensures unread { ¬ (IsRun words.now) → source.new ≡ source.old }
-    ensures refused { result.status ≡ 1 → ¬ (IsRun words.now) }
+    // Words that ask for no job are refused. The source isn't read for them, nor for `make`.
+    ensures usage { AreRefused words.now → (result.status ≡ 6) ⊎ Writes usage_text 1 (K.faults sink.old) (K.faults sink.new) (K.written sink.old) (K.written sink.new) result.status }
+    ensures refused { result.status ≡ 1 → AreRefused words.now }
+    ensures unread { AreRefused words.now ⊎ AskToMake words.now → source.new ≡ source.old }
 
-    // An input is refused only where the bytes are none, and then a text says so.
-    ensures bad_input { result.status ≡ 2 → TookBadInput (S.left source.old) (S.left source.new) }
-    ensures bad_input_text { result.status ≡ 2 → Appended (K.written sink.old) (K.written sink.new) not_built_text }
-    ensures bad_input_unwritten { result.status ≡ 5 → IsRun words.now → result.lab ≡ None → TookBadInput (S.left source.old) (S.left source.new) × AppendedFront (K.written sink.old) (K.written sink.new) not_built_text }
+    // `make` writes the laboratory of its seed.
+    ensures made { (seed : ℕ) → Asks words.now (Make seed) → (result.status ≡ 6) ⊎ Writes (made seed) 0 (K.faults sink.old) (K.faults sink.new) (K.written sink.old) (K.written sink.new) result.status }
+
+    // `check` reads the source to its end, or past the most bytes of an input, and says in a line what was read.
+    ensures checked { Asks words.now Check → (result.status ≡ 4) ⊎ (result.status ≡ 6) ⊎ Checks (S.left source.old) (S.left source.new) (K.faults sink.old) (K.faults sink.new) (K.written sink.old) (K.written sink.new) result.status }
+
+    // An input is refused only where the bytes are none, or none that can be run yet, and then a line says why.
+    ensures bad_input { result.status ≡ 2 → (text : _) × TookBadInput (S.left source.old) (S.left source.new) text × Appended (K.written sink.old) (K.written sink.new) text }
+    ensures bad_input_unwritten { AskToRun words.now → result.status ≡ 5 → result.lab ≡ None → (text : _) × TookBadInput (S.left source.old) (S.left source.new) text × AppendedFront (K.written sink.old) (K.written sink.new) text }
 
     // A read or a write failed only where its count of faults shows it.
     ensures read_failed { result.status ≡ 4 → FaultRose (S.faults source.old) (S.faults source.new) }
     ensures write_failed { result.status ≡ 5 → FaultRose (K.faults sink.old) (K.faults sink.new) }
     ensures nothing_written { (result.status ≡ 4) ⊎ (result.status ≡ 6) → K.written sink.new ≡ K.written sink.old }
 
-    // A run is there only where it came to its end and its text was built: it is the run of the bytes that were read.
-    ensures settled { result.status ≡ 0 → IsSome result.lab }
-    ensures ran { OnSome result.lab ((result.status ≡ 0) ⊎ (result.status ≡ 5)) }
+    // A run is there only where it was asked for, came to its end and its text was built: it is the run of the
+    // bytes that were read.
+    ensures settled { AskToRun words.now → result.status ≡ 0 → IsSome result.lab }
+    ensures no_run { AreRefused words.now ⊎ AskToMake words.now ⊎ Asks words.now Check → result.lab ≡ None }
+    ensures ran { OnSome result.lab (AskToRun words.now × ((result.status ≡ 0) ⊎ (result.status ≡ 5))) }
     ensures input { IfSome result.lab (λ lab. TookInput (S.left source.old) (S.left source.new) lab.input) }
 
     // Its journal is that of a run of the input's pipe, of which the lab is what is seen. Each world on the
@@ -109,27 +104,5 @@ where
     // Its report is written whole, or a write failed and a front of it stands.
     ensures reported { IfSome result.lab (λ lab. Writes (report_text lab) 0 (K.faults sink.old) (K.faults sink.new) (K.written sink.old) (K.written sink.new) result.status) }
 {
-    let alloc = rt.alloc();
-    if !is_run(words) {
-        return end_with(sink, USAGE_TEXT.as_bytes(), USAGE, None);
-    }
-    let bytes = match read_all(alloc, source, MOST_BYTES) {
-        Ok(bytes) => bytes,
-        Err(ReadStop::Failed) => return without_run(READ_FAILED),
-        Err(ReadStop::TooLong) => return end_with(sink, NOT_BUILT_TEXT.as_bytes(), BAD_INPUT, None),
-        Err(ReadStop::NoMemory) => return without_run(NO_MEMORY),
-    };
-    let input = match read_lab(alloc, &bytes) {
-        Ok(input) => input,
-        Err(LabStop::Bad(_)) => return end_with(sink, NOT_BUILT_TEXT.as_bytes(), BAD_INPUT, None),
-        Err(LabStop::NoMemory) => return without_run(NO_MEMORY),
-    };
-    accepted_is_ready();
-    let Ok(lab) = run_lab(alloc, input, gate) else {
-        return without_run(NO_MEMORY);
-    };
-    match report(alloc, &lab) {
-        Ok(text) => end_with(sink, text.as_bytes(), SETTLED, Some(lab)),
-        Err(_) => without_run(NO_MEMORY),
-    }
+    finish_of(rt.alloc(), words, source, sink, gate)
 }

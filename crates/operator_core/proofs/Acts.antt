@@ -1,6 +1,5 @@
 -- The operator's events are acts of it.
-use Rattle.std.proofs.Common.{◌≡◌, ℕ, ◌+◌, ◌<◌, ◌≤◌, List, [], ◌∷◌, length, map, Option, Some, None, refl, sym, ap, ◌∙◌, subst, inl, inr, arith}
-use Rattle.std.specs.Prelude.{◌≢◌}
+use Rattle.std.proofs.Common.{◌≡◌, ℕ, ◌+◌, ◌<◌, [], ◌∷◌, Some, None, refl, ap, ◌∙◌, inl, inr}
 use Rattle.ring_net.specs.declared.entry.JournalEntry.{JournalEntry}
 use Rattle.graft_edge.specs.declared.ids.PeeringId.{PeeringId}
 use Rattle.graft_edge.specs.declared.ids.RouterId.{RouterId}
@@ -16,7 +15,7 @@ use Rattle.graft_model.specs.declared.kind.EventKind.TheVariants as kinds
 use Rattle.graft_model.specs.Codes.{number_of}
 use Rattle.graft_runs.specs.Actors.{OperatorIs, OrderItem, StepItem, Router, FarSide, Operator, actor_at}
 use Rattle.graft_runs.specs.Laws.{ActorsHaveNumbers}
-use Rattle.graft_actors.specs.Acts.{OwnPart, ActsAs, MakesEvent, DropsItem, IsWelcome}
+use Rattle.graft_actors.specs.Acts.{OwnPart, ActsAs, IsWelcome}
 
 abbrev own : Setup → OperatorPart → OwnPart
 own setup part = record { setup = setup; name = Operator; part = OperatorIs part }

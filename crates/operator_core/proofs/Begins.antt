@@ -1,6 +1,6 @@
 -- The groups: where one begins and ends, and what stays true.
 use Rattle.std.proofs.Common.{◌≡◌, ℕ, zero, suc, ◌+◌, ◌-◌, ◌<◌, ◌≤◌, ◌==◌, nat_lt, Bool, true, false, not, ◌&&◌, List, [], ◌∷◌, length, take, map, filter, Option, Some, None, refl, sym, ap, ◌∙◌, subst, inl, inr, arith}
-use Rattle.std.specs.Prelude.{◌≢◌, ◌⊎◌, ◌↔◌, slice_get, unwrap_or}
+use Rattle.std.specs.Prelude.{◌≢◌, slice_get, unwrap_or}
 use Rattle.std.specs.Option.{option_and_then, option_map}
 use Rattle.std.specs.List.{list_any, range_with_len, AllByRecursion}
 use Rattle.std.proofs.lemmas.Bool.Decides.{nat_tests}
@@ -8,14 +8,14 @@ use Rattle.std.proofs.lemmas.Option.{slice_get_within, slice_get-map}
 use Rattle.graft_edge.specs.declared.ids.RouterId.{RouterId}
 use Rattle.graft_steps.specs.declared.log.GraftEntry.{GraftEntry}
 use Rattle.graft_steps.specs.declared.log.GraftStage.TheVariants.{Waiting}
-use Rattle.graft_model.specs.Setups.{Setup, ScriptStep, ScriptGraft, PeeringSetup, SayStep, MoveStep, SettleStep, is_settle, group_of, groups_in, grafts_after, grafts_in, start_of, routers_in, peerings_in}
+use Rattle.graft_model.specs.Setups.{Setup, ScriptStep, ScriptGraft, PeeringSetup, SayStep, MoveStep, SettleStep, is_settle, group_of, groups_in, grafts_after, start_of, routers_in, peerings_in}
 use Rattle.graft_model.specs.First.{first_world}
 use Rattle.graft_model.specs.OperatorRows.{BeginsGroup}
 use Rattle.operator_core.specs.declared.grafts.Seat.{Seat}
 use Rattle.operator_core.specs.Scripts.{step_for}
-use Rattle.operator_core.specs.Grafts.{is_waiting, is_open, outcome_at, entry_at, source_in, outcome_in, first_log, seat_at}
+use Rattle.operator_core.specs.Grafts.{is_waiting, is_open, outcome_at, source_in, outcome_in, first_log, seat_at}
 use Rattle.operator_core.specs.States.{State, is_issuable, issued_in, part_of}
-use Rattle.operator_core.specs.Keeps.{Rises, grafts_before, StepsAreSound, Waits, IsEntry, LogStands, IsSeat, SeatsStand, EndsAt, EntriesAgree, Keeps, with_log}
+use Rattle.operator_core.specs.Keeps.{grafts_before, StepsAreSound, Waits, IsSeat, EndsAt, Keeps}
 use Rattle.operator_core.proofs.Lists.{by_test, compare, there_is, one_member, all_range, range_rises, in_range, not_in_range}
 use Rattle.operator_core.proofs.Scripts.{group_least, group_after_settle, group_after_other}
 use Rattle.operator_core.proofs.Logs.{source_at, ordered_has_ended}

@@ -1,8 +1,8 @@
 -- What whole calls of the operator do.
-use Rattle.std.proofs.Common.{◌≡◌, ℕ, zero, suc, ◌+◌, ◌-◌, ◌<◌, ◌≤◌, Bool, true, false, List, [], ◌∷◌, ◌++◌, length, take, drop, filter, map, Option, Some, None, refl, sym, ap, ◌∙◌, subst, inl, inr, arith}
-use Rattle.std.specs.Prelude.{Result, Ok, Err, OnOk, OnErr, IfOk, ◌≢◌, ◌⊎◌, ◌↔◌, slice_get, slice_index_or, is_some, not, IsTrue}
+use Rattle.std.proofs.Common.{◌≡◌, ℕ, zero, suc, ◌+◌, ◌-◌, ◌<◌, ◌≤◌, Bool, true, false, List, [], ◌∷◌, ◌++◌, length, take, drop, filter, Option, Some, None, refl, sym, ap, ◌∙◌, subst, inl, inr, arith}
+use Rattle.std.specs.Prelude.{Result, Ok, Err, OnOk, OnErr, IfOk, ◌≢◌, ◌↔◌, slice_get, slice_index_or, not}
 use Rattle.std.specs.Option.{option_map, option_and_then}
-use Rattle.std.specs.List.{AllByRecursion, find, list_any}
+use Rattle.std.specs.List.{AllByRecursion, list_any}
 use Rattle.std.proofs.lemmas.Option.{slice_get_within}
 use Rattle.session_value.specs.Sessions.{SessionValue}
 use Rattle.ring_net.specs.declared.post.Post.{Post}
@@ -11,8 +11,6 @@ use Rattle.ring_net.specs.Posts.{actor_of, clock_of, Wrote, SameEdges}
 use Rattle.ring_net.proofs.Replays.{all-append, replay-append}
 use Rattle.ring_net.proofs.PostLaws.{wrote_none, wrote_then}
 use Rattle.ring_net.proofs.TakesEach.{same_edges_then}
-use Rattle.graft_edge.specs.declared.ids.PeeringId.{PeeringId}
-use Rattle.graft_edge.specs.declared.ids.RouterId.{RouterId}
 use Rattle.graft_steps.specs.declared.item.Item.{Item}
 use Rattle.graft_steps.specs.declared.item.Item.TheVariants as items
 use Rattle.graft_steps.specs.declared.refusal.Outcome.{Outcome}
@@ -26,13 +24,11 @@ use Rattle.graft_model.specs.Parts.{OperatorPart}
 use Rattle.graft_model.specs.OperatorRows.{ReportIn, Notes}
 use Rattle.graft_model.specs.Steps.{Order, operator_row}
 use Rattle.graft_runs.specs.Actors.{OperatorIs, Router, FarSide, Operator, ActorName, actor_at}
-use Rattle.graft_runs.specs.Laws.{ActorsHaveNumbers, NumbersAreOfActors}
-use Rattle.graft_actors.specs.Acts.{acts, OwnPart, IsWelcome, MayComeFrom}
-use Rattle.settled_check.specs.Left.{HasUnissued, IsOpen}
-use Rattle.operator_core.specs.declared.grafts.Seat.{Seat}
+use Rattle.graft_runs.specs.Laws.{ActorsHaveNumbers, NumbersAreOfActors, IsGo}
+use Rattle.graft_actors.specs.Acts.{acts, IsWelcome, MayComeFrom}
 use Rattle.operator_core.specs.declared.groups.Task.{Task}
 use Rattle.operator_core.specs.declared.progress.Progress.{Progress}
-use Rattle.operator_core.specs.declared.script.ScriptStep.TheVariants.{Say, Graft, Settle}
+use Rattle.operator_core.specs.declared.script.ScriptStep.TheVariants.{Graft, Settle}
 use Rattle.operator_core.specs.Grafts.{is_waiting, is_open, outcome_at, source_in, outcome_in}
 use Rattle.operator_core.specs.Scripts.{IsScriptOf}
 use Rattle.operator_core.specs.Groups.{AreNumbers}
@@ -42,18 +38,18 @@ use Rattle.operator_core.specs.Issues.{IsHeld, waiting_are}
 use Rattle.operator_core.specs.Tasks.{unissued}
 use Rattle.operator_core.specs.Notes.{graft_noted}
 use Rattle.graft_actors.specs.Notes.{deed_of, WroteOne}
-use Rattle.operator_core.specs.Turns.{NothingToOrder, IsHeldUp}
-use Rattle.operator_core.specs.Progresses.{state, own_part_of, IsKnown, IsSound, HasSeats, HasEntries, IsOpenPlace, Ends, SameScript, HeldUpTo, IsUnchanged, Visits, Does, Turns, Takes}
+use Rattle.operator_core.specs.Turns.{BeginNoGroup, IsHeldUp}
+use Rattle.operator_core.specs.Progresses.{state, own_part_of, IsKnown, IsSound, HasSeats, HasEntries, IsOpenPlace, Ends, SameScript, HeldUpTo, Visits, Turns, Takes}
 use Rattle.operator_core.proofs.Lists.{compare, all_append_right}
-use Rattle.operator_core.proofs.Steps.{move_there, settle_back, as_many_routers, as_many_steps, number_at}
-use Rattle.operator_core.proofs.Scripts.{graft_of, step_of_graft}
-use Rattle.operator_core.proofs.Logs.{source_at, outcome_is, source_is}
+use Rattle.operator_core.proofs.Steps.{move_there, as_many_routers, as_many_steps, number_at}
+use Rattle.operator_core.proofs.Scripts.{step_of_graft}
+use Rattle.operator_core.proofs.Logs.{source_at}
 use Rattle.operator_core.proofs.Notes.{note_keeps, note_row, note_ordered, was_none}
 use Rattle.operator_core.proofs.Acts.{notes, drops}
 use Rattle.operator_core.proofs.Issues.{entry_there, entry_of_step}
 use Rattle.operator_core.proofs.Tasks.{split_at, all_taken, kept_alike, any_unissued, none_unissued}
 use Rattle.operator_core.proofs.Visits.{same_script}
-use Rattle.operator_core.proofs.Rests.{nothing_to_order, unissued_there, open_there, in_group_before}
+use Rattle.operator_core.proofs.Rests.{nothing_to_order, unissued_there, open_there}
 use Rattle.operator_core.proofs.Begins.{group_of_all}
 
 -- what is known of one progress is known of another with the same script
@@ -87,6 +83,7 @@ pub record Turning {C : Type 0} (start : Progress) (before : Post (Item C)) (pla
   pub deeds : List (Deed (Item C))
   pub wrote : Wrote before deeds after
   pub none : AllByRecursion TakesNone deeds
+  pub no_go : BeginNoGroup deeds
   pub same : SameScript start now
   pub as_many : length now.waiting.items ≡ length start.waiting.items
   pub keeps : Keeps (state now)
@@ -134,6 +131,7 @@ module _ {C : Type 0} where
     deeds = [];
     wrote = wrote_none post;
     none = tt;
+    no_go = tt;
     same = same_script start;
     as_many = refl;
     keeps = keeps;
@@ -148,6 +146,7 @@ module _ {C : Type 0} where
         deeds = t.deeds ++ v.deeds;
         wrote = wrote_then before between after t.deeds v.deeds t.wrote v.wrote;
         none = all-append TakesNone t.deeds v.deeds t.none v.none;
+        no_go = all-append (λ (d : Deed (Item C)). IsGo d.entry → ⊥) t.deeds v.deeds t.no_go v.no_go;
         same = same_then start mid now t.same v.same;
         as_many = v.as_many ∙ t.as_many;
         keeps = v.keeps known_mid t.keeps t.held;
@@ -167,6 +166,7 @@ module _ {C : Type 0} where
       sound = record { known = known_still start now (same_then start last now t.same same) known; keeps = subst Keeps (sym state_is) t.keeps };
     };
     none = t.none;
+    no_go = t.no_go;
     settled = λ step sent after' row. nothing_to_order (state last) t.keeps held step sent after'
         (subst (λ (s : State). operator_row s.setup (Order step) (part_of s) None sent after') state_is
         (subst (λ (s : Setup). operator_row s (Order step) (part_of (state now)) None sent after') (sym (ap (λ k. k.setup) (same.known ∙ t.same.known))) row));

@@ -1,30 +1,25 @@
 -- Where the operator begins, and the next group.
-use Rattle.std.proofs.Common.{◌≡◌, ℕ, zero, suc, ◌+◌, ◌-◌, ◌<◌, ◌≤◌, nat_eq, Bool, true, false, List, [], ◌∷◌, ◌++◌, length, map, Option, Some, None, refl, sym, ap, ◌∙◌, subst, inl, inr, arith, get_or}
+use Rattle.std.proofs.Common.{◌≡◌, ℕ, ◌+◌, ◌-◌, ◌<◌, ◌≤◌, nat_eq, true, false, List, [], ◌∷◌, length, map, Option, Some, None, refl, sym, ap, ◌∙◌, subst, inl, inr, arith}
 use Rattle.std.proofs.lemmas.Bool.Decides.{nat_tests}
-use Rattle.std.specs.Prelude.{◌≢◌, ◌⊎◌, ◌↔◌, slice_get, All, IsTrue, is_some}
+use Rattle.std.specs.Prelude.{◌≢◌, slice_get, All, is_some}
 use Rattle.std.specs.List.{find, range_with_len}
 use Rattle.std.specs.Option.{option_map}
 use Rattle.std.proofs.lemmas.Option.{slice_get_within, get_or_from_slice_get, slice_get-map}
-use Rattle.session_value.specs.Sessions.{SessionValue}
 use Rattle.ring_net.specs.declared.post.Post.{Post}
-use Rattle.ring_net.specs.Posts.{actor_of, clock_of, Wrote}
+use Rattle.ring_net.specs.Posts.{actor_of, clock_of}
 use Rattle.ring_net.proofs.PostLaws.{wrote_none}
 use Rattle.graft_edge.specs.declared.ids.RouterId.{RouterId}
 use Rattle.graft_steps.specs.declared.item.Item.{Item}
 use Rattle.graft_steps.specs.declared.log.GraftEntry.{GraftEntry}
 use Rattle.graft_model.specs.declared.kind.EventKind.TheVariants as kinds
 use Rattle.graft_model.specs.Codes.{number_of}
-use Rattle.graft_model.specs.Setups.{Setup, PeeringSetup, SayStep, MoveStep, SettleStep, group_of, groups_in, routers_in, peerings_in}
-use Rattle.graft_model.specs.First.{first_world}
+use Rattle.graft_model.specs.Setups.{Setup, PeeringSetup, SettleStep, group_of, groups_in, routers_in, peerings_in}
 use Rattle.graft_model.specs.OperatorRows.{BeginsGroup}
 use Rattle.graft_actors.specs.declared.known.Known.{Known}
-use Rattle.settled_check.specs.Left.{HasUnissued, IsOpen}
-use Rattle.operator_core.specs.declared.grafts.Seat.{Seat}
 use Rattle.operator_core.specs.declared.groups.Group.{Group}
 use Rattle.operator_core.specs.declared.groups.Task.{Task}
 use Rattle.operator_core.specs.declared.progress.Progress.{Progress}
 use Rattle.operator_core.specs.declared.script.Script.{Script}
-use Rattle.operator_core.specs.declared.script.ScriptStep.{ScriptStep}
 use Rattle.operator_core.specs.declared.script.ScriptStep.TheVariants.{Say, Graft, Settle}
 use Rattle.operator_core.specs.Scripts.{IsScriptOf, IsWorkable, IsWorkableStep, step_for}
 use Rattle.operator_core.specs.Groups.{IsGroupFrom, AreNumbers}

@@ -1,23 +1,21 @@
 -- A step that is issued: what it makes, and what stays true.
-use Rattle.std.proofs.Common.{◌≡◌, ℕ, ◌+◌, ◌<◌, ◌≤◌, ◌==◌, nat_lt, Bool, true, false, not, ◌&&◌, ◌||◌, List, [], ◌∷◌, ◌++◌, length, Option, Some, None, refl, sym, ap, ◌∙◌, subst, inl, inr, arith}
-use Rattle.std.specs.Prelude.{◌≢◌, ◌⊎◌, ◌↔◌, slice_get, slice_set, if◌then◌else◌}
+use Rattle.std.proofs.Common.{◌≡◌, ℕ, ◌<◌, ◌==◌, nat_lt, Bool, true, false, not, ◌&&◌, ◌||◌, List, [], ◌∷◌, ◌++◌, length, Option, Some, None, refl, sym, ap, ◌∙◌, subst, inl, inr, arith}
+use Rattle.std.specs.Prelude.{◌≢◌, ◌⊎◌, slice_get, slice_set, if◌then◌else◌}
 use Rattle.std.specs.List.{list_any, AllByRecursion}
 use Rattle.std.proofs.lemmas.Bool.Decides.{nat_tests}
 use Rattle.std.proofs.lemmas.Option.{slice_get_within}
 use Rattle.graft_steps.specs.declared.log.GraftEntry.{GraftEntry}
-use Rattle.graft_steps.specs.declared.log.GraftStage.TheVariants.{Issued}
 use Rattle.graft_model.specs.Points.{at}
-use Rattle.graft_model.specs.Setups.{Setup, ScriptStep, SayStep, MoveStep, SettleStep, group_of, grafts_in, graft_number, routers_in}
-use Rattle.graft_model.specs.Parts.{OperatorPart}
+use Rattle.graft_model.specs.Setups.{ScriptStep, SayStep, MoveStep, group_of, grafts_in, graft_number}
 use Rattle.graft_model.specs.OperatorRows.{OrderTo, SayTo, placement, OrdersSay, OrdersGraft}
 use Rattle.operator_core.specs.declared.grafts.Seat.{Seat}
-use Rattle.operator_core.specs.Grafts.{is_waiting, is_open, outcome_at, source_in, outcome_in}
+use Rattle.operator_core.specs.Grafts.{is_waiting, outcome_at, source_in, outcome_in}
 use Rattle.operator_core.specs.States.{State, is_issuable, issued_in, part_of}
-use Rattle.operator_core.specs.Keeps.{Rises, grafts_before, Waits, IsEntry, LogStands, NoneIsOpen, IsSeat, SeatsStand, EntriesAgree, Keeps, with_log}
+use Rattle.operator_core.specs.Keeps.{Rises, grafts_before, Waits, IsEntry, LogStands, IsSeat, SeatsStand, EntriesAgree, Keeps, with_log}
 use Rattle.operator_core.specs.Issues.{IsHeld, waiting_are, issued_entry, moving_seat, graft_issued}
 use Rattle.operator_core.proofs.Lists.{by_test, compare, get_set_same, get_set_other, length_set, there_is, one_member, all_in, all_append, all_append_left, all_append_right, once_in, others_in, lower_in, rises_without}
-use Rattle.operator_core.proofs.Scripts.{group_least, before_rises, before_differs, graft_of, step_of_graft}
-use Rattle.operator_core.proofs.Logs.{source_is, outcome_is, source_set, outcome_stays, open_is_not_waiting, open_has_no_outcome, waiting_has_no_outcome, ended_is_not_open, waiting_is_not_open, ordered_has_ended}
+use Rattle.operator_core.proofs.Scripts.{before_rises, before_differs, graft_of, step_of_graft}
+use Rattle.operator_core.proofs.Logs.{outcome_is, source_set, outcome_stays, waiting_has_no_outcome, ordered_has_ended}
 
 -- an entry of the script's graft at a step
 pub entry_there : (s : State) (keeps : Keeps s) (n p target : ℕ) → slice_get s.setup.steps n ≡ Some (MoveStep p target)

@@ -1,13 +1,11 @@
 -- Sources and outcomes of a log, entry by entry.
-use Rattle.std.proofs.Common.{◌≡◌, ℕ, zero, suc, ◌+◌, ◌<◌, ◌≤◌, ◌==◌, Bool, true, false, List, [], ◌∷◌, length, Option, Some, None, refl, sym, ap, ◌∙◌, subst, inl, inr, arith}
-use Rattle.std.specs.Prelude.{◌≢◌, ◌⊎◌, slice_get, slice_set, if◌then◌else◌}
+use Rattle.std.proofs.Common.{◌≡◌, ℕ, zero, suc, ◌+◌, ◌<◌, ◌==◌, true, false, List, length, Option, Some, None, refl, sym, ap, ◌∙◌, inl, inr, arith}
+use Rattle.std.specs.Prelude.{◌≢◌, slice_get, slice_set}
 use Rattle.std.specs.Option.{option_and_then, option_map}
 use Rattle.std.proofs.lemmas.Bool.Decides.{nat_tests}
-use Rattle.graft_edge.specs.declared.ids.RouterId.{RouterId}
 use Rattle.graft_steps.specs.declared.log.GraftEntry.{GraftEntry}
 use Rattle.graft_steps.specs.declared.log.GraftStage.{GraftStage}
 use Rattle.graft_steps.specs.declared.log.GraftStage.TheVariants.{Waiting, Issued, Ended}
-use Rattle.graft_steps.specs.declared.refusal.Outcome.{Outcome}
 use Rattle.graft_model.specs.Points.{at}
 use Rattle.operator_core.specs.Grafts.{is_waiting, is_open, outcome_at, entry_at, source_in, outcome_in}
 use Rattle.operator_core.proofs.Lists.{by_test, get_set_same, get_set_other}

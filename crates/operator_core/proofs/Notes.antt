@@ -1,18 +1,15 @@
 -- A graft whose end is reported: what it makes, and what stays true.
-use Rattle.std.proofs.Common.{◌≡◌, ℕ, ◌+◌, ◌<◌, ◌≤◌, ◌==◌, Bool, true, false, not, List, [], ◌∷◌, length, Option, Some, None, refl, sym, ap, ◌∙◌, subst, inl, inr, arith}
-use Rattle.std.specs.Prelude.{◌≢◌, ◌⊎◌, ◌↔◌, slice_get, slice_set, if◌then◌else◌}
+use Rattle.std.proofs.Common.{◌≡◌, ℕ, ◌+◌, ◌<◌, ◌==◌, true, false, not, [], length, Option, Some, None, refl, sym, ap, ◌∙◌, subst, inl, inr, arith}
+use Rattle.std.specs.Prelude.{◌≢◌, ◌⊎◌, slice_get, if◌then◌else◌}
 use Rattle.std.specs.Option.{option_map}
 use Rattle.std.proofs.lemmas.Bool.Decides.{nat_tests}
 use Rattle.graft_edge.specs.declared.ids.RouterId.{RouterId}
 use Rattle.std.proofs.lemmas.Option.{slice_get_within}
 use Rattle.graft_steps.specs.declared.log.GraftEntry.{GraftEntry}
-use Rattle.graft_steps.specs.declared.log.GraftStage.{GraftStage}
-use Rattle.graft_steps.specs.declared.log.GraftStage.TheVariants.{Waiting, Issued, Ended}
 use Rattle.graft_steps.specs.declared.refusal.Outcome.{Outcome}
 use Rattle.graft_steps.specs.declared.refusal.Outcome.TheVariants.{Accepted, Refused}
 use Rattle.graft_model.specs.Points.{at}
-use Rattle.graft_model.specs.Setups.{Setup, ScriptGraft, MoveStep, group_of, grafts_in, routers_in}
-use Rattle.graft_model.specs.Parts.{Report}
+use Rattle.graft_model.specs.Setups.{ScriptGraft, MoveStep, group_of, grafts_in, routers_in}
 use Rattle.graft_model.specs.OperatorRows.{ReportIn, is_accepted, placement, Notes}
 use Rattle.operator_core.specs.declared.grafts.Seat.{Seat}
 use Rattle.operator_core.specs.Grafts.{is_waiting, is_open, outcome_at, source_in, outcome_in}

@@ -1,11 +1,11 @@
 -- Where a session belongs, after a graft of its peering has ended.
-use Rattle.std.proofs.Common.{◌≡◌, ℕ, zero, suc, ◌+◌, ◌<◌, ◌≤◌, ◌==◌, ◌&&◌, Bool, true, false, List, [], ◌∷◌, length, map, filter, Option, Some, None, unwrap_or, refl, sym, ap, ◌∙◌, subst, inl, inr, arith}
-use Rattle.std.specs.Prelude.{◌≢◌, ◌⊎◌, slice_get}
+use Rattle.std.proofs.Common.{◌≡◌, ℕ, zero, suc, ◌<◌, ◌==◌, ◌&&◌, Bool, true, false, List, [], ◌∷◌, map, filter, Option, Some, None, unwrap_or, refl, ap, ◌∙◌, inl, inr, arith}
+use Rattle.std.specs.Prelude.{slice_get}
 use Rattle.std.specs.List.{last_or}
 use Rattle.std.proofs.lemmas.Bool.Decides.{nat_tests}
 use Rattle.graft_steps.specs.declared.refusal.Outcome.{Outcome}
 use Rattle.graft_model.specs.Setups.{Setup, ScriptGraft, grafts_in, start_of}
-use Rattle.graft_model.specs.OperatorRows.{is_accepted, placement}
+use Rattle.graft_model.specs.OperatorRows.{is_accepted}
 use Rattle.operator_core.proofs.Lists.{by_test}
 
 -- the targets of the grafts that pass, and of these the last

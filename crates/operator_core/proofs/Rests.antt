@@ -1,5 +1,5 @@
 -- What is left to do, as the state has it.
-use Rattle.std.proofs.Common.{◌≡◌, ℕ, zero, suc, ◌+◌, ◌<◌, ◌≤◌, ◌==◌, nat_lt, Bool, true, false, not, ◌&&◌, cond, List, [], ◌∷◌, length, map, Option, Some, None, refl, sym, ap, ◌∙◌, subst, inl, inr, arith}
+use Rattle.std.proofs.Common.{◌≡◌, ℕ, zero, suc, ◌+◌, ◌<◌, ◌≤◌, ◌==◌, nat_lt, Bool, true, false, not, ◌&&◌, cond, List, [], ◌∷◌, length, Option, Some, None, refl, sym, ap, ◌∙◌, subst, inl, inr, arith}
 use Rattle.std.specs.Prelude.{◌≢◌, ◌⊎◌, ◌↔◌, slice_get}
 use Rattle.std.specs.Option.{option_map}
 use Rattle.std.specs.List.{list_any, find, AllByRecursion}
@@ -9,12 +9,12 @@ use Rattle.graft_edge.specs.declared.ids.RouterId.{RouterId}
 use Rattle.graft_steps.specs.declared.log.GraftEntry.{GraftEntry}
 use Rattle.graft_steps.specs.declared.log.GraftStage.{GraftStage}
 use Rattle.graft_steps.specs.declared.log.GraftStage.TheVariants.{Waiting, Issued, Ended}
-use Rattle.graft_model.specs.Setups.{Setup, ScriptStep, SayStep, MoveStep, SettleStep, ScriptGraft, group_of, grafts_in, graft_number}
+use Rattle.graft_model.specs.Setups.{ScriptStep, SayStep, MoveStep, SettleStep, group_of, grafts_in, graft_number}
 use Rattle.graft_model.specs.Parts.{OperatorPart}
-use Rattle.graft_model.specs.OperatorRows.{OperatorSent, OrdersSay, OrdersGraft}
+use Rattle.graft_model.specs.OperatorRows.{OperatorSent, OrdersGraft}
 use Rattle.graft_model.specs.Steps.{Order, operator_row}
 use Rattle.settled_check.specs.Firsts.{IsLowestOf}
-use Rattle.settled_check.specs.Left.{IsUnissued, HasUnissued, IsOpen}
+use Rattle.settled_check.specs.Left.{HasUnissued, IsOpen}
 use Rattle.operator_core.specs.Grafts.{is_waiting, is_open, outcome_at, source_in, outcome_in, stage_of, entry_of, log_of}
 use Rattle.operator_core.specs.States.{State, is_issuable, issued_in, part_of}
 use Rattle.operator_core.specs.Keeps.{grafts_before, Waits, IsEntry, Keeps}

@@ -1,10 +1,9 @@
 -- The groups and the grafts of a script, step by step.
-use Rattle.std.proofs.Common.{◌≡◌, ℕ, zero, suc, ◌+◌, ◌<◌, ◌≤◌, ◌==◌, Bool, true, false, List, [], ◌∷◌, ◌++◌, length, take, Option, Some, None, refl, sym, ap, ◌∙◌, subst, inl, inr, arith, filter}
-use Rattle.std.specs.Prelude.{◌≢◌, ◌⊎◌, slice_get}
-use Rattle.std.proofs.lemmas.Bool.Decides.{nat_tests}
-use Rattle.graft_model.specs.Setups.{Setup, ScriptStep, SayStep, MoveStep, SettleStep, is_settle, group_of, groups_in, ScriptGraft, grafts_after, grafts_in, graft_number}
+use Rattle.std.proofs.Common.{◌≡◌, ℕ, zero, suc, ◌+◌, ◌<◌, ◌≤◌, List, [], ◌∷◌, length, take, Some, refl, ap, ◌∙◌, subst, inl, inr, arith, filter}
+use Rattle.std.specs.Prelude.{◌≢◌, slice_get}
+use Rattle.graft_model.specs.Setups.{Setup, ScriptStep, SayStep, MoveStep, SettleStep, is_settle, group_of, ScriptGraft, grafts_after, grafts_in, graft_number}
 use Rattle.operator_core.specs.Keeps.{grafts_before}
-use Rattle.operator_core.proofs.Lists.{by_test, compare}
+use Rattle.operator_core.proofs.Lists.{compare}
 
 -- ---- over lists of steps
 

@@ -1,11 +1,9 @@
 -- A step that waits is visited: it waits still, or was issued.
-use Rattle.std.proofs.Common.{◌≡◌, ℕ, suc, ◌+◌, ◌-◌, ◌<◌, ◌≤◌, true, false, List, [], ◌∷◌, ◌++◌, length, take, drop, Option, Some, None, refl, sym, ap, ◌∙◌, subst, inl, inr, arith}
-use Rattle.std.specs.Prelude.{◌≢◌, slice_get, slice_set, slice_index_or}
+use Rattle.std.proofs.Common.{◌≡◌, ℕ, suc, ◌+◌, ◌-◌, true, false, List, [], ◌∷◌, ◌++◌, length, take, drop, Option, Some, None, refl, sym, ap, ◌∙◌, subst, arith}
+use Rattle.std.specs.Prelude.{slice_get, slice_set, slice_index_or}
 use Rattle.std.specs.List.{AllByRecursion}
 use Rattle.std.proofs.lemmas.Option.{slice_get_within}
-use Rattle.session_value.specs.Sessions.{SessionValue}
 use Rattle.ring_net.specs.declared.post.Post.{Post}
-use Rattle.ring_net.specs.Deeds.{Deed, Replay}
 use Rattle.ring_net.specs.Posts.{actor_of, clock_of, Wrote}
 use Rattle.ring_net.proofs.PostLaws.{wrote_none}
 use Rattle.graft_edge.specs.declared.ids.PeeringId.{PeeringId}
@@ -14,9 +12,8 @@ use Rattle.graft_steps.specs.declared.item.Item.{Item}
 use Rattle.graft_steps.specs.declared.item.Item.TheVariants.{SayOrder, GraftOrder}
 use Rattle.graft_model.specs.declared.kind.EventKind.TheVariants as kinds
 use Rattle.graft_model.specs.Codes.{number_of}
-use Rattle.graft_model.specs.Setups.{MoveStep, SettleStep, graft_number, routers_in, peerings_in}
+use Rattle.graft_model.specs.Setups.{MoveStep, graft_number}
 use Rattle.graft_runs.specs.Laws.{ActorsHaveNumbers}
-use Rattle.graft_actors.specs.Acts.{acts}
 use Rattle.operator_core.specs.declared.grafts.Seat.{Seat}
 use Rattle.operator_core.specs.declared.groups.Task.{Task}
 use Rattle.operator_core.specs.declared.progress.Progress.{Progress}
@@ -29,12 +26,16 @@ use Rattle.operator_core.specs.Tasks.{unissued}
 use Rattle.operator_core.specs.Progresses.{state, own_part_of, IsKnown, SameScript, HeldUpTo, IssuesGraft, Visits}
 use Rattle.operator_core.proofs.Lists.{all_append, all_append_right, all_map, length_set}
 use Rattle.operator_core.proofs.Tasks.{done, split_at, split_done, before_done, before_more, before_same}
-use Rattle.operator_core.proofs.Steps.{say_there, move_there, settle_there, as_many_routers, as_many_steps, number_at}
+use Rattle.operator_core.proofs.Steps.{say_there, move_there, settle_there, as_many_routers, number_at}
 use Rattle.operator_core.proofs.Issues.{waits, say_keeps, say_row, graft_keeps, graft_row, held_still}
 use Rattle.operator_core.proofs.Acts.{says, orders}
 
 pub same_script : (p : Progress) → SameScript p p
 same_script p = record { known = refl; script = refl; numbers = refl; group = refl; next = refl }
+
+-- an order is an event of another kind than the beginning of a group
+no_go : number_of kinds.Order ≡ number_of kinds.Go → ⊥
+no_go e = omega (arith, e)
 
 next_place : (n : ℕ) → n + 1 ≡ suc n
 next_place n = omega arith
@@ -57,6 +58,7 @@ module _ {C : Type 0} (old : Progress) (place : ℕ) (task : Task) (there : slic
     deeds = [];
     wrote = wrote_none post;
     none = tt;
+    no_go = tt;
     same = same_script old;
     as_many = refl;
     keeps = λ known keeps helds. keeps;
@@ -104,6 +106,7 @@ module _ {C : Type 0} (old : Progress) (place : ℕ) (task : Task) (there : slic
       deeds = deed_of before (number_of kinds.Order) task.step 0 0 None ((length old.script.rooms + p.0, SayOrder task.step) ∷ []) ∷ [];
       wrote = wrote;
       none = (refl, tt);
+      no_go = (no_go, tt);
       same = then old mid new same mid_new;
       as_many = as_many_tasks waiting;
       keeps = λ known keeps helds. subst Keeps (sym whole) (
@@ -132,6 +135,7 @@ module _ {C : Type 0} (old : Progress) (place : ℕ) (task : Task) (there : slic
       deeds = deed_of before (number_of kinds.Order) task.step 0 0 None ((issued.seat.place.0, GraftOrder (slice_index_or old.numbers task.step 0) p target) ∷ []) ∷ [];
       wrote = issued.wrote;
       none = (refl, tt);
+      no_go = (no_go, tt);
       same = then old mid new issued.same mid_new;
       as_many = as_many_tasks issued.waiting;
       keeps = λ known keeps helds. subst Keeps (sym (whole known))

@@ -2,7 +2,6 @@
 use Rattle.std.specs.Prelude.{ℕ, zero, suc, ◌+◌, List, [], ◌∷◌, map, Bool, true, false, Option, Some, None, slice_get}
 use Rattle.std.specs.Option.{option_map, option_and_then}
 use Rattle.graft_edge.specs.declared.ids.RouterId.{RouterId}
-use Rattle.graft_edge.specs.declared.ids.PeeringId.{PeeringId}
 use Rattle.graft_steps.specs.declared.log.GraftEntry.{GraftEntry}
 use Rattle.graft_steps.specs.declared.log.GraftStage.{GraftStage}
 use Rattle.graft_steps.specs.declared.log.GraftStage.TheVariants.{Waiting, Issued, Ended}

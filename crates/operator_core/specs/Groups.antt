@@ -1,5 +1,5 @@
 -- The steps of a group, and the numbers of grafts, over the steps of a script.
-use Rattle.std.specs.Prelude.{ℕ, ◌≡◌, ◌≢◌, ◌≤◌, ◌<◌, ◌+◌, ◌==◌, List, [], ◌∷◌, length, filter, take, Bool, true, false, Some, slice_get, slice_index_or}
+use Rattle.std.specs.Prelude.{ℕ, ◌≡◌, ◌≢◌, ◌≤◌, ◌<◌, ◌+◌, List, length, filter, take, Bool, true, false, Some, slice_get, slice_index_or}
 use Rattle.std.specs.List.{range_with_len}
 use Rattle.operator_core.specs.declared.groups.Group.{Group}
 use Rattle.operator_core.specs.declared.script.ScriptStep.{ScriptStep}

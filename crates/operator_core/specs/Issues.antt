@@ -1,5 +1,5 @@
 -- What issuing a step changes.
-use Rattle.std.specs.Prelude.{ℕ, ◌≡◌, ◌+◌, List, ◌++◌, true, Some, slice_get, slice_set}
+use Rattle.std.specs.Prelude.{ℕ, ◌≡◌, ◌+◌, List, true, Some, slice_get, slice_set}
 use Rattle.graft_steps.specs.declared.log.GraftEntry.{GraftEntry}
 use Rattle.graft_steps.specs.declared.log.GraftStage.TheVariants.{Issued}
 use Rattle.graft_model.specs.Setups.{MoveStep}

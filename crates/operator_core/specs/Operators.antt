@@ -1,5 +1,5 @@
 -- The operator as its part of the world.
-use Rattle.std.specs.Prelude.{ℕ, ◌≡◌, ◌↔◌, ◌≤◌, List, [], ◌∷◌, length}
+use Rattle.std.specs.Prelude.{ℕ, ◌≡◌, ◌↔◌, ◌≤◌, List, [], length}
 use Rattle.ring_net.specs.Deeds.{Deed}
 use Rattle.graft_steps.specs.declared.item.Item.{Item}
 use Rattle.graft_model.specs.Setups.{Setup}
@@ -8,7 +8,7 @@ use Rattle.graft_actors.specs.Acts.{OwnPart}
 use Rattle.operator_core.specs.declared.operator.Operator.{Operator}
 use Rattle.operator_core.specs.States.{part_of}
 use Rattle.operator_core.specs.Progresses.{state, own_part_of}
-use Rattle.operator_core.specs.Turns.{NothingToOrder, IsHeldUp}
+use Rattle.operator_core.specs.Turns.{BeginNoGroup, NothingToOrder, IsHeldUp}
 
 -- the laboratory that the operator is of, which only proofs know
 abbrev pub setup_of : Operator → Setup
@@ -27,9 +27,10 @@ module _ {C : Type 0} where
   abbrev pub took : Operator → ℕ → Item C → List (Deed (Item C)) → Operator → Type 0
   took old from item deeds new = length deeds ≡ 1
 
-  -- of a turn: at its end no step of the group may be issued
-  abbrev pub turned : Operator → List (Deed (Item C)) → Operator → Type 0
-  turned old deeds new = NothingToOrder (setup_of old) (operator_part new)
+  -- Of a turn: it begins no group, and at its end no step of the group may be issued.
+  pub record Turned (old : Operator) (deeds : List (Deed (Item C))) (new : Operator) : Type 0 where
+    pub no_go : BeginNoGroup deeds
+    pub done : NothingToOrder (setup_of old) (operator_part new)
 
   -- Of what is done at a mark: nothing exactly where the next group may not begin, else one event.
   pub record Paused (old : Operator) (deeds : List (Deed (Item C))) (new : Operator) : Type 0 where

@@ -1,16 +1,16 @@
 -- How far the operator is, as the program has it.
-use Rattle.std.specs.Prelude.{ℕ, ◌≡◌, ◌≤◌, ◌<◌, ◌+◌, ◌-◌, ◌↔◌, ◌++◌, Bool, true, false, List, [], ◌∷◌, length, take, Option, Some, None, slice_get, slice_index_or}
+use Rattle.std.specs.Prelude.{ℕ, ◌≡◌, ◌≤◌, ◌<◌, ◌+◌, ◌-◌, ◌↔◌, Bool, true, false, List, [], ◌∷◌, length, take, Option, Some, None, slice_get, slice_index_or}
 use Rattle.std.specs.List.{AllByRecursion}
 use Rattle.graft_edge.specs.declared.ids.PeeringId.{PeeringId}
 use Rattle.graft_edge.specs.declared.ids.RouterId.{RouterId}
 use Rattle.session_value.specs.Sessions.{SessionValue}
 use Rattle.ring_net.specs.declared.post.Post.{Post}
-use Rattle.ring_net.specs.Deeds.{Deed, Replay, TakesNone, TakesFirst}
+use Rattle.ring_net.specs.Deeds.{Deed, Replay, TakesNone}
 use Rattle.ring_net.specs.Posts.{actor_of, Wrote}
 use Rattle.graft_steps.specs.declared.log.GraftEntry.{GraftEntry}
 use Rattle.graft_steps.specs.declared.refusal.Outcome.{Outcome}
 use Rattle.graft_steps.specs.declared.item.Item.{Item}
-use Rattle.graft_steps.specs.declared.item.Item.TheVariants.{GraftOrder, SayOrder}
+use Rattle.graft_steps.specs.declared.item.Item.TheVariants.{GraftOrder}
 use Rattle.graft_model.specs.declared.kind.EventKind.TheVariants as kinds
 use Rattle.graft_model.specs.Codes.{number_of}
 use Rattle.graft_model.specs.First.{first_world}
@@ -18,14 +18,13 @@ use Rattle.graft_actors.specs.declared.known.Known.{Known}
 use Rattle.graft_runs.specs.Actors.{OperatorIs, Operator as TheOperator}
 use Rattle.graft_actors.specs.Acts.{OwnPart, acts}
 use Rattle.operator_core.specs.declared.grafts.Seat.{Seat}
-use Rattle.operator_core.specs.declared.script.ScriptStep.{ScriptStep}
-use Rattle.operator_core.specs.declared.script.ScriptStep.TheVariants.{Say, Graft, Settle}
+use Rattle.operator_core.specs.declared.script.ScriptStep.TheVariants.{Graft, Settle}
 use Rattle.operator_core.specs.declared.progress.Progress.{Progress}
 use Rattle.operator_core.specs.Scripts.{IsScriptOf}
 use Rattle.operator_core.specs.Tasks.{unissued}
 use Rattle.operator_core.specs.Grafts.{is_open}
 use Rattle.operator_core.specs.Notes.{graft_noted}
-use Rattle.operator_core.specs.Turns.{NothingToOrder, IsHeldUp}
+use Rattle.operator_core.specs.Turns.{BeginNoGroup, NothingToOrder, IsHeldUp}
 use Rattle.operator_core.specs.Groups.{AreNumbers}
 use Rattle.operator_core.specs.States.{State, part_of}
 use Rattle.operator_core.specs.Keeps.{Keeps}
@@ -110,6 +109,7 @@ module _ {C : Type 0} where
     pub deeds : List (Deed (Item C))
     pub wrote : Wrote before deeds after
     pub none : AllByRecursion TakesNone deeds
+    pub no_go : BeginNoGroup deeds
     pub same : SameScript old new
     pub as_many : length new.waiting.items ≡ length old.waiting.items
     pub keeps : IsKnown old → Keeps (state old) → HeldUpTo old place → Keeps (state new)
@@ -127,6 +127,7 @@ module _ {C : Type 0} where
     pub deeds : List (Deed (Item C))
     pub does : Does old before deeds new after
     pub none : AllByRecursion TakesNone deeds
+    pub no_go : BeginNoGroup deeds
     pub settled : NothingToOrder old.known.setup (part_of (state new))
 
   pub record Takes (from : ℕ) (item : Item C) (old : Progress) (before : Post (Item C)) (new : Progress) (after : Post (Item C)) : Type 0 where

@@ -1,5 +1,5 @@
 -- When a script is that of a laboratory.
-use Rattle.std.specs.Prelude.{ℕ, ◌≡◌, ◌≤◌, ◌<◌, ◌-◌, All, length, map, Some, slice_get}
+use Rattle.std.specs.Prelude.{◌≡◌, ◌≤◌, ◌<◌, ◌-◌, All, length, map, Some, slice_get}
 use Rattle.graft_model.specs.Setups.{Setup, ScriptStep as StepOf, SayStep, MoveStep, SettleStep}
 use Rattle.operator_core.specs.declared.script.Script.{Script}
 use Rattle.operator_core.specs.declared.script.ScriptStep.{ScriptStep}

@@ -1,11 +1,18 @@
 -- What is said of whole calls of the operator, beside their events.
-use Rattle.std.specs.Prelude.{ℕ, ◌≡◌, ◌≤◌, ◌+◌, ◌↔◌, ◌⊎◌, List, [], length, None}
+use Rattle.std.specs.Prelude.{ℕ, ◌≤◌, ◌+◌, ◌⊎◌, List, None}
+use Rattle.std.specs.List.{AllByRecursion}
 use Rattle.ring_net.specs.Deeds.{Deed}
+use Rattle.graft_steps.specs.declared.item.Item.{Item}
 use Rattle.graft_model.specs.Setups.{Setup, groups_in}
 use Rattle.graft_model.specs.Parts.{OperatorPart}
 use Rattle.graft_model.specs.OperatorRows.{OperatorSent}
 use Rattle.graft_model.specs.Steps.{Order, operator_row}
+use Rattle.graft_runs.specs.Laws.{IsGo}
 use Rattle.settled_check.specs.Left.{HasUnissued, IsOpen}
+
+-- none of these events begins a group
+abbrev pub BeginNoGroup : {C : Type 0} → List (Deed (Item C)) → Type 0
+BeginNoGroup deeds = AllByRecursion (λ d. IsGo d.entry → ⊥) deeds
 
 -- no step of the group at work may be issued
 abbrev pub NothingToOrder : Setup → OperatorPart → Type 0

@@ -31,7 +31,7 @@ impl Operator {
     ghost use Rattle.operator_core.specs.Scripts.{IsScriptOf, IsWorkable};
     ghost use Rattle.operator_core.specs.Grafts.{log_of};
     ghost use Rattle.operator_core.specs.Turns.{IsHeldUp};
-    ghost use Rattle.operator_core.specs.Operators.{setup_of, operator_part, own_part, took as took_lem, turned as turned_lem, Paused};
+    ghost use Rattle.operator_core.specs.Operators.{setup_of, operator_part, own_part, took as took_lem, Turned, Paused};
 
     /// The operator before anything is issued, with the first group of its script at work.
     pub fn new(alloc: Global, known: Known, script: Script) -> Result<Operator, NoMemory>
@@ -59,7 +59,7 @@ impl Operator {
 
     /// Issues each step of the group at work that may be issued, in their order.
     pub fn turn<C: Drop>(&mut self, post: &mut Post<Item<C>>) -> Result<(), NoMemory>
-        ensures turned { OnOk result ((session : C → SessionValue) → Moved own_part (acts session) turned_lem self.old post.old self.new post.new) }
+        ensures turned { OnOk result ((session : C → SessionValue) → Moved own_part (acts session) Turned self.old post.old self.new post.new) }
         ensures edges { SameEdges post.old post.new }
     {
         self.progress.turn(post)

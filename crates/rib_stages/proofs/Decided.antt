@@ -1,21 +1,18 @@
 -- The chosen route of kept ranks.
-use Rattle.std.proofs.Common.{◌≡◌, ℕ, Bool, true, false, cond, List, Option, Some, None, refl, sym, ap, subst, ◌∙◌}
-use Rattle.std.specs.Prelude.{option_and_then, is_some, option_copied}
-use Rattle.std.specs.FinMap as map
+use Rattle.std.proofs.Common.{◌≡◌, Bool, true, false, cond, Option, Some, None, refl, sym, ap, ◌∙◌}
+use Rattle.std.specs.Prelude.{option_and_then, is_some}
 use Rattle.std.specs.Option.{option_map}
 use Rattle.bgp_types.specs.Prefixes.{PrefixValue}
 use Rattle.bgp_types.specs.declared.attrs.Route.{Route}
 use Rattle.bgp_types.specs.declared.rank.From.{From}
 use Rattle.bgp_types.specs.declared.rank.From.TheVariants.{Own, Peering, Router}
 use Rattle.decision_core.specs.Choice.{choice}
-use Rattle.decision_groups.specs.Order.{RankedSource, IsInOrder}
-use Rattle.decision_groups.specs.Sources.{ranked_sources}
+use Rattle.decision_groups.specs.Order.{IsInOrder}
 use Rattle.decision_groups.proofs.Sources.{choice-sources}
-use Rattle.loc_rib.specs.Values.{LocValue, with_best}
 use Rattle.route_policy.specs.Candidates.{own_route}
 use Rattle.route_policy.specs.declared.best.Best.{Best}
 use Rattle.session_value.specs.Sets.{Prefixes, has}
-use Rattle.rib_stages.specs.Values.{RibValue, set_of}
+use Rattle.rib_stages.specs.Values.{RibValue}
 use Rattle.rib_stages.specs.Choosing.{has_network, candidates_of, chosen, route_from}
 use Rattle.rib_stages.specs.Ranks.{RankSets, ranks_at, route_at, IsRib}
 use Rattle.rib_stages.proofs.Candidates.{IsShort, from_of, best_from_there, choice_named, ranks_same_lists}

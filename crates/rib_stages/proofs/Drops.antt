@@ -1,21 +1,18 @@
 -- A source's routes go one after another.
-use Rattle.std.proofs.Common.{◌≡◌, ℕ, zero, suc, ◌+◌, ◌-◌, ◌<◌, ◌==◌, Bool, true, false, cond, List, [], ◌∷◌, Option, Some, None, refl, sym, ap, subst, ◌∙◌, arith, inl, inr}
-use Rattle.std.specs.Prelude.{◌≢◌, ◌⊎◌, ◌||◌, is_some}
+use Rattle.std.proofs.Common.{◌≡◌, ℕ, zero, suc, ◌-◌, ◌<◌, ◌==◌, Bool, true, false, cond, List, [], ◌∷◌, Option, Some, None, refl, sym, ap, subst, ◌∙◌, arith, inl, inr}
+use Rattle.std.specs.Prelude.{◌⊎◌, ◌||◌, is_some}
 use Rattle.std.specs.FinMap as map
 use Rattle.std.specs.List.{list_any}
 use Rattle.std.specs.Ordering.{eq_by_cmp}
-use Rattle.std.proofs.lemmas.Bool.{eqb-true, eq-eqb}
+use Rattle.std.proofs.lemmas.Bool.{eq-eqb}
 use Rattle.bgp_types.specs.Prefixes.{PrefixValue}
 use Rattle.bgp_types.specs.Tables.{prefix_cmp, first_above}
-use Rattle.bgp_types.specs.declared.attrs.Route.{Route}
 use Rattle.bgp_types.proofs.TableLaws.{prefix_total, tied}
 use Rattle.loc_rib.specs.Values.{with_value}
-use Rattle.route_policy.specs.declared.entry.Entry.{Entry}
 use Rattle.session_value.specs.Points.{at}
-use Rattle.session_value.specs.Sets.{Entries, Tellings, Prefixes, has, Marks}
+use Rattle.session_value.specs.Sets.{Entries, Tellings, Prefixes, Marks}
 use Rattle.rib_stages.specs.Values.{RibValue}
 use Rattle.rib_stages.specs.Steps.{EntersEntry, EntersTelling, DropsEntries, DropsTellings}
-use Rattle.rib_stages.proofs.Kept.{changed_here}
 use Rattle.rib_stages.proofs.Marks.{with_gives, marks_next, itself}
 use Rattle.rib_stages.proofs.Tables.{at-itself}
 

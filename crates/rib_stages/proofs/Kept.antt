@@ -1,5 +1,5 @@
 -- What belongs to the routes still does after each change.
-use Rattle.std.proofs.Common.{◌≡◌, ℕ, ◌<◌, ◌≤◌, ◌==◌, Bool, true, false, cond, ◌||◌, List, [], ◌∷◌, Option, Some, None, refl, sym, ap, subst, ◌∙◌, arith}
+use Rattle.std.proofs.Common.{◌≡◌, ℕ, ◌<◌, ◌≤◌, ◌==◌, Bool, true, false, cond, ◌||◌, List, [], ◌∷◌, Option, None, refl, sym, ap, subst, ◌∙◌, arith}
 use Rattle.std.specs.Prelude.{◌≢◌, fold, is_some}
 use Rattle.std.specs.FinMap as map
 use Rattle.std.specs.List.{list_any}
@@ -21,10 +21,10 @@ use Rattle.session_value.specs.Points.{at}
 use Rattle.session_value.specs.Sets.{Entries, Prefixes, Tellings, has}
 use Rattle.rib_stages.specs.declared.config.RibConfig.{RibConfig}
 use Rattle.rib_stages.specs.Values.{RibValue, set_of}
-use Rattle.rib_stages.specs.Choosing.{cost_to, identifier_of, has_network, chosen, IsDecided}
+use Rattle.rib_stages.specs.Choosing.{cost_to, identifier_of, chosen}
 use Rattle.rib_stages.specs.Ranks.{RankSets, ranks_at, SetsRank, rank_in, entry_rank, IsRib, HasOwnRanks}
 use Rattle.rib_stages.proofs.Candidates.{chosen_by, none_chosen}
-use Rattle.rib_stages.proofs.Marks.{with_gives, with_here, with_there, has_inserted, itself, apart}
+use Rattle.rib_stages.proofs.Marks.{with_gives, with_here, with_there, has_inserted, itself}
 
 -- ---- prefixes
 

@@ -1,19 +1,18 @@
 -- What is kept after the calls of a whole change.
-use Rattle.std.proofs.Common.{◌≡◌, ℕ, ◌<◌, false, List, Option, Some, None, refl, sym, ap, subst, ◌∙◌, inl, inr}
-use Rattle.std.specs.Prelude.{◌⊎◌, ◌≢◌, Result, Ok, Err, OnOk, OnErr}
+use Rattle.std.proofs.Common.{◌≡◌, ℕ, ◌<◌, false, List, Option, Some, refl, sym, ap, subst, ◌∙◌, inl, inr}
+use Rattle.std.specs.Prelude.{◌≢◌, Result, Ok, Err, OnOk, OnErr}
 use Rattle.std.specs.FinMap as map
 use Rattle.std.specs.Option.{option_map}
 use Rattle.bgp_types.specs.Prefixes.{PrefixValue}
 use Rattle.bgp_types.specs.Tables.{prefix_cmp}
 use Rattle.bgp_types.specs.declared.attrs.Route.{Route}
 use Rattle.bgp_types.specs.declared.rank.From.TheVariants.{Peering, Router}
-use Rattle.decision_groups.specs.Order.{RankedSource}
 use Rattle.loc_rib.specs.Values.{LocValue, with_best, with_value}
 use Rattle.route_policy.specs.Candidates.{own_rank, own_route, rank_of}
 use Rattle.route_policy.specs.declared.best.Best.{Best}
 use Rattle.route_policy.specs.declared.entry.Entry.{Entry}
 use Rattle.session_value.specs.Points.{at}
-use Rattle.session_value.specs.Sets.{Entries, Tellings, Prefixes, MarksOne}
+use Rattle.session_value.specs.Sets.{Entries, Tellings, Prefixes}
 use Rattle.rib_stages.specs.declared.config.RibConfig.{RibConfig}
 use Rattle.prefix_trie.specs.Table.{TableValue}
 use Rattle.rib_stages.specs.Values.{RibValue, contents_of, set_of, table_at, tables_of}

@@ -8,7 +8,7 @@ use Rattle.bgp_types.specs.declared.rank.From.TheVariants.{Own, Peering, Router}
 use Rattle.loc_rib.specs.Values.{with_value}
 use Rattle.route_policy.specs.declared.entry.Entry.{Entry}
 use Rattle.session_value.specs.Points.{at}
-use Rattle.session_value.specs.Sets.{Entries, Tellings, Marks, MarksOne}
+use Rattle.session_value.specs.Sets.{Marks, MarksOne}
 use Rattle.rib_stages.specs.declared.config.InEntry.{InEntry}
 use Rattle.rib_stages.specs.Values.{RibValue}
 

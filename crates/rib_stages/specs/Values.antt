@@ -1,5 +1,5 @@
 -- The routes of a router as its callers see them (RFC 4271, section 3.2).
-use Rattle.std.specs.Prelude.{ℕ, List, Option, option_map, unwrap_or, slice_get, fold, map as list_map, refl}
+use Rattle.std.specs.Prelude.{ℕ, List, option_map, unwrap_or, slice_get, fold, map as list_map, refl}
 use Rattle.std.specs.Coded.{Coded, code_by, coded×, coded_list, coded_ℕ}
 use base.Stored.{coded_unit}
 use Rattle.std.specs.FinMap as map

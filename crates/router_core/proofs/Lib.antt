@@ -4,7 +4,6 @@ pub mod RoundLists
 pub mod Standing
 pub mod VisitSteps
 pub mod PlaceSteps
-pub mod Careful
 pub mod EmitSteps
 pub mod SendSteps
 pub mod EachPlace

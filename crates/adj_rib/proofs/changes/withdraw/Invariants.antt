@@ -1,12 +1,14 @@
-use Rattle.std.proofs.Common.{◌≡◌, take}
-use Rattle.std.specs.Prelude.{fold}
-use Rattle.std.specs.FinMap as map
+use Rattle.std.proofs.Common.{◌≡◌, Option, take}
+use Rattle.std.specs.Prelude.{fold, is_some}
+use Rattle.std.specs.List.{list_any}
+use Rattle.bgp_types.specs.declared.attrs.Attrs.{Attrs}
+use Rattle.bgp_types.specs.Prefixes.{PrefixValue, same_prefix}
 use Rattle.bgp_story.specs.Readings.{Routes}
-use Rattle.adj_rib.specs.Changes.{Tracks}
+use Rattle.adj_rib.specs.Changes.{Moved, withdraw_unless}
 use Rattle.adj_rib.proofs.changes.withdraw.Given as goal
 
 abbrev pub invariant-loop-prefix : goal.invariant-loop-prefix
 invariant-loop-prefix l = record {
-  routes : l.routes.contents ≡ fold map.remove l.fn.routes.contents (take l.prefix-index l.prefixes);
-  notes : (before : Routes) → Tracks before l.fn.routes.contents l.fn.notes.contents → Tracks before l.routes.contents l.notes.contents;
+  routes : l.routes.contents ≡ fold (withdraw_unless l.announced) l.fn.routes.contents (take l.prefix-index l.prefixes);
+  changed : (before : Routes) (to : PrefixValue → Option Attrs) → ((p : PrefixValue) → list_any (same_prefix p) l.announced ≡ is_some (to p)) → Moved to before l.fn.routes.contents l.fn.changed → Moved to before l.routes.contents l.changed;
 }

@@ -1,43 +1,50 @@
-use Rattle.std.proofs.Common.{refl, sym, subst, ◌∙◌, inr, ℕ, List}
-use Rattle.std.specs.Prelude.{IfSome}
-use Rattle.graft_edge.specs.Outside.{Appended, AppendedFront}
-use Rattle.lab_top.specs.Ends.{Writes}
-use Rattle.lab_top.specs.Report.{report_text}
-use Rattle.lab_top.proofs.Endings.{Appended-under, AppendedFront-under, no_input}
+use Rattle.lab_top.proofs.Facts.{statuses, usage_told, refused, made_told, checked_told, bad_input, bad_unwritten, read_failed, write_failed, nothing_written, settled, no_run, ran, input_taken, headline, reported}
 use Rattle.lab_top.proofs.top.graft_main.Goals as goal
 
-pub returns-in-Err-Bad-clause-bad_input : goal.returns-in-Err-Bad-clause-bad_input
-returns-in-Err-Bad-clause-bad_input g c = λ _.
-    record {
-      bytes = c.in-Ok.bytes;
-      took = c.in-Ok.ensures.whole;
-      cause = inr (c.in-Ok.ensures.end.1, no_input c.in-Ok.bytes c.deref.result.now c.in-Err-Bad.field-0 c.in-Err-Bad.field-0-0 c.deref.ensures c.in-Err-Bad.field-0-is c.in-Err-Bad.ensures);
-    }
+pub returns-clause-statuses : goal.returns-clause-statuses
+returns-clause-statuses g c = statuses _ _ _ _ _ c.finish_of.ensures.ended
 
-pub returns-in-Err-Bad-clause-bad_input_text : goal.returns-in-Err-Bad-clause-bad_input_text
-returns-in-Err-Bad-clause-bad_input_text g c = λ two.
-    let before = g.K.Sink.written c.args.sink.now in
-    let after = g.K.Sink.written c.end_with-in-Err-Bad.new.sink in
-    subst (λ text. Appended before after text) c.as_bytes-in-Err-Bad.ensures.value
-    (Appended-under c.as_bytes-in-Err-Bad.result.now 2 (g.K.Sink.faults c.args.sink.now) (g.K.Sink.faults c.end_with-in-Err-Bad.new.sink) before after
-    c.end_with-in-Err-Bad.result.status c.end_with-in-Err-Bad.ensures.writes two refl)
+pub returns-clause-usage : goal.returns-clause-usage
+returns-clause-usage g c = usage_told _ _ _ _ _ c.finish_of.ensures.ended
 
-pub returns-in-Err-Bad-clause-bad_input_unwritten : goal.returns-in-Err-Bad-clause-bad_input_unwritten
-returns-in-Err-Bad-clause-bad_input_unwritten g c = λ five run none.
-    let before = g.K.Sink.written c.args.sink.now in
-    let after = g.K.Sink.written c.end_with-in-Err-Bad.new.sink in (
-      record {
-        bytes = c.in-Ok.bytes;
-        took = c.in-Ok.ensures.whole;
-        cause = inr (c.in-Ok.ensures.end.1, no_input c.in-Ok.bytes c.deref.result.now c.in-Err-Bad.field-0 c.in-Err-Bad.field-0-0 c.deref.ensures c.in-Err-Bad.field-0-is c.in-Err-Bad.ensures);
-      },
-      subst (λ text. AppendedFront before after text) c.as_bytes-in-Err-Bad.ensures.value
-          (AppendedFront-under c.as_bytes-in-Err-Bad.result.now 2 (g.K.Sink.faults c.args.sink.now) (g.K.Sink.faults c.end_with-in-Err-Bad.new.sink) before after
-          c.end_with-in-Err-Bad.result.status c.end_with-in-Err-Bad.ensures.writes five refl),
-    )
+pub returns-clause-refused : goal.returns-clause-refused
+returns-clause-refused g c = refused _ _ _ _ _ c.finish_of.ensures.ended
 
-pub returns-in-Ok-report-clause-reported : goal.returns-in-Ok-report-clause-reported
-returns-in-Ok-report-clause-reported g c =
-    let written : List ℕ → Type 0 = λ text. Writes text 0 (g.K.Sink.faults c.args.sink.now) (g.K.Sink.faults c.end_with-in-Ok-report.new.sink) (g.K.Sink.written c.args.sink.now) (g.K.Sink.written c.end_with-in-Ok-report.new.sink) c.end_with-in-Ok-report.result.status in
-    subst (λ found. IfSome found (λ lab. written (report_text lab))) (sym c.end_with-in-Ok-report.ensures.lab)
-    (subst written (c.as_bytes-in-Ok-report.ensures.value ∙ c.in-Ok-report.ensures) c.end_with-in-Ok-report.ensures.writes)
+pub returns-clause-made : goal.returns-clause-made
+returns-clause-made g c = made_told _ _ _ _ _ c.finish_of.ensures.ended
+
+pub returns-clause-checked : goal.returns-clause-checked
+returns-clause-checked g c = checked_told _ _ _ _ _ c.finish_of.ensures.ended
+
+pub returns-clause-bad_input : goal.returns-clause-bad_input
+returns-clause-bad_input g c = bad_input _ _ _ _ _ c.finish_of.ensures.ended
+
+pub returns-clause-bad_input_unwritten : goal.returns-clause-bad_input_unwritten
+returns-clause-bad_input_unwritten g c = bad_unwritten _ _ _ _ _ c.finish_of.ensures.ended
+
+pub returns-clause-read_failed : goal.returns-clause-read_failed
+returns-clause-read_failed g c = read_failed _ _ _ _ _ c.finish_of.ensures.ended
+
+pub returns-clause-write_failed : goal.returns-clause-write_failed
+returns-clause-write_failed g c = write_failed _ _ _ _ _ c.finish_of.ensures.ended
+
+pub returns-clause-nothing_written : goal.returns-clause-nothing_written
+returns-clause-nothing_written g c = nothing_written _ _ _ _ _ c.finish_of.ensures.ended
+
+pub returns-clause-settled : goal.returns-clause-settled
+returns-clause-settled g c = settled _ _ _ _ _ c.finish_of.ensures.ended
+
+pub returns-clause-no_run : goal.returns-clause-no_run
+returns-clause-no_run g c = no_run _ _ _ _ _ c.finish_of.ensures.ended
+
+pub returns-clause-ran : goal.returns-clause-ran
+returns-clause-ran g c = ran _ _ _ _ _ c.finish_of.ensures.ended
+
+pub returns-clause-input : goal.returns-clause-input
+returns-clause-input g c = input_taken _ _ _ _ _ c.finish_of.ensures.ended
+
+pub returns-clause-headline : goal.returns-clause-headline
+returns-clause-headline g c = headline _ _ _ _ _ c.finish_of.ensures.ended
+
+pub returns-clause-reported : goal.returns-clause-reported
+returns-clause-reported g c = reported _ _ _ _ _ c.finish_of.ensures.ended

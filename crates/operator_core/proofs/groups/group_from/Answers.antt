@@ -1,4 +1,3 @@
-use Rattle.operator_core.specs.declared.script.ScriptStep.TheVariants.{Say}
 use Rattle.operator_core.proofs.GroupLoops.{group_ends, more_places, more_others}
 use Rattle.operator_core.proofs.groups.group_from.Goals as goal
 

@@ -1,13 +1,10 @@
-use Rattle.std.proofs.Common.{◌≡◌, List, Option, Some, sym, ap, ◌∙◌, subst}
-use Rattle.std.specs.Prelude.{fold}
-use Rattle.std.specs.FinMap as map
-use Rattle.bgp_types.specs.declared.attrs.Attrs.{Attrs}
-use Rattle.bgp_types.specs.Prefixes.{PrefixValue}
-use Rattle.prefix_trie.specs.Table.{TableValue}
+use Rattle.std.proofs.Common.{◌≡◌, true, List, [], Some, sym, ap, ◌∙◌, subst}
+use Rattle.std.specs.Prelude.{fold, is_some}
+use Rattle.std.specs.List.{list_any}
+use Rattle.bgp_types.specs.Prefixes.{PrefixValue, same_prefix}
 use Rattle.bgp_story.specs.Readings.{Routes, announce}
-use Rattle.adj_rib.specs.declared.rib.AdjRib.TheInside.{Inside}
-use Rattle.adj_rib.specs.Changes.{Notes, Tracks}
-use Rattle.adj_rib.proofs.Notes.{at_ok, applied_some, applied_none, starts}
+use Rattle.adj_rib.specs.Changes.{Moved, given, withdraw_unless}
+use Rattle.adj_rib.proofs.Moves.{applied_some, applied_none, given_announced, starts, listed}
 use Rattle.adj_rib.proofs.rib.AdjRib.apply.Goals as goal
 use Rattle.adj_rib.proofs.rib.AdjRib.apply.Goals.{in-Some+in_ok-announce, in_default}
 
@@ -15,30 +12,36 @@ pub returns-clause-routes : goal.returns-clause-routes
 returns-clause-routes c =
     let old = c.args.self.now in
     let u = c.args.update.now in
-    let start : c.self.inside.routes.contents ≡ old = c.self.view_is in
-    let middle : c.withdraw.new.routes.contents ≡ fold map.remove c.self.inside.routes.contents u.withdrawn = c.in_ok-withdraw.ensures.routes ∙ ap (λ (ps : List PrefixValue). fold map.remove c.self.inside.routes.contents ps) c.as_slice.ensures in
-    at_ok c.list_changed.result (elim c.match-update.branch [
+    let listed = c.in_ok-announced.announced in
+    let middle : c.withdraw.new.routes.contents ≡ fold (withdraw_unless listed) old u.withdrawn = c.in_ok-withdraw.ensures.routes
+    ∙ (ap (λ (r : Routes). fold (withdraw_unless c.as_slice-2.result.now) r c.as_slice.result.now) c.self.view_is
+    ∙ (ap (fold (withdraw_unless c.as_slice-2.result.now) old) c.as_slice.ensures
+    ∙ ap (λ (ps : List PrefixValue). fold (withdraw_unless ps) old u.withdrawn) c.as_slice-2.ensures)) in
+    elim c.match-update.branch [
       | in-Some+in_ok-announce w ↦
-          let end : w.announce.new.routes.contents ≡ fold (announce (Some w.in-Some.attrs)) c.withdraw.new.routes.contents u.nlri = w.in_ok-announce.ensures.routes ∙ ap (λ (ps : List PrefixValue). fold (announce (Some w.in-Some.attrs)) c.withdraw.new.routes.contents ps) w.as_slice-in-Some.ensures in
-          let is : c.match-update.self-inside.routes.contents ≡ w.announce.new.routes.contents = ap (λ (x : Inside). x.routes.contents) w.self-inside-is in
-          is ∙ applied_some old c.self.inside.routes.contents c.withdraw.new.routes.contents w.announce.new.routes.contents u w.in-Some.attrs start middle end w.in-Some.is
-      | in_default w ↦
-          let is : c.match-update.self-inside.routes.contents ≡ c.withdraw.new.routes.contents = ap (λ (x : Inside). x.routes.contents) w.self-inside-is in
-          is ∙ applied_none old c.self.inside.routes.contents c.withdraw.new.routes.contents u start middle w.in_default.is
-    ])
+          let end : w.announce.new.routes.contents ≡ fold (announce (Some w.in-Some.attrs)) c.withdraw.new.routes.contents u.nlri = w.in_ok-announce.ensures.routes
+          ∙ ap (fold (announce (Some w.in-Some.attrs)) c.withdraw.new.routes.contents) w.as_slice-in-Some.ensures in
+          w.self-is ∙ applied_some old c.withdraw.new.routes.contents u listed c.in_ok-announced.ensures.given middle w.in-Some.attrs w.in-Some.is w.announce.new.routes.contents end
+      | in_default w ↦ w.self-is ∙ applied_none old c.withdraw.new.routes.contents u listed c.in_ok-announced.ensures.given middle w.in_default.is
+    ]
 
 pub returns-clause-changed : goal.returns-clause-changed
 returns-clause-changed c =
     let old = c.args.self.now in
-    let start : c.self.inside.routes.contents ≡ old = c.self.view_is in
-    let withdrawn = c.in_ok-withdraw.ensures.notes old (starts old c.self.inside.routes.contents c.new-notes.result.contents start c.new-notes.ensures.contents) in
-    c.list_changed.ensures old (elim c.match-update.branch [
+    let u = c.args.update.now in
+    let among : (p : PrefixValue) → list_any (same_prefix p) c.as_slice-2.result.now ≡ is_some (given u p) = λ p. ap (list_any (same_prefix p)) c.as_slice-2.ensures ∙ c.in_ok-announced.ensures.given p in
+    let none : Moved (given u) old c.self.inside.routes.contents c.new-changed.result =
+    subst (λ (ps : List PrefixValue). Moved (given u) old c.self.inside.routes.contents ps) (sym c.new-changed.ensures) (subst (λ (r : Routes). Moved (given u) old r []) (sym c.self.view_is) (starts (given u) old)) in
+    let withdrawn = c.in_ok-withdraw.ensures.changed old (given u) among none in
+    listed (given u) old c.match-update.self c.match-update.changed c.in_order.result
+    (elim c.match-update.branch [
       | in-Some+in_ok-announce w ↦
-          let routes : c.match-update.self-inside.routes.contents ≡ w.announce.new.routes.contents = ap (λ (x : Inside). x.routes.contents) w.self-inside-is in
-          let notes : c.match-update.notes.contents ≡ w.announce.new.notes.contents = ap (λ (x : TableValue (Option Attrs)). x.contents) w.notes-is in
-          subst (λ (n : Notes). Tracks old c.match-update.self-inside.routes.contents n) (sym notes) (subst (λ (r : Routes). Tracks old r w.announce.new.notes.contents) (sym routes) (w.in_ok-announce.ensures.notes old withdrawn))
+          let gives : (p : PrefixValue) → list_any (same_prefix p) w.as_slice-in-Some.result.now ≡ true → given u p ≡ Some w.in-Some.attrs =
+          λ p e. given_announced u w.in-Some.attrs w.in-Some.is p (ap (list_any (same_prefix p)) (sym w.as_slice-in-Some.ensures) ∙ e) in
+          subst (λ (r : Routes). Moved (given u) old r c.match-update.changed) (sym w.self-is)
+          (subst (λ (ps : List PrefixValue). Moved (given u) old w.announce.new.routes.contents ps) (sym w.changed-is) (w.in_ok-announce.ensures.changed old (given u) gives withdrawn))
       | in_default w ↦
-          let routes : c.match-update.self-inside.routes.contents ≡ c.withdraw.new.routes.contents = ap (λ (x : Inside). x.routes.contents) w.self-inside-is in
-          let notes : c.match-update.notes.contents ≡ c.withdraw.new.notes.contents = ap (λ (x : TableValue (Option Attrs)). x.contents) w.notes-is in
-          subst (λ (n : Notes). Tracks old c.match-update.self-inside.routes.contents n) (sym notes) (subst (λ (r : Routes). Tracks old r c.withdraw.new.notes.contents) (sym routes) withdrawn)
+          subst (λ (r : Routes). Moved (given u) old r c.match-update.changed) (sym w.self-is)
+          (subst (λ (ps : List PrefixValue). Moved (given u) old c.withdraw.new.routes.contents ps) (sym w.changed-is) withdrawn)
     ])
+    c.in_order.ensures.rising c.in_order.ensures.same

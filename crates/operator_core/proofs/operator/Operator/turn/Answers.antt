@@ -10,5 +10,5 @@ returns-clause-turned g c = on_ok c.turn.result (λ t session. record {
   wrote = t.does.wrote;
   none = t.none;
   replay = t.does.replay session;
-  moved = t.settled;
+  moved = record { no_go = t.no_go; done = t.settled };
 }) c.turn.ensures.ok

@@ -1,9 +1,6 @@
-use Rattle.std.proofs.Common.{◌≡◌, ℕ, true, false, not, Some, refl, ap, sym, subst, ◌∙◌, length, ◌<◌, ◌-◌, arith, nat_eq}
-use Rattle.std.specs.Prelude.{slice_get, IsTrue}
+use Rattle.std.proofs.Common.{not, refl, ap, sym, ◌∙◌}
 use Rattle.std.specs.Option.{option_map}
 use Rattle.std.specs.List.{list_any, find}
-use Rattle.std.proofs.lemmas.Bool.Decides.{nat_tests}
-use Rattle.graft_model.specs.Setups.{SettleStep}
 use Rattle.operator_core.specs.Grafts.{is_open}
 use Rattle.operator_core.specs.Progresses.{state}
 use Rattle.operator_core.proofs.Tasks.{any_unissued, none_unissued}

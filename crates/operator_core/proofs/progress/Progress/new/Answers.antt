@@ -1,4 +1,4 @@
-use Rattle.std.proofs.Common.{◌≡◌, refl, subst, ap, ◌∙◌, map}
+use Rattle.std.proofs.Common.{refl, subst, ap, ◌∙◌, map}
 use Rattle.operator_core.specs.Groups.{IsGroupFrom, AreNumbers}
 use Rattle.operator_core.specs.Tasks.{task_for}
 use Rattle.operator_core.specs.Grafts.{first_log, seat_at}

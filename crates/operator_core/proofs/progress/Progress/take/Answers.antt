@@ -1,7 +1,5 @@
-use Rattle.std.proofs.Common.{◌≡◌, ◌≤◌, ◌∙◌, [], refl, sym, ap, subst, length, Some, arith}
-use Rattle.std.specs.Prelude.{slice_get}
+use Rattle.std.proofs.Common.{◌≡◌, ◌≤◌, [], sym, subst, length, Some, arith}
 use Rattle.std.proofs.lemmas.Option.{slice_get_within}
-use Rattle.graft_steps.specs.declared.item.Item.TheVariants.{Report}
 use Rattle.operator_core.specs.Progresses.{state, own_part_of, IsOpenPlace, Takes}
 use Rattle.graft_actors.specs.Acts.{IsWelcome}
 use Rattle.operator_core.proofs.Calls.{on_ok, take_drops, take_notes, other_unwelcome, stranger_unwelcome, closed_unwelcome, not_open, open_entry_has_seat, note_at}

@@ -1,9 +1,7 @@
-use Rattle.std.proofs.Common.{◌≡◌, ℕ, ◌+◌, ◌<◌, ◌≤◌, length, true, false, not, Some, refl, ap, sym, subst, ◌∙◌, arith}
-use Rattle.std.specs.Prelude.{slice_get}
-use Rattle.ring_net.proofs.TakesEach.{same_edges_self, same_edges_then}
-use Rattle.operator_core.specs.declared.progress.Progress.{Progress}
+use Rattle.std.proofs.Common.{◌≡◌, ◌≤◌, length, ◌∙◌, arith}
+use Rattle.ring_net.proofs.TakesEach.{same_edges_self}
 use Rattle.operator_core.proofs.Visits.{visit_done}
-use Rattle.operator_core.proofs.Calls.{Turning, turning_begins, turning_on, turning_ends, turning_is_sound, known_still, has_seats, has_entries, step_within, not_issued, issued_then, turning_moves, edges_move, state_of_forget}
+use Rattle.operator_core.proofs.Calls.{turning_ends, known_still, has_seats, has_entries, step_within, not_issued, issued_then, turning_moves, edges_move, state_of_forget}
 use Rattle.operator_core.proofs.progress.Progress.turn.Goals as goal
 use Rattle.operator_core.proofs.progress.Progress.turn.Goals.{then-not-task+in_ok-visit, else-not-task}
 

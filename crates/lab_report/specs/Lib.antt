@@ -1,0 +1,3 @@
+pub mod BadText
+pub mod CheckText
+pub mod Report

@@ -1,0 +1,9 @@
+use Rattle.std.proofs.Common.{ap}
+use Rattle.std.specs.Prelude.{Err}
+use Rattle.lab_top.proofs.Facts.{too_long_stops}
+use Rattle.lab_top.proofs.jobs.read_source.Goals as goal
+
+pub returns-in-Err-TooLong : goal.returns-in-Err-TooLong
+returns-in-Err-TooLong g c =
+    too_long_stops _ _ (g.S.Source.faults c.args.source.now) (g.S.Source.faults c.read_all.new.source) c.too_long_stop.result
+    (c.in-Err-TooLong.ensures.too_long (ap Err c.in-Err-TooLong.field-0-is)) c.too_long_stop.ensures

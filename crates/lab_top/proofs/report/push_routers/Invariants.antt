@@ -1,8 +1,0 @@
-use Rattle.std.proofs.Common.{◌≡◌, ◌++◌, take, string_bytes}
-use Rattle.std.specs.List.{flat_map, enumerate_from}
-use Rattle.lab_top.specs.Report.{router_lines}
-use Rattle.lab_top.proofs.report.push_routers.Given as goal
-
--- the text so far is that of the members so far
-abbrev pub invariant-loop-place : goal.invariant-loop-place
-invariant-loop-place l = string_bytes l.text ≡ string_bytes l.initial.text ++ flat_map (router_lines l.lab) (enumerate_from 0 (take l.place l.routers))

@@ -1,8 +1,0 @@
-use Rattle.std.proofs.Common.{◌≡◌, ◌++◌, map, string_bytes}
-use Rattle.std.specs.List.{flat_map}
-use Rattle.lab_top.specs.Report.{best_line}
-use Rattle.lab_top.proofs.report.push_table.Given as goal
-
--- the text so far is that of the members so far
-abbrev pub invariant-loop-entry : goal.invariant-loop-entry
-invariant-loop-entry l = string_bytes l.text ≡ string_bytes l.initial.text ++ flat_map (best_line l.input) (map (λ x. x.now) l.yielded)

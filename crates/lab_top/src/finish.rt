@@ -1,0 +1,58 @@
+//! How a command ends.
+
+ghost use Rattle.std.specs.Prelude.{◌≡◌, ◌≤◌, None};
+ghost use Rattle.lab_top.specs.Ends.{Writes};
+
+use graft_edge::{Sink, write_all};
+use lab_input::BadInput;
+use pipe_lab::Lab;
+
+/// The statuses of the program.
+pub const DONE: u8 = 0;
+
+pub const USAGE: u8 = 1;
+
+pub const BAD_INPUT: u8 = 2;
+
+pub const READ_FAILED: u8 = 4;
+
+pub const WRITE_FAILED: u8 = 5;
+
+pub const NO_MEMORY: u8 = 6;
+
+/// How a command ends: its status, and the run where there was one.
+#[derive(Debug, Drop)]
+pub struct Finish {
+    pub status: u8,
+    pub lab: Option<Lab>,
+}
+
+/// Why the source gives no input.
+#[derive(Debug, Drop)]
+pub(crate) enum InputStop {
+    Bad(BadInput),
+    Failed,
+    NoMemory,
+}
+
+/// Ends with a status, without a run.
+pub(crate) fn without_run(status: u8) -> Finish
+    ensures { result ≡ record { status = status; lab = None } }
+{
+    Finish { status, lab: None }
+}
+
+/// Writes a text and ends with a status, or with that of a write that failed.
+pub(crate) fn end_with<K: Sink>(sink: &mut K, text: &[u8], status: u8, lab: Option<Lab>) -> Finish
+    ensures steady { K.faults sink.old ≤ K.faults sink.new }
+    ensures writes { Writes text.now status (K.faults sink.old) (K.faults sink.new) (K.written sink.old) (K.written sink.new) result.status }
+    ensures lab { result.lab ≡ lab }
+{
+    match write_all(sink, text) {
+        Ok(()) => Finish { status, lab },
+        Err(_) => Finish {
+            status: WRITE_FAILED,
+            lab,
+        },
+    }
+}

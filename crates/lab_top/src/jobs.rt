@@ -1,0 +1,122 @@
+//! What each job does.
+
+ghost use Rattle.std.specs.Prelude.{◌≡◌, ◌⊎◌, ◌≤◌, ◌<◌, ℕ, List, Err};
+ghost use Rattle.lab_words.specs.declared.job.Job.TheVariants.{Check};
+ghost use Rattle.lab_words.specs.Asked.{Asks};
+ghost use Rattle.lab_make.specs.Made.{made};
+ghost use Rattle.lab_input.specs.Labs.{too_long as too_long_bad};
+ghost use Rattle.lab_top.specs.Ends.{AskToRun};
+ghost use Rattle.lab_input.specs.Said.{IsReady};
+ghost use Rattle.lab_top.specs.Cases.{outside, ReadsOrStops, WritesOr, RunsOr, StopsFor, EndsOr};
+
+use crate::finish::{BAD_INPUT, DONE, Finish, InputStop, READ_FAILED, end_with, without_run};
+use graft_edge::{Gate, NoMemory, ReadStop, Sink, Source, read_all};
+use lab_input::{LabInput, LabStop, MOST_BYTES, accepted_is_ready, is_built, read_lab, too_long};
+use lab_make::make_lab;
+use lab_report::{bad_text, check_text};
+use pipe_lab::{report, run_lab};
+use std::alloc::Global;
+
+const NOT_BUILT_TEXT: &str = "bad input: not built\n";
+
+/// The fault of a source that has more bytes than an input.
+fn too_long_stop(alloc: Global) -> InputStop
+    ensures { (result ≡ InputStop.NoMemory) ⊎ (result ≡ InputStop.Bad too_long_bad) }
+{
+    match too_long(alloc) {
+        Ok(bad) => InputStop::Bad(bad),
+        Err(_) => InputStop::NoMemory,
+    }
+}
+
+/// What the bytes of a source are read as.
+fn read_source<S: Source>(alloc: Global, source: &mut S) -> Result<LabInput, InputStop>
+    ensures { ReadsOrStops (S.left source.old) (S.left source.new) (S.faults source.old) (S.faults source.new) result }
+{
+    let bytes = match read_all(alloc, source, MOST_BYTES) {
+        Ok(bytes) => bytes,
+        Err(ReadStop::Failed) => return Err(InputStop::Failed),
+        Err(ReadStop::TooLong) => return Err(too_long_stop(alloc)),
+        Err(ReadStop::NoMemory) => return Err(InputStop::NoMemory),
+    };
+    match read_lab(alloc, &bytes) {
+        Ok(input) => Ok(input),
+        Err(LabStop::Bad(bad)) => Err(InputStop::Bad(bad)),
+        Err(LabStop::NoMemory) => Err(InputStop::NoMemory),
+    }
+}
+
+/// Ends a job whose source gave no input.
+fn end_stopped<K: Sink>(alloc: Global, sink: &mut K, stop: InputStop) -> Result<Finish, NoMemory>
+    ensures { StopsFor stop (K.faults sink.old) (K.faults sink.new) (K.written sink.old) (K.written sink.new) result }
+{
+    match stop {
+        InputStop::Bad(bad) => {
+            let text = bad_text(alloc, &bad)?;
+            Ok(end_with(sink, &text, BAD_INPUT, None))
+        }
+        InputStop::Failed => Ok(without_run(READ_FAILED)),
+        InputStop::NoMemory => Err(NoMemory),
+    }
+}
+
+/// Runs an input and writes the report.
+fn run_input<K: Sink, G: Gate>(
+    alloc: Global,
+    input: LabInput,
+    sink: &mut K,
+    gate: &G,
+) -> Result<Finish, NoMemory>
+    requires { IsReady input }
+    ensures { RunsOr input (K.faults sink.old) (K.faults sink.new) (K.written sink.old) (K.written sink.new) result }
+{
+    let lab = run_lab(alloc, input, gate)?;
+    let text = report(alloc, &lab)?;
+    Ok(end_with(sink, text.as_bytes(), DONE, Some(lab)))
+}
+
+/// Reads an input from the source, runs it and writes the report.
+pub(crate) fn run_job<S: Source, K: Sink, G: Gate>(
+    alloc: Global,
+    source: &mut S,
+    sink: &mut K,
+    gate: &G,
+) -> Result<Finish, NoMemory>
+    ensures { (words : List (List ℕ)) → AskToRun words → EndsOr words (outside (S.left source.old) (S.faults source.old) (K.written sink.old) (K.faults sink.old)) (outside (S.left source.new) (S.faults source.new) (K.written sink.new) (K.faults sink.new)) result }
+{
+    let input = match read_source(alloc, source) {
+        Ok(input) => input,
+        Err(stop) => return end_stopped(alloc, sink, stop),
+    };
+    if !is_built(alloc, &input)? {
+        return Ok(end_with(sink, NOT_BUILT_TEXT.as_bytes(), BAD_INPUT, None));
+    }
+    accepted_is_ready();
+    run_input(alloc, input, sink, gate)
+}
+
+/// Reads an input from the source and writes whether it is one.
+pub(crate) fn check_job<S: Source, K: Sink>(
+    alloc: Global,
+    source: &mut S,
+    sink: &mut K,
+) -> Result<Finish, NoMemory>
+    ensures { (words : List (List ℕ)) → Asks words Check → EndsOr words (outside (S.left source.old) (S.faults source.old) (K.written sink.old) (K.faults sink.old)) (outside (S.left source.new) (S.faults source.new) (K.written sink.new) (K.faults sink.new)) result }
+{
+    let input = match read_source(alloc, source) {
+        Ok(input) => input,
+        Err(stop) => return end_stopped(alloc, sink, stop),
+    };
+    let text = check_text(alloc, &input)?;
+    Ok(end_with(sink, &text, DONE, None))
+}
+
+/// Writes the laboratory of a seed.
+pub(crate) fn make_job<K: Sink>(alloc: Global, sink: &mut K, seed: u32) -> Result<Finish, NoMemory>
+    requires lowest { 1 ≤ seed }
+    requires highest { seed ≤ 9999 }
+    ensures { WritesOr (made seed) 0 (K.faults sink.old) (K.faults sink.new) (K.written sink.old) (K.written sink.new) result }
+{
+    let text = make_lab(alloc, seed)?;
+    Ok(end_with(sink, &text, DONE, None))
+}

@@ -1,0 +1,40 @@
+//! Commands as they stand in lines.
+
+/// A command: `graftlab WORD.. < INPUT ! read N write N`. The input is a file or `N blanks`, and may be left out, as may what
+/// fails: the calls, from 1, at which the source and the sink do.
+#[derive(Clone, Copy)]
+pub struct Case<'a> {
+    pub words: &'a str,
+    pub input: &'a str,
+    pub read_fails: u32,
+    pub write_fails: u32,
+}
+
+/// A call that isn't reached.
+const NEVER: u32 = u32::MAX;
+
+/// The number that stands behind a word of a text.
+fn number_behind(text: &str, word: &str) -> Option<u32> {
+    let (_, behind) = text.split_once(word)?;
+    let number = behind.split_whitespace().next()?;
+    number.parse::<u32>().ok()
+}
+
+impl<'a> Case<'a> {
+    pub fn of(line: &'a str) -> Case<'a> {
+        let (command, faults) = line.split_once(" ! ").unwrap_or((line, ""));
+        let (words, input) = command.split_once(" < ").unwrap_or((command, ""));
+        Case {
+            words,
+            input,
+            read_fails: number_behind(faults, "read ").unwrap_or(NEVER),
+            write_fails: number_behind(faults, "write ").unwrap_or(NEVER),
+        }
+    }
+
+    /// Of how many blanks the input is, where it is no file.
+    pub fn blanks(&self) -> Option<u32> {
+        let number = self.input.strip_suffix(" blanks")?;
+        number.parse::<u32>().ok()
+    }
+}

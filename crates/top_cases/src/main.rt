@@ -1,0 +1,40 @@
+//! Reads commands, a line each, and prints how each one ends. What the top call's contract says is proved for all words and
+//! sources; these are commands as people type them, worked by hand, each status, and each fault of a source and a sink.
+#![tactic(auto)]
+
+mod case;
+mod end;
+mod gate;
+mod seen;
+
+use crate::case::Case;
+use crate::end::end_of;
+use anyhow::Result;
+use std::rt::Files;
+use std::{fs, io};
+
+/// The text of a case's input: none, blanks, or a file.
+fn input_of<R: Files + AllocGlobal>(rt: &R, case: &Case<'_>) -> Result<String> {
+    if let Some(blanks) = case.blanks() {
+        return Ok(" ".repeat(rt.alloc(), blanks as usize)?);
+    }
+    match case.input {
+        "" => Ok(String::new(rt.alloc())),
+        name => Ok(fs::read_to_string(rt, name)?),
+    }
+}
+
+fn main(rt: HostRuntime) -> Result<()> {
+    let text = io::read_to_string(rt.alloc(), rt.reader())?;
+    for line in text.lines() {
+        println!(rt; "{line}")?;
+        if line.is_empty() || line.starts_with('#') {
+            continue;
+        }
+        let case = Case::of(line);
+        let input = input_of(&rt, &case)?;
+        let end = end_of(&rt, &case, input.as_str())?;
+        println!(rt; "{end}")?;
+    }
+    Ok(())
+}

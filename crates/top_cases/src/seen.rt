@@ -1,0 +1,46 @@
+//! What is seen of a run beside its report.
+
+use bgp_story::Line;
+use bgp_types::Message;
+use graft_edge::NoMemory;
+use pipe_lab::Lab;
+use std::fmt::Write;
+
+fn kind_of(message: &Message) -> &'static str {
+    match message {
+        Message::OpenMsg(_) => "OPEN",
+        Message::UpdateMsg(_) => "UPDATE",
+        Message::NoticeMsg(_) => "NOTIFICATION",
+        Message::KeepaliveMsg => "KEEPALIVE",
+    }
+}
+
+/// A line of a story: the message that was put, or the length and the type of the frame that was got.
+fn push_line(text: &mut String, line: &Line) -> Result<(), NoMemory> {
+    match line {
+        Line::Put(message) => write!(text, " | put {}", kind_of(message))?,
+        Line::Got(frame) => {
+            let kind = frame.get(18).copied().unwrap_or(0);
+            write!(text, " | got {} octets of type {kind}", frame.len())?;
+        }
+        Line::Tick(round) => write!(text, " | round {round}")?,
+    }
+    Ok(())
+}
+
+/// The stories of a run, and what each remote received, in hexadecimal.
+pub fn push_seen(text: &mut String, lab: &Lab) -> Result<(), NoMemory> {
+    for view in &lab.sessions {
+        text.push_str("\nstory")?;
+        for line in view.story.lines() {
+            push_line(text, line)?;
+        }
+    }
+    for far in &lab.far {
+        text.push_str("\nreceived:")?;
+        for octet in &far.received {
+            write!(text, " {octet:02X}")?;
+        }
+    }
+    Ok(())
+}

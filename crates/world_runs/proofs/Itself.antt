@@ -1,0 +1,130 @@
+-- A router sends nothing to itself.
+use Rattle.std.proofs.Common.{◌≡◌, ◌≢◌, ◌==◌, ℕ, zero, suc, Bool, true, false, List, [], ◌∷◌, ◌++◌, Option, if◌then◌else◌, refl, sym, ap, ◌∙◌, subst, inl, inr, arith}
+use Rattle.std.specs.List.{AllByRecursion}
+use Rattle.std.proofs.lemmas.Bool.Decides.{nat_tests}
+use Rattle.bgp_types.specs.Prefixes.{PrefixValue}
+use Rattle.journal_merge.proofs.Orders.{equal_or_not}
+use Rattle.session_value.specs.Sessions.{SessionValue}
+use Rattle.session_value.specs.Sets.{has}
+use Rattle.graft_model.specs.Setups.{Setup, IsSetup, peerings_in}
+use Rattle.graft_model.specs.Parts.{RouterPart, Mesh, Told, Moved, Back, Done, World}
+use Rattle.graft_model.specs.RouterRows.{RouterTaken, RouterSent, MeshTo, OutwardTo, ReportOut}
+use Rattle.graft_model.specs.TableRows.{Tells}
+use Rattle.graft_model.specs.Steps.{RouterEvent, Put, Emit, Arrive, Stray, Got, Decide, Tell, Hear, Admit, Refuse, Freeze, Leave, Land, TurnBack, Return, Clear, Tick, Event, ByRouter, ByFar, ByOperator, Step, router_row}
+use Rattle.graft_laws.specs.Phases.{Moving, Landed, Returning, Phase, Busy, only2, mesh_by, InBounds}
+use Rattle.graft_laws.specs.Moves.{mesh_taken, mesh_sent, RouterMoves}
+use Rattle.graft_laws.specs.Owned.{mesh_of, Owned}
+use Rattle.graft_laws.specs.Keeps.{Reached}
+use Rattle.graft_laws.proofs.Lists.{all_moves}
+use Rattle.graft_laws.proofs.Moves.{router_moves, far_moves, operator_moves}
+use Rattle.graft_laws.proofs.Runs.{carried, always_owned}
+use Rattle.graft_laws.proofs.Informed.{informed}
+use Rattle.world_runs.proofs.OnTheWay.{below_or_past}
+
+-- ---- what routers tell
+
+abbrev IsUntold : Mesh → Type 0
+IsUntold (Told prefix route) = ⊥
+IsUntold (Moved k p session) = Unit {0}
+IsUntold (Back k p session refusal) = Unit {0}
+IsUntold (Done k p) = Unit {0}
+
+abbrev AreUntold : List Mesh → Type 0
+AreUntold items = AllByRecursion IsUntold items
+
+-- nothing is due from the router to itself
+abbrev IsNotDue : ℕ → RouterPart → Type 0
+IsNotDue r part = (x : PrefixValue) → has (part.due_in r) x ≡ false
+
+one_untold : (r q : ℕ) (item : Mesh) → IsUntold item → AreUntold (only2 r q item r r ++ [])
+one_untold r q item untold = by_tests (r == r) (r == q) where
+  by_tests : (t u : Bool) → AreUntold ((if t then (if u then item ∷ [] else []) else []) ++ [])
+  by_tests true true = (untold, tt)
+  by_tests true false = tt
+  by_tests false u = tt
+
+sent_elsewhere : (r : ℕ) (sent : List RouterSent) (a b : ℕ) → a ≢ r → mesh_sent r sent a b ≡ []
+sent_elsewhere r [] a b other = refl
+sent_elsewhere r (MeshTo q item ∷ sent) a b other = let none : only2 r q item a b ≡ [] = grind (arith, nat_tests) in ap (λ (xs : List Mesh). xs ++ mesh_sent r sent a b) none ∙ sent_elsewhere r sent a b other
+sent_elsewhere r (OutwardTo p item ∷ sent) a b other = sent_elsewhere r sent a b other
+sent_elsewhere r (ReportOut report ∷ sent) a b other = sent_elsewhere r sent a b other
+
+module _ (setup : Setup) (r : ℕ) (before : RouterPart) (taken : Option RouterTaken) (sent : List RouterSent) (after : RouterPart) where
+  these_untold : (items : List RouterSent) → sent ≡ items → AreUntold (mesh_sent r items r r) → AreUntold (mesh_sent r sent r r)
+  these_untold items is untold = subst (λ (s : List RouterSent). AreUntold (mesh_sent r s r r)) (sym is) untold
+
+  tells_others : (q : ℕ) (prefix : PrefixValue) → IsNotDue r before → Tells q prefix before taken sent after → AreUntold (mesh_sent r sent r r)
+  tells_others q prefix none row = these_untold _ row.sends (nowhere _) where
+    apart : r ≢ q
+    apart e = let due : true ≡ false = sym row.due ∙ ap (λ (n : ℕ). has (before.due_in n) prefix) (sym e) ∙ none prefix in cc
+
+    nowhere : (item : Mesh) → AreUntold (mesh_sent r (MeshTo q item ∷ []) r r)
+    nowhere item = let nothing : only2 r q item r r ++ [] ≡ [] = grind (arith, nat_tests, apart) in subst AreUntold (sym nothing) tt
+
+  row_untold : (event : RouterEvent) → IsNotDue r before → router_row setup r event before taken sent after → AreUntold (mesh_sent r sent r r)
+  row_untold (Put p zero) none row = these_untold [] row.alone.1 tt
+  row_untold (Put p (suc n)) none row = these_untold [] row.alone.1 tt
+  row_untold (Emit p from len) none row = these_untold _ row.sends tt
+  row_untold (Arrive p) none row = these_untold [] row.sends tt
+  row_untold (Stray p) none row = these_untold [] row.sends tt
+  row_untold (Got p) none row = these_untold [] row.alone.1 tt
+  row_untold (Decide prefix) none row = these_untold [] row.alone.1 tt
+  row_untold (Tell q prefix) none row = tells_others q prefix none row
+  row_untold (Hear q) none row = these_untold [] row.sends tt
+  row_untold (Admit k) none row = these_untold [] row.sends tt
+  row_untold (Refuse k) none row = these_untold _ row.sends tt
+  row_untold (Freeze k) none row = these_untold [] row.alone.1 tt
+  row_untold (Leave k) none row = these_untold _ row.sends (one_untold r row.target (Moved k row.peering row.session) tt)
+  row_untold (Land q) none row = these_untold _ row.sends (one_untold r q (Done row.comes.graft row.comes.peering) tt)
+  row_untold (TurnBack q) none row = these_untold _ row.sends (one_untold r q (Back row.comes.graft row.comes.peering row.comes.session row.refusal) tt)
+  row_untold (Return q) none row = these_untold _ row.sends tt
+  row_untold (Clear q) none row = these_untold _ row.sends tt
+  row_untold (Tick p round) none row = these_untold [] row.alone.1 tt
+
+abbrev TellsNothing : World → Type 0
+TellsNothing w = (a : ℕ) → AreUntold (w.mesh a a)
+
+still_nothing : (setup : Setup) (event : Event) (w v : World) → Reached setup w → Step setup event w v → TellsNothing w → TellsNothing v
+still_nothing setup (ByRouter r event) w v reached step nothing a =
+    let m : RouterMoves r step.taken step.sent step.part w v = router_moves setup r event w v step in
+    all_moves IsUntold (mesh_taken r step.taken a a) (v.mesh a a) (w.mesh a a) (mesh_sent r step.sent a a) (m.mesh a a) (nothing a) sent
+  where
+    mine : AreUntold (mesh_sent r step.sent r r)
+    mine = row_untold setup r (w.router r) step.taken step.sent step.part event (λ x. ((informed setup r r w reached).itself refl x).0) step.row
+
+    sent : AreUntold (mesh_sent r step.sent a a)
+    sent = elim (equal_or_not a r) [
+      | inl e ↦ subst (λ (n : ℕ). AreUntold (mesh_sent r step.sent n n)) (sym e) mine
+      | inr ne ↦ subst AreUntold (sym (sent_elsewhere r step.sent a a ne)) tt
+    ]
+still_nothing setup (ByFar p event) w v reached step nothing a = subst (λ (f : ℕ → ℕ → List Mesh). AreUntold (f a a)) (sym (far_moves setup p event w v step).mesh) (nothing a)
+still_nothing setup (ByOperator event) w v reached step nothing a = subst (λ (f : ℕ → ℕ → List Mesh). AreUntold (f a a)) (sym (operator_moves setup event w v step).mesh) (nothing a)
+
+-- ---- grafts
+
+apart_nowhere : {A : Type 0} (q t r : ℕ) (item : A) → t ≢ q → only2 q t item r r ≡ []
+apart_nowhere q t r item apart = grind (arith, nat_tests)
+
+graft_nowhere : (setup : Setup) (phase : Phase) (p : ℕ) (s : SessionValue) (r : ℕ) → InBounds setup phase → mesh_by phase p s r r ≡ []
+graft_nowhere setup (Busy q k t Moving) p s r bounds = apart_nowhere q t r (Moved k p s) bounds.2
+graft_nowhere setup (Busy q k t Landed) p s r bounds = apart_nowhere t q r (Done k p) (λ e. bounds.2 (sym e))
+graft_nowhere setup (Busy q k t (Returning refusal)) p s r bounds = apart_nowhere t q r (Back k p s refusal) (λ e. bounds.2 (sym e))
+graft_nowhere setup phase p s r bounds = refl
+
+of_nobody : (items : List Mesh) → AreUntold items → ((p : ℕ) → mesh_of p items ≡ []) → items ≡ []
+of_nobody [] untold none = refl
+of_nobody (Told prefix route ∷ items) untold none = absurd untold.0
+of_nobody (Moved k p s ∷ items) untold none = absurd (let e = none p in grind (arith, nat_tests))
+of_nobody (Back k p s refusal ∷ items) untold none = absurd (let e = none p in grind (arith, nat_tests))
+of_nobody (Done k p ∷ items) untold none = absurd (let e = none p in grind (arith, nat_tests))
+
+pub nobody_writes_to_itself : (setup : Setup) (w : World) (r : ℕ) → IsSetup setup → Reached setup w → w.mesh r r ≡ []
+nobody_writes_to_itself setup w r sound reached = of_nobody (w.mesh r r) (carried setup TellsNothing (λ a. tt) (still_nothing setup) w reached r) no_graft where
+  owned : Owned setup w
+  owned = always_owned setup sound w reached
+
+  no_graft : (p : ℕ) → mesh_of p (w.mesh r r) ≡ []
+  no_graft p = elim (below_or_past p (peerings_in setup)) [
+    | inl below ↦ (let h = owned.peerings p below in h.stands.mesh r r ∙ graft_nowhere setup h.phase p h.session r h.stands.bounds)
+    | inr past ↦ (owned.no_others p past).mesh r r
+  ]

@@ -1,0 +1,7 @@
+mod Comes
+mod Goes
+mod Acts
+mod Runs
+mod Nets
+mod OnTheWay
+mod Itself

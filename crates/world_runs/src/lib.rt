@@ -1,0 +1,7 @@
+//! The runs of the program's actors are runs of the world: whatever a net of routers, far sides and the operator did, its merged journal is that of a run
+//! of `graft_model`, in which no item was dropped, so that all laws of the world hold of it.
+#![tactic(auto)]
+
+mod laws;
+
+pub use laws::{an_act_is_a_step, nets_run, runs_are_transparent, worlds_are_on_the_way};
