@@ -1,3 +1,3 @@
-mod Marks
-mod Groups
-mod Seen
+pub mod Marks
+pub mod Groups
+pub mod Seen

@@ -13,7 +13,7 @@ use Rattle.world_runs.specs.Runs.{IsSeenAs, RanAs, Ran}
 use Rattle.run_marks.specs.Marks.{before, IsWorldAtMark, IsMarkOf}
 
 -- what stands before a mark is the merge of the journals that it was made of
-up_to_mark : {A I : Type 0} (u v : View A I) (mark : List ℕ) (journal : List JournalEntry) → IsMarkOf u v mark → Interleaves v.journal journal → Interleaves u.journal (upto (before mark) journal)
+pub up_to_mark : {A I : Type 0} (u v : View A I) (mark : List ℕ) (journal : List JournalEntry) → IsMarkOf u v mark → Interleaves v.journal journal → Interleaves u.journal (upto (before mark) journal)
 up_to_mark u v mark journal is merge =
     let cut : Interleaves (λ k. take (before mark k) (v.journal k)) (upto (before mark) journal) = merged_upto v.journal journal (before mark) merge in
     record {
