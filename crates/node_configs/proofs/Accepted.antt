@@ -1,5 +1,5 @@
 -- What is known of an input that was accepted.
-use Rattle.std.proofs.Common.{◌≡◌, ℕ, ◌^◌, ◌<◌, ◌≤◌, Bool, true, false, List, [], ◌∷◌, length, map, refl, sym, ap, ◌∙◌, subst, arith, nat_lt, ◌×◌, ◌||◌}
+use Rattle.std.proofs.Common.{◌≡◌, ℕ, ◌^◌, ◌<◌, ◌≤◌, Bool, true, false, List, [], ◌∷◌, length, map, refl, sym, ◌∙◌, subst, arith, nat_lt, ◌||◌}
 use Rattle.std.specs.Prelude.{Option, Some, None, All, codes, slice_get}
 use Rattle.std.specs.Option.{option_or}
 use Rattle.std.specs.List.{AllByRecursion, IsDistinct}
@@ -9,8 +9,7 @@ use Rattle.std.proofs.lemmas.List.{length-map}
 use Rattle.std.proofs.lemmas.List.Elements.{All-from_recursion, All-nil}
 use Rattle.toml.specs.Data.{Data, string, integer, float, boolean, datetime, array, table, Members, get_member}
 use Rattle.bgp_types.specs.declared.message.Message.TheVariants.{UpdateMsg}
-use Rattle.bgp_types.specs.declared.message.Update.{Update}
-use Rattle.bgp_types.specs.Prefixes.{IsPrefix, same_prefix}
+use Rattle.bgp_types.specs.Prefixes.{IsPrefix}
 use Rattle.bgp_types.specs.Spelling.{spell}
 use Rattle.bgp_types.specs.Values.{is_no_host}
 use Rattle.bgp_types.specs.Writable.{IsWritable}
@@ -40,7 +39,7 @@ use Rattle.lab_input.specs.Said.{update_of}
 use Rattle.lab_input.proofs.Ready.{accepted, IsRemote, IsRemoteOf, remote_kept, says_update, Says, SaysWell, steps_well}
 use Rattle.lab_setup.specs.Setups.{setup_of}
 use Rattle.lab_setup.proofs.Lists.{none_of, all_mapped, all_at, below_get}
-use Rattle.lab_setup.proofs.Names.{IsKnown, known, number_below, names_kept}
+use Rattle.lab_setup.proofs.Names.{known, number_below, names_kept}
 use Rattle.lab_setup.proofs.Ready.{accepted_ready}
 use Rattle.node_configs.specs.Accepted.{IsAccepted}
 
@@ -141,7 +140,7 @@ is_setup input from = accepted_ready from.bytes input from.is
 
 -- an UPDATE without prefixes can be written
 nothing_said : (wide : Bool) → IsWritable (UpdateMsg (record { withdrawn = []; attrs = None; nlri = [] })) wide
-unfolding spell
+unfolding spell IsDistinct
 nothing_said wide = record {
   body = record { withdrawn = All-nil IsPrefix; nlri = All-nil IsPrefix; once = tt; attrs = refl };
   size = omega arith;
@@ -156,10 +155,10 @@ not_said (Settle rounds least) e = nothing_said
 not_said (Evacuate router) e = nothing_said
 
 module _ (doc : Members) (kept : HasTables doc) where
-  routers : List (List ℕ)
+  abbrev routers : List (List ℕ)
   routers = router_names_of doc
 
-  peerings : List PeeringInput
+  abbrev peerings : List PeeringInput
   peerings = peerings_of doc
 
   -- what is known of a peering

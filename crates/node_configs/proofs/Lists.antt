@@ -1,7 +1,8 @@
 -- Lists that are made from numbered elements.
-use Rattle.std.proofs.Common.{◌≡◌, ℕ, zero, suc, ◌+◌, ◌<◌, ◌≤◌, Bool, true, false, cond, List, [], ◌∷◌, ◌++◌, length, map, filter, take, refl, ap, sym, ◌∙◌, append_assoc, append-nil, slice_index_or, arith}
-use Rattle.std.specs.Prelude.{Option, Some, None, option_map, slice_get, ◌==◌}
+use Rattle.std.proofs.Common.{◌≡◌, ℕ, zero, suc, ◌+◌, ◌-◌, ◌<◌, Bool, true, false, cond, List, [], ◌∷◌, ◌++◌, length, map, filter, take, refl, ap, sym, ◌∙◌, append_assoc, append-nil, slice_index_or, arith}
+use Rattle.std.specs.Prelude.{Option, Some, None, option_map, slice_get}
 use Rattle.std.specs.List.{flat_map, enumerate_from, last_or}
+use Rattle.std.proofs.lemmas.Option.{slice_get-get_or}
 
 numbered : {X A : Type 0} (f : ℕ × X → List A) (n : ℕ) (xs : List X) (i : ℕ) (x : X) → i < length xs → x ≡ slice_index_or xs i x
     → flat_map f (enumerate_from n (take (suc i) xs)) ≡ flat_map f (enumerate_from n (take i xs)) ++ f (n + i, x)
@@ -31,11 +32,12 @@ map_numbered f g h same (x ∷ xs) n = ap (λ z. z ∷ map g (map f (enumerate_f
 pub filter_numbered : {X Y Z : Type 0} (f : ℕ × X → Y) (g : Y → Z) (test : Y → Bool) (xs : List X) (n : ℕ)
     → flat_map (λ x. cond (test (f x)) (g (f x) ∷ []) []) (enumerate_from n xs) ≡ map g (filter test (map f (enumerate_from n xs)))
 filter_numbered f g test [] n = refl
-filter_numbered f g test (x ∷ xs) n = by_test (test (f (n, x))) where
-  by_test : (t : Bool) → cond t (g (f (n, x)) ∷ []) [] ++ flat_map (λ x. cond (test (f x)) (g (f x) ∷ []) []) (enumerate_from (n + 1) xs)
+filter_numbered f g test (x ∷ xs) n = by_test (test (f (n, x))) (filter_numbered f g test xs (n + 1)) where
+  by_test : (t : Bool) → flat_map (λ x. cond (test (f x)) (g (f x) ∷ []) []) (enumerate_from (n + 1) xs) ≡ map g (filter test (map f (enumerate_from (n + 1) xs)))
+      → cond t (g (f (n, x)) ∷ []) [] ++ flat_map (λ x. cond (test (f x)) (g (f x) ∷ []) []) (enumerate_from (n + 1) xs)
       ≡ map g (cond t (f (n, x) ∷ filter test (map f (enumerate_from (n + 1) xs))) (filter test (map f (enumerate_from (n + 1) xs))))
-  by_test true = ap (λ zs. g (f (n, x)) ∷ zs) (filter_numbered f g test xs (n + 1))
-  by_test false = filter_numbered f g test xs (n + 1)
+  by_test true rest = ap (λ zs. g (f (n, x)) ∷ zs) rest
+  by_test false rest = rest
 
 pub last_mapped : {X Y : Type 0} (f : X → Y) (o : Option X) (xs : List X) → last_or (option_map f o) (map f xs) ≡ option_map f (last_or o xs)
 last_mapped f o [] = refl
@@ -49,10 +51,16 @@ pub map_mapped : {X Y Z : Type 0} (f : X → Y) (g : Y → Z) (h : X → Z) → 
 map_mapped f g h same [] = refl
 map_mapped f g h same (x ∷ xs) = ap (λ z. z ∷ map g (map f xs)) (same x) ∙ ap (λ zs. h x ∷ zs) (map_mapped f g h same xs)
 
--- the last element stands at the last place
-pub last_there : {X : Type 0} (o : Option X) (y : X) (xs : List X) → 0 < length xs → last_or o xs ≡ Some y → (k : ℕ) → k + 1 ≡ length xs → slice_get xs k ≡ Some y
-last_there o y [] some last k e = absurd (omega arith)
-last_there o y (x ∷ []) some last zero e = last
-last_there o y (x ∷ []) some last (suc k) e = absurd (omega (arith, e))
-last_there o y (x ∷ z ∷ xs) some last zero e = absurd (omega (arith, e))
-last_there o y (x ∷ z ∷ xs) some last (suc k) e = last_there (Some x) y (z ∷ xs) (omega arith) last k (omega (arith, e))
+-- what stands at the last place is the last element
+last_from : {X : Type 0} (o : Option X) (x : X) (xs : List X) → slice_get (x ∷ xs) (length xs) ≡ last_or o (x ∷ xs)
+last_from o x [] = refl
+last_from o x (y ∷ ys) = last_from (Some x) y ys
+
+pub last_is : {X : Type 0} (xs : List X) → slice_get xs (length xs - 1) ≡ last_or None xs
+last_is [] = refl
+last_is (x ∷ xs) = let e : length (x ∷ xs) - 1 ≡ length xs = omega arith in ap (slice_get (x ∷ xs)) e ∙ last_from None x xs
+
+-- what was read at a place
+pub read_at : {X : Type 0} (xs ys : List X) (i k : ℕ) (x : X) → ys ≡ xs → i ≡ k → k < length xs → x ≡ slice_index_or ys i x → slice_get xs k ≡ Some x
+read_at xs ys i k x same place below is =
+    slice_get-get_or xs k x below ∙ ap Some (sym (is ∙ ap (λ zs. slice_index_or zs i x) same ∙ ap (λ n. slice_index_or xs n x) place))

@@ -1,16 +1,14 @@
 -- The configuration of a router.
-use Rattle.std.proofs.Common.{◌≡◌, ℕ, zero, suc, ◌<◌, ◌≤◌, Bool, true, false, cond, List, [], ◌∷◌, length, map, filter, refl, sym, ap, ◌∙◌, subst, arith}
+use Rattle.std.proofs.Common.{◌≡◌, ℕ, zero, suc, ◌<◌, Bool, true, false, cond, List, [], ◌∷◌, length, map, refl, sym, ap, ◌∙◌, subst, arith}
 use Rattle.std.specs.Prelude.{◌==◌, Option, Some, None, option_map, unwrap_or, slice_get, find}
-use Rattle.std.specs.List.{list_any, enumerate_from}
+use Rattle.std.specs.List.{list_any}
 use Rattle.std.specs.Str.{bytes_eq}
 use Rattle.std.proofs.lemmas.Option.{slice_get-map, slice_get_past, slice_get_within}
-use Rattle.bgp_types.specs.Prefixes.{PrefixValue, same_prefix}
-use Rattle.route_policy.specs.declared.rule.Rule.{Rule}
+use Rattle.bgp_types.specs.Prefixes.{same_prefix}
 use Rattle.rib_stages.specs.declared.config.RibConfig.{RibConfig}
 use Rattle.session_value.specs.declared.config.SessionConfig.{SessionConfig}
 use Rattle.graft_model.specs.Setups.{Setup, RouterSetup, PeeringSetup, NamedRules, of_router, routers_in, peerings_in}
 use Rattle.graft_model.specs.Setups as model
-use Rattle.graft_actors.specs.Items.{home_first, remote_first}
 use Rattle.lab_tables.specs.declared.input.LabInput.{LabInput}
 use Rattle.lab_tables.specs.declared.input.PeeringInput.{PeeringInput}
 use Rattle.lab_tables.specs.declared.input.PolicyInput.{PolicyInput}
@@ -21,7 +19,7 @@ use Rattle.router_core.specs.declared.config.NamedPolicy.{NamedPolicy}
 use Rattle.router_core.specs.declared.config.RouterConfig.{RouterConfig}
 use Rattle.router_core.specs.Configs.{rules_at, ArePoliciesOf, firsts_at, AreFirstsOf, IsRibOf, starting_here, IsConfigOf}
 use Rattle.node_configs.specs.Accepted.{IsAccepted}
-use Rattle.node_configs.specs.Tables.{named_policy, firsts_of, session_if, sessions_at}
+use Rattle.node_configs.specs.Tables.{named_policy, firsts_of, sessions_at}
 use Rattle.node_configs.proofs.Accepted.{HasFew, few}
 use Rattle.node_configs.proofs.Lists.{filter_numbered}
 use Rattle.lab_setup.proofs.Ready.{as_many_routers, as_many_peerings, router_there}
@@ -31,11 +29,19 @@ use Rattle.node_configs.proofs.Setups.{router_at, peering_at}
 
 same_rules : (name : List ℕ) (ps : List PolicyInput) → rules_at (map named_policy ps) name ≡ option_map (λ (policy : NamedRules). policy.rules) (find (λ (policy : NamedRules). bytes_eq name policy.name) (map named_rules ps))
 same_rules name [] = refl
-same_rules name (p ∷ ps) = by_test (bytes_eq name p.name) where
-  by_test : (t : Bool) → option_map (λ (q : NamedPolicy). q.policy) (cond t (Some (named_policy p)) (find (λ (q : NamedPolicy). bytes_eq name q.name) (map named_policy ps)))
+same_rules name (p ∷ ps) = by_test (bytes_eq name p.name) (same_rules name ps) where
+  by_test : (t : Bool) → rules_at (map named_policy ps) name ≡ option_map (λ (policy : NamedRules). policy.rules) (find (λ (policy : NamedRules). bytes_eq name policy.name) (map named_rules ps))
+      → option_map (λ (q : NamedPolicy). q.policy) (cond t (Some (named_policy p)) (find (λ (q : NamedPolicy). bytes_eq name q.name) (map named_policy ps)))
       ≡ option_map (λ (policy : NamedRules). policy.rules) (cond t (Some (named_rules p)) (find (λ (policy : NamedRules). bytes_eq name policy.name) (map named_rules ps)))
-  by_test true = refl
-  by_test false = same_rules name ps
+  by_test true rest = refl
+  by_test false rest = rest
+
+-- the numbers of the first bytes that both sides send
+abbrev numbers_of : Firsts → ℕ × ℕ
+numbers_of f = (f.home.0, f.remote.0)
+
+abbrev numbers_in : SessionConfig → ℕ × ℕ
+numbers_in config = (config.send_first.0, config.receive_first.0)
 
 module _ (input : LabInput) where
   -- a field of a router
@@ -50,27 +56,27 @@ module _ (input : LabInput) where
 
   -- ---- first numbers
 
-  first_by : (o : Option PeeringInput) (p : ℕ) → option_map (λ (f : Firsts). (f.home.0, f.remote.0)) (option_map firsts_of o)
-      ≡ option_map (λ (config : SessionConfig). (config.send_first.0, config.receive_first.0)) (option_map (λ (peering : PeeringSetup). peering.config) (option_map (λ x. peering_setup input (p, x)) o))
+  first_by : (o : Option PeeringInput) (p : ℕ) → option_map numbers_of (option_map firsts_of o)
+      ≡ option_map numbers_in (option_map (λ (peering : PeeringSetup). peering.config) (option_map (λ x. peering_setup input (p, x)) o))
   first_by None p = refl
   first_by (Some x) p = refl
 
   firsts_are : (firsts : List Firsts) → firsts ≡ map firsts_of input.peerings → (p : ℕ) → firsts_at firsts p
-      ≡ option_map (λ (config : SessionConfig). (config.send_first.0, config.receive_first.0)) (model.config_of (setup_of input) p)
+      ≡ option_map numbers_in (model.config_of (setup_of input) p)
   firsts_are firsts made p =
-      ap (λ fs. firsts_at fs p) made ∙ ap (option_map (λ (f : Firsts). (f.home.0, f.remote.0))) (slice_get-map firsts_of input.peerings p)
+      ap (λ fs. firsts_at fs p) made ∙ ap (option_map numbers_of) (slice_get-map firsts_of input.peerings p)
       ∙ first_by (slice_get input.peerings p) p
-      ∙ ap (λ o. option_map (λ (config : SessionConfig). (config.send_first.0, config.receive_first.0)) (option_map (λ (peering : PeeringSetup). peering.config) o)) (sym (peering_at input p))
+      ∙ ap (λ o. option_map numbers_in (option_map (λ (peering : PeeringSetup). peering.config) o)) (sym (peering_at input p))
 
-  pairs : (o : Option SessionConfig) → (c : SessionConfig) → o ≡ Some c → option_map (λ (config : SessionConfig). (config.send_first.0, config.receive_first.0)) o
+  pairs : (o : Option SessionConfig) → (c : SessionConfig) → o ≡ Some c → option_map numbers_in o
       ≡ Some (unwrap_or (option_map (λ (config : SessionConfig). config.send_first.0) o) 0, unwrap_or (option_map (λ (config : SessionConfig). config.receive_first.0) o) 0)
-  pairs o c e = subst (λ (x : Option SessionConfig). option_map (λ (config : SessionConfig). (config.send_first.0, config.receive_first.0)) x
+  pairs o c e = subst (λ (x : Option SessionConfig). option_map numbers_in x
       ≡ Some (unwrap_or (option_map (λ (config : SessionConfig). config.send_first.0) x) 0, unwrap_or (option_map (λ (config : SessionConfig). config.receive_first.0) x) 0)) (sym e) refl
 
   are_firsts : (firsts : List Firsts) → firsts ≡ map firsts_of input.peerings → AreFirstsOf (setup_of input) firsts
   are_firsts firsts made = record {
     each = λ p below. firsts_are firsts made p ∙ pairs (model.config_of (setup_of input) p) (config p below).0 (config p below).1;
-    none = λ p past. firsts_are firsts made p ∙ ap (λ o. option_map (λ (config : SessionConfig). (config.send_first.0, config.receive_first.0)) (option_map (λ (peering : PeeringSetup). peering.config) o)) (slice_get_past (setup_of input).peerings p past);
+    none = λ p past. firsts_are firsts made p ∙ ap (λ o. option_map numbers_in (option_map (λ (peering : PeeringSetup). peering.config) o)) (slice_get_past (setup_of input).peerings p past);
   }
     where
       config : (p : ℕ) → p < peerings_in (setup_of input) → (c : SessionConfig) × (model.config_of (setup_of input) p ≡ Some c)

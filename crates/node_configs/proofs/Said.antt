@@ -1,6 +1,6 @@
 -- What a remote says at the steps of an input is what the steps of its script have it say.
 use Rattle.std.proofs.Common.{◌≡◌, ℕ, zero, suc, ◌+◌, ◌<◌, Bool, true, false, cond, eqb, List, [], ◌∷◌, ◌++◌, map, refl, sym, ap, ◌∙◌, arith}
-use Rattle.std.specs.Prelude.{◌==◌, Option, Some, None, option_map, option_and_then, unwrap_or, slice_get, find}
+use Rattle.std.specs.Prelude.{Option, Some, None, option_map, option_and_then, slice_get, find}
 use Rattle.std.specs.List.{flat_map, enumerate_from, last_or}
 use Rattle.std.proofs.lemmas.Bool.{eqb-true}
 use Rattle.std.proofs.lemmas.Bool.Decides.{nat_tests}
@@ -20,7 +20,7 @@ use Rattle.node_configs.specs.Says.{said_by, say_if, says_of}
 -- ---- by the script
 
 module _ (peerings : List PeeringInput) (p : ℕ) where
-  wide : Bool
+  abbrev wide : Bool
   wide = is_wide_at peerings p
 
   update_said : (q : ℕ) (u : Bool → List ℕ) → say_by p (Some (SayStep q (u (is_wide_at peerings q)))) ≡ cond (eqb q p) (Some (u wide)) None
@@ -61,42 +61,40 @@ module _ (peerings : List PeeringInput) (p : ℕ) where
 -- ---- by the list of what it says
 
 module _ (said : Step → Option (List ℕ)) where
-  says_from : ℕ → List Step → List Say
+  abbrev says_from : ℕ → List Step → List Say
   says_from k steps = flat_map (λ x. say_if x.0 (said x.1)) (enumerate_from k steps)
+
+  abbrev found : Bool → Say → List Say → ℕ → Option (List ℕ)
+  found t first rest n = option_map (λ (say : Say). say.bytes) (cond t (Some first) (find (λ say. eqb say.step n) rest))
+
+  -- what is said at another step isn't found
+  passed : (k n : ℕ) (o : Option (List ℕ)) (rest : List Say) → eqb k n ≡ false → bytes_of (say_if k o ++ rest) n ≡ bytes_of rest n
+  passed k n None rest other = refl
+  passed k n (Some bytes) rest other = ap (λ (t : Bool). found t (record { step = k; bytes = bytes }) rest n) other
+
+  is_other : (k n : ℕ) → n < k → eqb k n ≡ false
+  is_other k n below = grind (arith, nat_tests)
+
+  is_before : (k n : ℕ) → k < n → eqb k n ≡ false
+  is_before k n above = grind (arith, nat_tests)
+
+  is_same : (k n : ℕ) → k ≡ n → eqb k n ≡ true
+  is_same k n same = grind (arith, nat_tests)
 
   -- nothing that is said from a step on is said before it
   none_before : (k : ℕ) (steps : List Step) (n : ℕ) → n < k → bytes_of (says_from k steps) n ≡ None
   none_before k [] n below = refl
-  none_before k (step ∷ steps) n below = by_said (said step) where
-    other : eqb k n ≡ false
-    other = grind (arith, nat_tests)
+  none_before k (step ∷ steps) n below = passed k n (said step) (says_from (k + 1) steps) (is_other k n below) ∙ none_before (k + 1) steps n (omega arith)
 
-    rest : bytes_of (says_from (k + 1) steps) n ≡ None
-    rest = none_before (k + 1) steps n (omega arith)
-
-    by_said : (o : Option (List ℕ)) → bytes_of (say_if k o ++ says_from (k + 1) steps) n ≡ None
-    by_said None = rest
-    by_said (Some bytes) = ap (λ (t : Bool). option_map (λ (say : Say). say.bytes) (cond t (Some (record { step = k; bytes = bytes })) (find (λ say. eqb say.step n) (says_from (k + 1) steps)))) other ∙ rest
+  -- what is said at this step
+  first_said : (k n : ℕ) (o : Option (List ℕ)) (rest : List Say) → eqb k n ≡ true → bytes_of rest n ≡ None → bytes_of (say_if k o ++ rest) n ≡ o
+  first_said k n None rest same none = none
+  first_said k n (Some bytes) rest same none = ap (λ (t : Bool). found t (record { step = k; bytes = bytes }) rest n) same
 
   said_at : (k : ℕ) (steps : List Step) (i n : ℕ) → k + i ≡ n → bytes_of (says_from k steps) n ≡ option_and_then said (slice_get steps i)
   said_at k [] i n at = refl
-  said_at k (step ∷ steps) zero n at = by_said (said step) where
-    same : eqb k n ≡ true
-    same = grind (arith, nat_tests)
-
-    by_said : (o : Option (List ℕ)) → bytes_of (say_if k o ++ says_from (k + 1) steps) n ≡ o
-    by_said None = none_before (k + 1) steps n (omega arith)
-    by_said (Some bytes) = ap (λ (t : Bool). option_map (λ (say : Say). say.bytes) (cond t (Some (record { step = k; bytes = bytes })) (find (λ say. eqb say.step n) (says_from (k + 1) steps)))) same
-  said_at k (step ∷ steps) (suc i) n at = by_said (said step) where
-    other : eqb k n ≡ false
-    other = grind (arith, nat_tests)
-
-    rest : bytes_of (says_from (k + 1) steps) n ≡ option_and_then said (slice_get steps i)
-    rest = said_at (k + 1) steps i n (omega (arith, at))
-
-    by_said : (o : Option (List ℕ)) → bytes_of (say_if k o ++ says_from (k + 1) steps) n ≡ option_and_then said (slice_get steps i)
-    by_said None = rest
-    by_said (Some bytes) = ap (λ (t : Bool). option_map (λ (say : Say). say.bytes) (cond t (Some (record { step = k; bytes = bytes })) (find (λ say. eqb say.step n) (says_from (k + 1) steps)))) other ∙ rest
+  said_at k (step ∷ steps) zero n at = first_said k n (said step) (says_from (k + 1) steps) (is_same k n (omega (arith, at))) (none_before (k + 1) steps n (omega (arith, at)))
+  said_at k (step ∷ steps) (suc i) n at = passed k n (said step) (says_from (k + 1) steps) (is_before k n (omega (arith, at))) ∙ said_at (k + 1) steps i n (omega (arith, at))
 
 -- what the remote says at a step is what the script has it say
 pub says_are : (peerings : List PeeringInput) (p : ℕ) (steps : List Step) (n : ℕ)

@@ -1,9 +1,9 @@
 -- The script of the operator.
-use Rattle.std.proofs.Common.{◌≡◌, ℕ, zero, suc, ◌+◌, ◌-◌, ◌<◌, ◌≤◌, Bool, List, [], ◌∷◌, ◌++◌, length, map, refl, sym, ap, ◌∙◌, subst, arith}
+use Rattle.std.proofs.Common.{◌≡◌, zero, suc, ◌-◌, ◌<◌, ◌≤◌, cond, List, [], ◌∷◌, ◌++◌, length, map, refl, sym, ap, ◌∙◌, subst, arith}
 use Rattle.std.specs.Prelude.{Option, Some, None, option_map, slice_get, All, slice_index_or}
-use Rattle.std.specs.List.{last_or, enumerate_from}
+use Rattle.std.specs.List.{last_or}
 use Rattle.std.proofs.lemmas.List.{length-append, length-map}
-use Rattle.std.proofs.lemmas.Option.{slice_get-map, slice_get-get_or, slice_get_within, get_or_from_slice_get}
+use Rattle.std.proofs.lemmas.Option.{slice_get-get_or}
 use Rattle.graft_edge.specs.declared.ids.RouterId.{RouterId}
 use Rattle.graft_model.specs.Setups.{Setup, RouterSetup, PeeringSetup, ScriptStep as StepOf, SayStep, MoveStep, SettleStep, IsSetup, IsStep, IsPeeringSetup, routers_in, peerings_in}
 use Rattle.lab_tables.specs.declared.input.LabInput.{LabInput}
@@ -13,15 +13,14 @@ use Rattle.lab_tables.specs.declared.input.Step.{Step}
 use Rattle.lab_tables.specs.declared.input.Step.TheVariants as steps
 use Rattle.lab_setup.specs.Setups.{router_setup, peering_setup, script_step, ended_by, ended, setup_of}
 use Rattle.operator_core.specs.declared.script.Script.{Script}
-use Rattle.operator_core.specs.declared.script.ScriptStep.{ScriptStep}
-use Rattle.operator_core.specs.declared.script.ScriptStep.TheVariants.{Say, Graft, Settle}
+use Rattle.operator_core.specs.declared.script.ScriptStep.TheVariants.{Settle}
 use Rattle.operator_core.specs.Scripts.{step_for, IsScriptOf, IsWorkableStep, IsWorkable}
 use Rattle.node_configs.specs.Accepted.{IsAccepted}
-use Rattle.node_configs.specs.Orders.{order_of, end_after, orders_of}
+use Rattle.node_configs.specs.Orders.{order_of, is_end, end_after, orders_of}
 use Rattle.node_configs.proofs.Accepted.{HasFew, few, is_setup}
-use Rattle.node_configs.proofs.Lists.{map_numbered, map_append, map_mapped, last_mapped, last_there}
-use Rattle.lab_setup.proofs.Ready.{as_many_routers, as_many_peerings}
-use Rattle.node_configs.proofs.Setups.{peering_at, steps_are}
+use Rattle.node_configs.proofs.Lists.{map_numbered, map_append, map_mapped, last_mapped, last_is}
+use Rattle.lab_setup.proofs.Ready.{as_many_routers}
+use Rattle.node_configs.proofs.Setups.{steps_are}
 
 -- ---- the script is that of the laboratory
 
@@ -33,25 +32,27 @@ order_is peerings (steps.Graft q target) = refl
 order_is peerings (steps.Settle rounds least) = refl
 order_is peerings (steps.Evacuate router) = refl
 
-end_is : (o : Option StepOf) → map step_for (ended_by o) ≡ end_after (option_map step_for o)
+end_is : (o : Option StepOf) → map step_for (ended_by o) ≡ cond (is_end (option_map step_for o)) [] (Settle ∷ [])
 end_is None = refl
 end_is (Some (SayStep q bytes)) = refl
 end_is (Some (MoveStep q target)) = refl
 end_is (Some SettleStep) = refl
 
+-- what is added by the last step of the script is what is added by the last order
+end_too : (script : List StepOf) → map step_for (ended_by (last_or None script)) ≡ end_after (map step_for script)
+end_too script =
+    end_is (last_or None script)
+    ∙ ap (λ o. cond (is_end o) [] (Settle ∷ [])) (sym (last_mapped step_for None script) ∙ sym (last_is (map step_for script)))
+
 orders_are : (peerings : List PeeringInput) (input : List Step) → orders_of input ≡ map step_for (ended (map (script_step peerings) input))
 orders_are peerings input =
     let script : List StepOf = map (script_step peerings) input in
     let orders : map step_for script ≡ map order_of input = map_mapped (script_step peerings) step_for order_of (order_is peerings) input in
-    let last : last_or None (map step_for script) ≡ option_map step_for (last_or None script) = last_mapped step_for None script in
     sym (map_append step_for script (ended_by (last_or None script))
-    ∙ ap (λ xs. xs ++ map step_for (ended_by (last_or None script))) orders
-    ∙ ap (λ ys. map order_of input ++ ys) (end_is (last_or None script) ∙ ap end_after (sym last) ∙ ap (λ xs. end_after (last_or None xs)) orders))
+    ∙ ap (λ ys. map step_for script ++ ys) (end_too script)
+    ∙ ap (λ xs. xs ++ end_after xs) orders)
 
 module _ (input : LabInput) where
-  script_of : Script
-  script_of = record { rooms = map (λ (r : RouterInput). r.sessions) input.routers; starts = map (λ (p : PeeringInput). p.at) input.peerings; steps = orders_of input.steps }
-
   rooms_are : map (λ (router : RouterSetup). router.room) (setup_of input).routers ≡ map (λ (r : RouterInput). r.sessions) input.routers
   unfolding setup_of
   rooms_are = map_numbered (router_setup input) (λ (router : RouterSetup). router.room) (λ (r : RouterInput). r.sessions) (λ n x. refl) input.routers 0
@@ -85,7 +86,7 @@ all_made f P Q each (x ∷ xs) all zero d below = each x (all 0 x (omega arith))
 all_made f P Q each (x ∷ xs) all (suc k) d below = all_made f P Q each xs (λ j e lt. all (suc j) e (omega arith)) k d (omega (arith, below))
 
 module _ (input : LabInput) (accepted : IsAccepted input) (script : Script) (is : IsScriptOf (setup_of input) script) where
-  setup : Setup
+  abbrev setup : Setup
   setup = setup_of input
 
   sound : IsSetup setup
@@ -113,9 +114,9 @@ module _ (input : LabInput) (accepted : IsAccepted input) (script : Script) (is 
       let mapped = length-map input.steps (script_step input.peerings) in
       let more = length-append script (ended_by (last_or None script)) in
       let end = end_short (last_or None script) in
-      let whole = ap length (steps_are input) in
+      let whole : length setup.steps ≡ length (script ++ ended_by (last_or None script)) = ap length (steps_are input) in
       let most = counts.steps in
-      omega arith
+      omega (arith, mapped, more, end, whole, most)
 
   some_last : (xs : List StepOf) → last_or None xs ≡ Some SettleStep → 0 < length xs
   some_last [] e = absurd (let none : Option StepOf = None in let f : none ≡ Some SettleStep = e in cc)
@@ -138,9 +139,8 @@ module _ (input : LabInput) (accepted : IsAccepted input) (script : Script) (is 
     some = (let all = steps_many in let some = some_last setup.steps sound.ended in omega arith);
     short = (let all = steps_many in let few = short in omega arith);
     ended =
-        let all = steps_many in
-        let some = some_last setup.steps sound.ended in
-        ap (λ xs. slice_get xs (length script.steps - 1)) is.steps
-        ∙ slice_get-map step_for setup.steps (length script.steps - 1)
-        ∙ ap (option_map step_for) (last_there None SettleStep setup.steps some sound.ended (length script.steps - 1) (omega arith));
+        ap (λ xs. slice_get xs (length xs - 1)) is.steps
+        ∙ last_is (map step_for setup.steps)
+        ∙ last_mapped step_for None setup.steps
+        ∙ ap (option_map step_for) sound.ended;
   }

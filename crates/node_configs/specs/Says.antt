@@ -1,5 +1,5 @@
 -- What the steps of an input have a remote say.
-use Rattle.std.specs.Prelude.{ℕ, ◌==◌, Bool, List, [], ◌∷◌, Option, Some, None, option_map, if◌then◌else◌}
+use Rattle.std.specs.Prelude.{ℕ, ◌==◌, Bool, List, [], Option, Some, None, option_map, if◌then◌else◌}
 use Rattle.std.specs.List.{enumerate_from, flat_map, cons_option}
 use Rattle.bgp_types.specs.declared.message.Message.TheVariants.{UpdateMsg}
 use Rattle.bgp_types.specs.Spelling.{spell}

@@ -38,7 +38,11 @@ fn beat_of(peering: &PeeringInput) -> u32
 
 /// What the far side of a peering begins with: how many routers and peerings there are, the peering's start, numbers and opening, the
 /// bytes that its remote says at steps, and its planned faults. The input is one that was accepted, and has the peering.
-pub fn far_config(alloc: Global, input: &LabInput, peering: PeeringId) -> Result<FarConfig, NoMemory>
+pub fn far_config(
+    alloc: Global,
+    input: &LabInput,
+    peering: PeeringId,
+) -> Result<FarConfig, NoMemory>
     requires accepted { IsAccepted input.now }
     requires there { peering.0 < length input.now.peerings }
     ensures config { IfOk result (IsConfigOf (setup_of input.now)) }

@@ -65,7 +65,11 @@ fn policies_of(alloc: Global, policies: &[PolicyInput]) -> Result<Policies, NoMe
 /// What a router begins with: how many routers there are, its room, policies and networks, the identifiers of all routers and the costs to
 /// them, the first numbers of each peering's streams, and the sessions that start there, by rising peering. The input is one that was
 /// accepted, and has the router.
-pub fn router_config(alloc: Global, input: &LabInput, number: RouterId) -> Result<RouterConfig, NoMemory>
+pub fn router_config(
+    alloc: Global,
+    input: &LabInput,
+    number: RouterId,
+) -> Result<RouterConfig, NoMemory>
     requires accepted { IsAccepted input.now }
     requires there { number.0 < length input.now.routers }
     ensures config { IfOk result (IsConfigOf (setup_of input.now)) }

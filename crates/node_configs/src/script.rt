@@ -1,10 +1,10 @@
 //! The script that the operator works through.
 
-ghost use Rattle.std.specs.Prelude.{◌≡◌, ◌++◌, map, List, IfOk, OnOk};
+ghost use Rattle.std.specs.Prelude.{◌≡◌, ◌++◌, map, IfOk, OnOk};
 ghost use Rattle.lab_setup.specs.Setups.{setup_of};
 ghost use Rattle.operator_core.specs.Scripts.{IsScriptOf, IsWorkable};
 ghost use Rattle.node_configs.specs.Accepted.{IsAccepted};
-ghost use Rattle.node_configs.specs.Orders.{order_of as order_of_lem, orders_of as orders_of_lem, end_after};
+ghost use Rattle.node_configs.specs.Orders.{order_of as order_of_lem, orders_of as orders_of_lem, is_end as is_end_lem, end_after};
 
 use graft_edge::NoMemory;
 use lab_tables::{LabInput, PeeringInput, RouterInput, Step};
@@ -49,14 +49,27 @@ fn order_of(step: &Step) -> ScriptStep
     }
 }
 
+/// Whether a step ends a group.
+fn is_end(step: Option<ScriptStep>) -> bool
+    ensures { result ≡ is_end_lem step }
+{
+    match step {
+        Some(ScriptStep::Settle) => true,
+        Some(ScriptStep::Say { .. }) => false,
+        Some(ScriptStep::Graft { .. }) => false,
+        None => false,
+    }
+}
+
 /// Ends the last group, where the last step doesn't.
 fn end(orders: &mut ScriptSteps) -> Result<(), NoMemory>
-    ensures { OnOk result (orders.new ≡ orders.old ++ end_after (last_or None orders.old)) }
+    ensures { OnOk result (orders.new ≡ orders.old ++ end_after orders.old) }
 {
-    match orders.as_slice().last() {
-        Some(ScriptStep::Settle) => Ok(()),
-        _ => orders.push(ScriptStep::Settle),
+    let last = orders.as_slice().last().copied();
+    if is_end(last) {
+        return Ok(());
     }
+    orders.push(ScriptStep::Settle)
 }
 
 fn orders_of(alloc: Global, steps: &[Step]) -> Result<ScriptSteps, NoMemory>
@@ -83,6 +96,3 @@ pub fn operator_script(alloc: Global, input: &LabInput) -> Result<Script, NoMemo
         steps: orders_of(alloc, &input.steps)?,
     })
 }
-
-ghost use Rattle.std.specs.Prelude.{None};
-ghost use Rattle.std.specs.List.{last_or};
