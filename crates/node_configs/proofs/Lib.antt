@@ -1,0 +1,7 @@
+pub mod Lists
+pub mod Accepted
+pub mod Setups
+pub mod Said
+pub mod Fars
+pub mod Scripts
+pub mod Routers

@@ -1,0 +1,4 @@
+pub mod Accepted
+pub mod Says
+pub mod Orders
+pub mod Tables
