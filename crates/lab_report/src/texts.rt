@@ -240,6 +240,27 @@ fn push_session(text: &mut String, view: &SessionView) -> Result<(), NoMemory>
     Ok(())
 }
 
+/// The line of a peering that has a session.
+fn push_view(
+    text: &mut String,
+    input: &LabInput,
+    name: &str,
+    place: Option<Place>,
+    view: &SessionView,
+) -> Result<(), NoMemory>
+    ensures { OnOk result (string_bytes text.new ≡ string_bytes text.old ++ (place_words name.now (place_text input.now place) ++ session_words view.now)) }
+{
+    push_place(text, input, name, place)?;
+    push_session(text, view)
+}
+
+/// The place of a session, by the number of its peering.
+fn place_at(placement: &[Place], place: usize) -> Option<Place>
+    ensures { result ≡ slice_get placement.now place }
+{
+    placement.get(place).copied()
+}
+
 /// The line of a peering, where it has a session.
 fn push_peering(
     text: &mut String,
@@ -251,11 +272,12 @@ fn push_peering(
 ) -> Result<(), NoMemory>
     ensures { OnOk result (string_bytes text.new ≡ string_bytes text.old ++ peering_line input.now sessions.now placement.now (place, peering.now)) }
 {
-    let Some(view) = sessions.get(place) else {
-        return Ok(());
-    };
-    push_place(text, input, peering.name.as_str(), placement.get(place).copied())?;
-    push_session(text, view)
+    let name = peering.name.as_str();
+    let at = place_at(placement, place);
+    match sessions.get(place) {
+        Some(view) => push_view(text, input, name, at, view),
+        None => Ok(()),
+    }
 }
 
 /// The peerings, in the order of the input, each with the place and the tables of its session.
