@@ -1,5 +1,6 @@
 pub mod Afters
 pub mod Bytes
+pub mod Firsts
 pub mod Keys
 pub mod Ready
 pub mod SaidAttrs

@@ -3,18 +3,18 @@ use Rattle.std.proofs.Common.{◌≡◌, ◌≢◌, ℕ, ◌+◌, ◌^◌, ◌<�
 use Rattle.std.specs.Prelude.{Option, Some, None, option_map, Result, Ok, Err, sum_by, All, slice_get, codes, nat_lt, unwrap_or}
 use Rattle.std.specs.Option.{option_or}
 use Rattle.std.specs.Result.{result_unwrap_or}
-use Rattle.std.specs.List.{AllByRecursion, IsDistinct, list_all, list_any, position_or_len, position}
+use Rattle.std.specs.List.{AllByRecursion, IsDistinct, list_all}
 use Rattle.std.specs.Str.{bytes_eq}
 use Rattle.std.proofs.lemmas.Bool.{false≢true, eqb-true}
 use Rattle.std.proofs.lemmas.Bool.Decides.{nat_tests}
 use Rattle.std.proofs.lemmas.List.{append-nil, length-map}
 use Rattle.std.proofs.lemmas.List.Elements.{All-from_recursion, All-nil, All-weaker}
-use Rattle.toml.specs.Data.{Members, get_member}
+use Rattle.toml.specs.Data.{Members}
 use Rattle.bgp_types.specs.declared.attrs.Attrs.{Attrs}
 use Rattle.bgp_types.specs.declared.message.Message.TheVariants.{UpdateMsg}
 use Rattle.bgp_types.specs.declared.message.Update.{Update}
 use Rattle.bgp_types.specs.Lengths.{prefix_size}
-use Rattle.bgp_types.specs.PathOctets.{is_long_as, has_long_as}
+use Rattle.bgp_types.specs.PathOctets.{is_long_as}
 use Rattle.bgp_types.specs.Prefixes.{PrefixValue, IsPrefix, same_prefix}
 use Rattle.bgp_types.specs.Spelling.{spell, spell_some_attrs, spell_update}
 use Rattle.bgp_types.specs.Values.{is_no_host}
@@ -26,7 +26,7 @@ use Rattle.lab_keys.specs.Places.{place}
 use Rattle.lab_keys.specs.declared.key.Kind.TheVariants.{Number, Name, Host, Prefix, Word}
 use Rattle.lab_keys.specs.declared.key.Words.TheVariants.{Origins}
 use Rattle.lab_keys.specs.declared.table_at.TableAt.TheVariants as tables
-use Rattle.lab_keys.specs.Kinds.{first_of, flaw_if}
+use Rattle.lab_keys.specs.Kinds.{flaw_if}
 use Rattle.lab_keys.specs.Keys.{required, optional, required_array, optional_array, key_flaw, keys_flaw, stray_flaw, tables_flaw}
 use Rattle.lab_keys.specs.Values.{has, text_at, number_or, address_or, prefixes_at, numbers_at, tables_at, items_at}
 use Rattle.lab_keys.proofs.NoFlaws.{none_left, none_right, IsWithin, number_within, host_required, host_optional, prefixes_within, numbers_few, tables_few, tables_all}
@@ -40,14 +40,14 @@ use Rattle.lab_tables.specs.declared.words.StepWord.TheVariants.{Announces, With
 use Rattle.lab_tables.specs.Meanings.{number_of}
 use Rattle.lab_tables.specs.Routers.{router_keys, router_flaw, router_of}
 use Rattle.lab_tables.specs.Peerings.{peering_ends, peering_rest, peering_flaw, peering_of, cost_flaw, fault_flaw}
-use Rattle.lab_tables.specs.Scripts.{word_at, announce_keys, withdraw_keys, keys_of, do_keys, is_crowded, worded_flaw, least_flaw, grouped_flaw, step_flaw, path_of, ases_of, said_prefixes, said_attrs, peering_number, worded_step, step_of}
+use Rattle.lab_tables.specs.Scripts.{word_at, announce_keys, withdraw_keys, do_keys, is_crowded, worded_flaw, grouped_flaw, step_flaw, ases_of, said_prefixes, said_attrs, peering_number, worded_step, step_of}
 use Rattle.lab_tables.specs.Documents.{home_keys, top_names, trace_keys, shaped, routers_of, router_names_of, peerings_of, lab_of}
 use Rattle.lab_input.specs.declared.bad.BadInput.{BadInput}
 use Rattle.lab_input.specs.declared.bad.BadInput.TheVariants.{NotToml}
 use Rattle.lab_input.specs.Bytes.{document_of}
 use Rattle.lab_input.specs.Names.{named}
 use Rattle.lab_input.specs.Counts.{counted}
-use Rattle.lab_input.specs.Built.{is_plain_router, has_defaults, opens_plainly, is_plain_peering, is_plain_step, is_small, are_plain, is_built}
+use Rattle.lab_input.specs.Built.{is_plain_router, has_defaults, opens_plainly, is_plain_peering, is_plain_step, is_small, is_built}
 use Rattle.lab_input.specs.Labs.{bad_of, bad_in, unless, input_in, most_bytes, too_long, input_of}
 use Rattle.lab_input.specs.Said.{update_of, IsReady}
 use Rattle.lab_input.proofs.SaidAttrs.{AreSaidAttrs, attrs_said}

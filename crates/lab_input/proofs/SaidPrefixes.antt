@@ -1,5 +1,5 @@
 -- The prefixes that a step names: each is one, each stands once, and there are few.
-use Rattle.std.proofs.Common.{◌≡◌, ℕ, ◌+◌, ◌*◌, ◌<◌, ◌≤◌, List, [], ◌∷◌, ◌++◌, length, Bool, true, false, cond, arith, length-append, length-take}
+use Rattle.std.proofs.Common.{ℕ, ◌+◌, ◌*◌, ◌<◌, ◌≤◌, List, [], ◌∷◌, ◌++◌, length, Bool, true, false, cond, arith, length-append, length-take}
 use Rattle.std.specs.Prelude.{sum_by, All, codes}
 use Rattle.std.specs.List.{IsDistinct, list_any}
 use Rattle.std.specs.Int.{w32, to_be_bytes}

@@ -1,8 +1,7 @@
 -- What is counted over a whole input.
-use Rattle.std.specs.Prelude.{ℕ, ◌+◌, ◌-◌, ◌==◌, nat_lt, Bool, true, false, ◌&&◌, List, [], ◌∷◌, ◌++◌, length, slice_get, sum_by, count_by, Option, Some, None, codes, if◌then◌else◌}
+use Rattle.std.specs.Prelude.{ℕ, ◌+◌, ◌-◌, ◌==◌, nat_lt, Bool, ◌&&◌, List, [], ◌∷◌, ◌++◌, length, slice_get, sum_by, count_by, Option, Some, None, codes, if◌then◌else◌}
 use Rattle.std.specs.List.{flat_map}
 use Rattle.bgp_types.specs.declared.message.Message.TheVariants.{UpdateMsg}
-use Rattle.bgp_types.specs.declared.message.Update.{Update}
 use Rattle.bgp_types.specs.Prefixes.{PrefixValue, once_after}
 use Rattle.bgp_types.specs.Spelling.{spell}
 use Rattle.lab_keys.specs.Kinds.{first_of, each_from}

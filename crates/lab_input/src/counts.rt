@@ -4,9 +4,9 @@ ghost use Rattle.std.specs.Prelude.{◌≡◌, ◌==◌, ◌&&◌, ◌++◌, len
 ghost use Rattle.std.specs.List.{flat_map};
 ghost use Rattle.bgp_types.specs.declared.message.Message.TheVariants.{UpdateMsg};
 ghost use Rattle.bgp_types.specs.Spelling.{spell};
-ghost use Rattle.lab_keys.specs.Kinds.{each_from};
+ghost use Rattle.lab_keys.specs.Kinds.{first_of, each_from};
 ghost use Rattle.lab_input.specs.Said.{update_of as update_of_lem};
-ghost use Rattle.lab_input.specs.Counts.{grafts_of as grafts_of_lem, settles_of as settles_of_lem, added_settle as added_settle_lem, prefixes_of as prefixes_of_lem, prefixes_named as prefixes_named_lem, peerings_at as peerings_at_lem, room_flaw as room_flaw_lem, is_wide as is_wide_lem, said_by as said_by_lem, said_on as said_on_lem, most_said as most_said_lem, said_flaw as said_flaw_lem, counted as counted_lem};
+ghost use Rattle.lab_input.specs.Counts.{grafts_of as grafts_of_lem, settles_of as settles_of_lem, added_settle as added_settle_lem, prefixes_of as prefixes_of_lem, prefixes_named as prefixes_named_lem, peerings_at as peerings_at_lem, room_flaw as room_flaw_lem, is_wide as is_wide_lem, said_by as said_by_lem, said_on as said_on_lem, most_said as most_said_lem, said_flaw as said_flaw_lem, over as over_lem, counted as counted_lem};
 
 use crate::bad::BadInput;
 use crate::told::{first, over};
@@ -291,23 +291,62 @@ fn said_flaw(
     Ok(None)
 }
 
+/// More grafts than a script has.
+fn grafts_flaw(alloc: Global, input: &LabInput) -> Result<Option<BadInput>, NoMemory>
+    ensures { IfOk result (λ bad. bad ≡ over_lem (codes "grafts") 256 (sum_by (grafts_of_lem (length input.now.peerings)) input.now.steps)) }
+{
+    let grafts = grafts_in(input.peerings.len() as u64, &input.steps)?;
+    let bad = over(alloc, "grafts", MOST_GRAFTS, grafts)?;
+    Ok(bad)
+}
+
+/// More settles than a script has.
+fn settles_flaw(alloc: Global, input: &LabInput) -> Result<Option<BadInput>, NoMemory>
+    ensures { IfOk result (λ bad. bad ≡ over_lem (codes "settles") 64 (sum_by settles_of_lem input.now.steps + added_settle_lem input.now.steps)) }
+{
+    let settles = settles_in(&input.steps)?;
+    let bad = over(alloc, "settles", MOST_SETTLES, settles)?;
+    Ok(bad)
+}
+
+/// More different prefixes than an input names.
+fn prefixes_flaw(alloc: Global, input: &LabInput) -> Result<Option<BadInput>, NoMemory>
+    ensures { IfOk result (λ bad. bad ≡ over_lem (codes "prefixes") 4096 (length (once_after [] (prefixes_named_lem input.now)))) }
+{
+    let prefixes = prefixes_in(alloc, input)?;
+    let bad = over(alloc, "prefixes", MOST_PREFIXES, prefixes)?;
+    Ok(bad)
+}
+
+/// The first count of a whole input that is above its limit.
+fn whole_flaw(alloc: Global, input: &LabInput) -> Result<Option<BadInput>, NoMemory>
+    ensures { IfOk result (λ bad. bad ≡ first_of (over_lem (codes "grafts") 256 (sum_by (grafts_of_lem (length input.now.peerings)) input.now.steps)
+        ∷ over_lem (codes "settles") 64 (sum_by settles_of_lem input.now.steps + added_settle_lem input.now.steps)
+        ∷ over_lem (codes "prefixes") 4096 (length (once_after [] (prefixes_named_lem input.now))) ∷ [])) }
+{
+    let grafts = grafts_flaw(alloc, input)?;
+    let settles = settles_flaw(alloc, input)?;
+    let prefixes = prefixes_flaw(alloc, input)?;
+    Ok(first(grafts, first(settles, first(prefixes, None))))
+}
+
+/// The first count of a router or of a peering that is above its limit.
+fn part_flaw(alloc: Global, input: &LabInput) -> Result<Option<BadInput>, NoMemory>
+    ensures { IfOk result (λ bad. bad ≡ first_of (each_from (room_flaw_lem input.now.peerings) 0 input.now.routers ∷ each_from (said_flaw_lem input.now.steps) 0 input.now.peerings ∷ [])) }
+{
+    let room = room_flaw(alloc, &input.peerings, &input.routers)?;
+    let said = said_flaw(alloc, &input.steps, &input.peerings)?;
+    Ok(first(room, first(said, None)))
+}
+
 /// The first count of an input that is above its limit.
 pub(crate) fn counted(alloc: Global, input: &LabInput) -> Result<Option<BadInput>, NoMemory>
     ensures { IfOk result (λ bad. bad ≡ counted_lem input.now) }
 {
-    let grafts = grafts_in(input.peerings.len() as u64, &input.steps)?;
-    let grafts = over(alloc, "grafts", MOST_GRAFTS, grafts)?;
-    let settles = settles_in(&input.steps)?;
-    let settles = over(alloc, "settles", MOST_SETTLES, settles)?;
-    let prefixes = prefixes_in(alloc, input)?;
-    let prefixes = over(alloc, "prefixes", MOST_PREFIXES, prefixes)?;
-    let room = room_flaw(alloc, &input.peerings, &input.routers)?;
-    let said = said_flaw(alloc, &input.steps, &input.peerings)?;
-    Ok(first(
-        grafts,
-        first(settles, first(prefixes, first(room, first(said, None)))),
-    ))
+    let whole = whole_flaw(alloc, input)?;
+    let part = part_flaw(alloc, input)?;
+    Ok(first(whole, part))
 }
 
-ghost use Rattle.std.specs.Prelude.{◌+◌, [], OnOk};
+ghost use Rattle.std.specs.Prelude.{◌+◌, [], ◌∷◌, OnOk, codes};
 ghost use Rattle.bgp_types.specs.Prefixes.{once_after};

@@ -5,7 +5,8 @@ ghost use Rattle.std.specs.List.{find};
 ghost use Rattle.std.specs.Option.{option_map_or};
 ghost use Rattle.toml.specs.View.{table_view};
 ghost use Rattle.lab_keys.specs.Kinds.{first_of};
-ghost use Rattle.lab_keys.specs.Values.{text_at as text_at_lem};
+ghost use Rattle.lab_keys.specs.Values.{text_at as text_at_lem, maybe_text};
+ghost use Rattle.bgp_types.specs.Texts.{address_text};
 ghost use Rattle.lab_tables.specs.Peerings.{cost_of};
 ghost use Rattle.lab_input.specs.Names.{each_after, cost_named as cost_named_lem, remote_of as remote_of_lem, policies_at as policies_at_lem, peering_flaw, peering_named as peering_named_lem, worded_named as worded_named_lem, step_named as step_named_lem};
 
@@ -135,6 +136,39 @@ fn policies_at(alloc: Global, routers: &[RouterInput], name: &str) -> Result<Pla
     Ok(places)
 }
 
+/// A name or an address of a peering that another one before it has, or a router that there isn't.
+fn place_named(
+    alloc: Global,
+    names: &Places,
+    again: Again,
+    table: &Table,
+) -> Result<Option<BadInput>, NoMemory>
+    ensures { IfOk result (λ bad. bad ≡ first_of (repeated_if_lem again.name (text_at_lem (codes "name") (table_view table.now))
+        ∷ unknown_lem names.now (text_at_lem (codes "at") (table_view table.now))
+        ∷ repeated_if_lem again.remote (address_text (remote_of_lem (table_view table.now))) ∷ [])) }
+{
+    let name = repeated_if(alloc, again.name, text_at("name", table))?;
+    let at = unknown(alloc, names, text_at("at", table))?;
+    let address = repeated_address(alloc, again.remote, remote_of(table))?;
+    Ok(first(name, first(at, first(address, None))))
+}
+
+/// A policy that a peering names and its router doesn't have.
+fn policy_named(
+    alloc: Global,
+    routers: &[RouterInput],
+    table: &Table,
+) -> Result<Option<BadInput>, NoMemory>
+    ensures { IfOk result (λ bad. bad ≡ first_of (
+        unknown_at_lem (policies_at_lem routers.now (text_at_lem (codes "at") (table_view table.now))) (maybe_text (codes "import") (table_view table.now))
+        ∷ unknown_at_lem (policies_at_lem routers.now (text_at_lem (codes "at") (table_view table.now))) (maybe_text (codes "export") (table_view table.now)) ∷ [])) }
+{
+    let policies = policies_at(alloc, routers, text_at("at", table))?;
+    let import = unknown_at(alloc, &policies, "import", table)?;
+    let export = unknown_at(alloc, &policies, "export", table)?;
+    Ok(first(import, first(export, None)))
+}
+
 /// The first wrong name of a peering, where one before it may have its name or its remote's address.
 fn peering_named(
     alloc: Global,
@@ -146,16 +180,9 @@ fn peering_named(
     requires { names.now ≡ map (λ r. r.name) routers.now }
     ensures { IfOk result (λ bad. bad ≡ peering_flaw routers.now again.name again.remote (table_view table.now)) }
 {
-    let name = repeated_if(alloc, again.name, text_at("name", table))?;
-    let at = unknown(alloc, names, text_at("at", table))?;
-    let address = repeated_address(alloc, again.remote, remote_of(table))?;
-    let policies = policies_at(alloc, routers, text_at("at", table))?;
-    let import = unknown_at(alloc, &policies, "import", table)?;
-    let export = unknown_at(alloc, &policies, "export", table)?;
-    Ok(first(
-        name,
-        first(at, first(address, first(import, first(export, None)))),
-    ))
+    let place = place_named(alloc, names, again, table)?;
+    let policy = policy_named(alloc, routers, table)?;
+    Ok(first(place, policy))
 }
 
 /// The first wrong name of peerings.
@@ -230,5 +257,5 @@ pub(crate) fn steps_named(
 }
 
 ghost use Rattle.std.specs.Prelude.{◌∷◌};
-ghost use Rattle.lab_input.specs.Names.{unknown as unknown_lem, repeated_if as repeated_if_lem};
+ghost use Rattle.lab_input.specs.Names.{unknown as unknown_lem, unknown_at as unknown_at_lem, repeated_if as repeated_if_lem};
 ghost use Rattle.std.specs.Str.{bytes_eq};

@@ -1,9 +1,11 @@
 //! The names of a whole document.
 
-ghost use Rattle.std.specs.Prelude.{◌≡◌, IfOk};
+ghost use Rattle.std.specs.Prelude.{◌≡◌, [], ◌∷◌, map, codes, IfOk};
 ghost use Rattle.toml.specs.View.{table_view};
+ghost use Rattle.lab_keys.specs.Kinds.{first_of};
+ghost use Rattle.lab_keys.specs.Values.{tables_at};
 ghost use Rattle.lab_tables.specs.Documents.{lab_of as lab_of_lem};
-ghost use Rattle.lab_input.specs.Names.{named as named_lem};
+ghost use Rattle.lab_input.specs.Names.{each_after, router_again, cost_named, peering_named, fault_named, step_named, named as named_lem};
 
 use crate::bad::BadInput;
 use crate::faults::faults_named;
@@ -12,9 +14,89 @@ use crate::names::routers_again;
 use crate::told::first;
 use bgp_types::NoMemory;
 use lab_keys::tables_in;
-use lab_tables::{LabInput, peering_names, router_names};
+use lab_tables::{LabInput, Places, RouterInput, peering_names, router_names};
 use std::alloc::Global;
 use toml::Table;
+
+/// The first wrong name of the costs of a document.
+fn costs_in(alloc: Global, doc: &Table, names: &Places) -> Result<Option<BadInput>, NoMemory>
+    ensures { IfOk result (λ bad. bad ≡ each_after (cost_named names.now) [] (tables_at (codes "cost") (table_view doc.now))) }
+{
+    let tables = tables_in(alloc, "cost", doc)?;
+    let bad = costs_named(alloc, names, &tables)?;
+    Ok(bad)
+}
+
+/// The first wrong name of the peerings of a document.
+fn peerings_in(
+    alloc: Global,
+    doc: &Table,
+    routers: &[RouterInput],
+    names: &Places,
+) -> Result<Option<BadInput>, NoMemory>
+    requires { names.now ≡ map (λ r. r.name) routers.now }
+    ensures { IfOk result (λ bad. bad ≡ each_after (peering_named routers.now) [] (tables_at (codes "peering") (table_view doc.now))) }
+{
+    let tables = tables_in(alloc, "peering", doc)?;
+    let bad = peerings_named(alloc, routers, names, &tables)?;
+    Ok(bad)
+}
+
+/// The first wrong name of the planned faults of a document.
+fn faults_in(alloc: Global, doc: &Table, remotes: &Places) -> Result<Option<BadInput>, NoMemory>
+    ensures { IfOk result (λ bad. bad ≡ each_after (fault_named remotes.now) [] (tables_at (codes "fault") (table_view doc.now))) }
+{
+    let tables = tables_in(alloc, "fault", doc)?;
+    let bad = faults_named(alloc, remotes, &tables)?;
+    Ok(bad)
+}
+
+/// The first wrong name of the steps of a document.
+fn steps_in(
+    alloc: Global,
+    doc: &Table,
+    names: &Places,
+    remotes: &Places,
+) -> Result<Option<BadInput>, NoMemory>
+    ensures { IfOk result (λ bad. bad ≡ first_of (map (step_named names.now remotes.now) (tables_at (codes "step") (table_view doc.now)))) }
+{
+    let tables = tables_in(alloc, "step", doc)?;
+    let bad = steps_named(alloc, names, remotes, &tables)?;
+    Ok(bad)
+}
+
+/// The first wrong name of routers, costs and peerings.
+fn network_named(
+    alloc: Global,
+    doc: &Table,
+    routers: &[RouterInput],
+    names: &Places,
+) -> Result<Option<BadInput>, NoMemory>
+    requires { names.now ≡ map (λ r. r.name) routers.now }
+    ensures { IfOk result (λ bad. bad ≡ first_of (each_after router_again [] routers.now
+        ∷ each_after (cost_named names.now) [] (tables_at (codes "cost") (table_view doc.now))
+        ∷ each_after (peering_named routers.now) [] (tables_at (codes "peering") (table_view doc.now)) ∷ [])) }
+{
+    let router = routers_again(alloc, routers)?;
+    let cost = costs_in(alloc, doc, names)?;
+    let peering = peerings_in(alloc, doc, routers, names)?;
+    Ok(first(router, first(cost, first(peering, None))))
+}
+
+/// The first wrong name of planned faults and steps.
+fn script_named(
+    alloc: Global,
+    doc: &Table,
+    names: &Places,
+    remotes: &Places,
+) -> Result<Option<BadInput>, NoMemory>
+    ensures { IfOk result (λ bad. bad ≡ first_of (each_after (fault_named remotes.now) [] (tables_at (codes "fault") (table_view doc.now))
+        ∷ first_of (map (step_named names.now remotes.now) (tables_at (codes "step") (table_view doc.now))) ∷ [])) }
+{
+    let fault = faults_in(alloc, doc, remotes)?;
+    let step = steps_in(alloc, doc, names, remotes)?;
+    Ok(first(fault, first(step, None)))
+}
 
 /// The first name of a document that is repeated, or that names nothing.
 pub(crate) fn named(
@@ -25,16 +107,9 @@ pub(crate) fn named(
     requires { lab.now ≡ lab_of_lem (table_view doc.now) }
     ensures { IfOk result (λ bad. bad ≡ named_lem (table_view doc.now)) }
 {
-    let router = routers_again(alloc, &lab.routers)?;
     let names = router_names(alloc, &lab.routers)?;
-    let cost = costs_named(alloc, &names, &tables_in(alloc, "cost", doc)?)?;
-    let peerings = tables_in(alloc, "peering", doc)?;
-    let peering = peerings_named(alloc, &lab.routers, &names, &peerings)?;
     let remotes = peering_names(alloc, &lab.peerings)?;
-    let fault = faults_named(alloc, &remotes, &tables_in(alloc, "fault", doc)?)?;
-    let step = steps_named(alloc, &names, &remotes, &tables_in(alloc, "step", doc)?)?;
-    Ok(first(
-        router,
-        first(cost, first(peering, first(fault, first(step, None)))),
-    ))
+    let network = network_named(alloc, doc, &lab.routers, &names)?;
+    let script = script_named(alloc, doc, &names, &remotes)?;
+    Ok(first(network, script))
 }

@@ -27,18 +27,26 @@ fn later_bad(alloc: Global, doc: &Table, lab: &LabInput) -> Result<Option<BadInp
     Ok(first(name, first(count, None)))
 }
 
-/// The input that a document is.
-fn read_document(alloc: Global, doc: &Table) -> Result<LabInput, LabStop>
-    ensures { Answers (input_in (Some (table_view doc.now))) result }
+/// The input that a document of right shapes is.
+fn read_shaped(alloc: Global, doc: &Table) -> Result<LabInput, LabStop>
+    ensures { Answers (unless (option_or (named_lem (table_view doc.now)) (option_or (counted_lem (lab_of_lem (table_view doc.now))) None)) (lab_of_lem (table_view doc.now))) result }
 {
-    if let Some(bad) = shape_of(alloc, doc)? {
-        return Err(LabStop::Bad(bad));
-    }
     let lab = lab_of(alloc, doc)?;
     let found = later_bad(alloc, doc, &lab)?;
     match found {
         Some(bad) => Err(LabStop::Bad(bad)),
         None => Ok(lab),
+    }
+}
+
+/// The input that a document is.
+fn read_document(alloc: Global, doc: &Table) -> Result<LabInput, LabStop>
+    ensures { Answers (input_in (Some (table_view doc.now))) result }
+{
+    let shape = shape_of(alloc, doc)?;
+    match shape {
+        Some(bad) => Err(LabStop::Bad(bad)),
+        None => read_shaped(alloc, doc),
     }
 }
 
@@ -79,4 +87,4 @@ ghost use Rattle.std.specs.Option.{option_or};
 ghost use Rattle.lab_tables.specs.Documents.{lab_of as lab_of_lem};
 ghost use Rattle.lab_input.specs.Names.{named as named_lem};
 ghost use Rattle.lab_input.specs.Counts.{counted as counted_lem};
-ghost use Rattle.lab_input.specs.Labs.{too_long as too_long_bad};
+ghost use Rattle.lab_input.specs.Labs.{unless, too_long as too_long_bad};

@@ -1,7 +1,7 @@
 -- The numbers of the laboratory that an input describes are in the ranges of their types, and what its remotes say are octets.
-use Rattle.std.proofs.Common.{◌≡◌, ℕ, ◌^◌, ◌<◌, Bool, true, false, List, [], ◌∷◌, length, map, refl, sym, ap, ◌∙◌, subst, arith}
+use Rattle.std.proofs.Common.{◌≡◌, ℕ, ◌^◌, ◌<◌, true, false, List, [], ◌∷◌, length, map, refl, sym, subst, arith}
 use Rattle.std.specs.Prelude.{Option, Some, None, option_map, unwrap_or, slice_get, find, codes}
-use Rattle.std.specs.List.{AllByRecursion, enumerate_from}
+use Rattle.std.specs.List.{AllByRecursion}
 use Rattle.std.specs.Str.{bytes_eq}
 use Rattle.std.proofs.lemmas.Bool.{false≢true}
 use Rattle.std.proofs.lemmas.List.{length-map}
@@ -10,7 +10,7 @@ use Rattle.bgp_types.specs.OctetLists.{AreOctets}
 use Rattle.bgp_types.specs.Values.{is_no_host}
 use Rattle.route_policy.specs.declared.rule.Rule.{Rule}
 use Rattle.session_value.specs.declared.config.SessionConfig.{SessionConfig}
-use Rattle.graft_model.specs.Setups.{Setup, RouterSetup, PeeringSetup, NamedRules, ScriptStep, SayStep, MoveStep, SettleStep, of_router, rules_named}
+use Rattle.graft_model.specs.Setups.{RouterSetup, PeeringSetup, NamedRules, ScriptStep, SayStep, MoveStep, SettleStep, of_router, rules_named}
 use Rattle.graft_model.specs.Setups.{config_of as config_in_model}
 use Rattle.graft_laws.specs.Ranges.{HasMedInRange, IsInRange}
 use Rattle.lab_keys.specs.Values.{has, number_or, text_at, tables_at}
@@ -36,7 +36,7 @@ use Rattle.lab_setup.proofs.Kept.{IsPeeringTable, HasTables, tables_kept, number
 use Rattle.lab_setup.proofs.Lists.{IsIn, made_of, all_at, all_mapped, all_both, all_numbered, below_get, found_is}
 use Rattle.lab_setup.proofs.Names.{known, HasNames, names_kept}
 use Rattle.lab_setup.proofs.Names.{number_below as place_below}
-use Rattle.lab_setup.proofs.Octets.{HasOctets, update_octets, hex_octets, opening_octets}
+use Rattle.lab_setup.proofs.Octets.{update_octets, hex_octets, opening_octets}
 use Rattle.lab_setup.proofs.Said.{all_ended}
 
 -- ---- policies

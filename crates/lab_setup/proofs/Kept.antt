@@ -1,30 +1,25 @@
 -- What is known of a document whose tables have no flaw, and whose names are known.
-use Rattle.std.proofs.Common.{◌≡◌, ℕ, ◌+◌, ◌*◌, ◌/◌, ◌%◌, ◌^◌, ◌<◌, ◌≤◌, Bool, true, false, cond, not, ◌||◌, List, [], ◌∷◌, ◌++◌, length, map, refl, sym, ap, ◌∙◌, subst, arith, nat_lt}
+use Rattle.std.proofs.Common.{◌≡◌, ℕ, ◌*◌, ◌/◌, ◌%◌, ◌^◌, ◌<◌, ◌≤◌, Bool, true, false, cond, ◌||◌, List, [], length, map, refl, sym, subst, arith, nat_lt}
 use Rattle.std.specs.Prelude.{◌==◌, Option, Some, None, option_and_then, unwrap_or, pos, negsuc, codes, is_some, IfSome, Result, Ok, Err}
 use Rattle.std.specs.Result.{result_unwrap_or}
 use Rattle.hex.specs.Hex.{decode_pairs}
 use Rattle.hex.specs.declared.error.FromHexError.{FromHexError}
 use Rattle.hex.specs.declared.error.FromHexError.TheVariants.{OddLength}
 use Rattle.hex.proofs.HexLemmas.{decode_pairs-ok}
-use Rattle.std.specs.Option.{option_or}
-use Rattle.std.specs.List.{AllByRecursion, list_any}
-use Rattle.std.specs.Str.{bytes_eq}
+use Rattle.std.specs.List.{AllByRecursion}
 use Rattle.std.proofs.lemmas.Bool.{false≢true}
 use Rattle.std.proofs.lemmas.Bool.Decides.{nat_tests}
 use Rattle.toml.specs.Data.{Data, string, integer, float, boolean, datetime, array, table, as_str, Members, get_member}
 use Rattle.bgp_types.specs.Values.{is_no_host, is_short_hold}
-use Rattle.lab_keys.specs.declared.flaw.Flaw.{Flaw}
 use Rattle.lab_keys.specs.declared.flaw.Flaw.TheVariants.{Shape, Limit}
-use Rattle.lab_keys.specs.declared.key.Kind.{Kind}
-use Rattle.lab_keys.specs.declared.key.Kind.TheVariants.{Number, HoldTime, Name, Host, Flag, Hex}
+use Rattle.lab_keys.specs.declared.key.Kind.TheVariants.{Number, HoldTime, Host, Hex}
 use Rattle.lab_keys.specs.declared.table_at.TableAt.{TableAt}
 use Rattle.lab_keys.specs.declared.table_at.TableAt.TheVariants as tables
 use Rattle.lab_keys.specs.Places.{Place, place}
-use Rattle.lab_keys.specs.Kinds.{first_of, flaw_if, beyond, hold_time_flaw, hex_flaw, kind_flaw}
-use Rattle.lab_keys.specs.KeyRows.{KeyRow}
+use Rattle.lab_keys.specs.Kinds.{flaw_if, beyond, hold_time_flaw, hex_flaw, kind_flaw}
 use Rattle.lab_keys.specs.Keys.{required, optional, present, key_flaw, keys_flaw, stray_flaw, tables_flaw}
 use Rattle.lab_keys.specs.Texts.{is_hex, octets_in}
-use Rattle.lab_keys.specs.Values.{number_in, number_or, address_or, text_at, maybe_text, octets_at, has, items_at, tables_at}
+use Rattle.lab_keys.specs.Values.{number_in, number_or, address_or, items_at, tables_at}
 use Rattle.lab_keys.proofs.NoFlaws.{none_left, none_right, IsWithin, number_within, host_required, maybe_fits, tables_all}
 use Rattle.lab_tables.specs.Routers.{router_keys, router_flaw}
 use Rattle.lab_tables.specs.Peerings.{cost_flaw, fault_flaw, peering_ends, peering_rest, peering_flaw, opening_of, default_opening, remote_id_of, remote_as4_of}

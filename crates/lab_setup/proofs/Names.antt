@@ -1,7 +1,6 @@
 -- What is known of a document whose names are known.
-use Rattle.std.proofs.Common.{◌≡◌, ℕ, ◌<◌, Bool, true, false, cond, eqb, List, [], ◌∷◌, length, map, refl, sym, ap, ◌∙◌, subst, arith}
-use Rattle.std.specs.Prelude.{Option, Some, None, option_map, unwrap_or, codes, is_some}
-use Rattle.std.specs.Option.{option_or, option_map_or}
+use Rattle.std.proofs.Common.{◌≡◌, ℕ, ◌<◌, Bool, true, false, cond, eqb, List, [], ◌∷◌, length, map, refl, sym, ap, subst}
+use Rattle.std.specs.Prelude.{Option, Some, None, codes, is_some}
 use Rattle.std.specs.List.{AllByRecursion, list_any, position_or_len}
 use Rattle.std.specs.Str.{bytes_eq}
 use Rattle.std.proofs.lemmas.Bool.{false≢true}
@@ -9,17 +8,12 @@ use Rattle.toml.specs.Data.{Members}
 use Rattle.bgp_types.specs.Texts.{address_text}
 use Rattle.lab_keys.specs.Kinds.{first_of}
 use Rattle.lab_keys.specs.Values.{text_at, maybe_text, tables_at}
-use Rattle.lab_keys.proofs.NoFlaws.{none_left, none_right}
 use Rattle.lab_tables.specs.declared.input.RouterInput.{RouterInput}
-use Rattle.lab_tables.specs.declared.input.PolicyInput.{PolicyInput}
-use Rattle.lab_tables.specs.declared.words.StepWord.{StepWord}
-use Rattle.lab_tables.specs.declared.words.StepWord.TheVariants.{Announces, Withdraws, SaysRaw, Grafts, Settles, Evacuates, Other}
 use Rattle.lab_tables.specs.Meanings.{number_of}
-use Rattle.lab_tables.specs.Scripts.{word_at}
 use Rattle.lab_tables.specs.Documents.{routers_of, router_names_of, peering_names_of}
 use Rattle.lab_input.specs.declared.bad.BadInput.{BadInput}
 use Rattle.lab_input.specs.declared.bad.BadInput.TheVariants.{Unknown}
-use Rattle.lab_input.specs.Names.{each_after, repeated_if, unknown, unknown_at, router_again, cost_named, policies_at, remote_of, peering_flaw, peering_named, fault_named, worded_named, step_named, named}
+use Rattle.lab_input.specs.Names.{each_after, repeated_if, unknown, unknown_at, router_again, cost_named, policies_at, remote_of, peering_named, fault_named, step_named, named}
 use Rattle.lab_setup.proofs.Lists.{none_of, none_after, none_mapped, first_below, place_of}
 
 some_bad : (bad : BadInput) → Some bad ≡ None → ⊥

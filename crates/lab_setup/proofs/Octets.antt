@@ -26,9 +26,9 @@ use Rattle.bgp_types.specs.PathOctets.{as_width, part_octets, path_octets, path_
 use Rattle.bgp_types.specs.Paths.{ases_of}
 use Rattle.bgp_types.specs.Prefixes.{PrefixValue, IsPrefix, octets_for, prefix_octets}
 use Rattle.bgp_types.specs.Rising.{in_rising}
-use Rattle.bgp_types.specs.Spelling.{origin_number, origin_written, path_written, next_hop_written, med_written, atomic_written, passed_flags, aggregator_octets, aggregator_written, as4_path_written, as4_aggregator_written, other_written, attrs_written, spell_attrs, counted, spell_prefixes, spell_some_attrs, spell_update, marker, framed, spell}
+use Rattle.bgp_types.specs.Spelling.{origin_written, med_written, atomic_written, passed_flags, aggregator_octets, aggregator_written, as4_path_written, as4_aggregator_written, other_written, attrs_written, spell_attrs, counted, spell_prefixes, spell_some_attrs, spell_update, marker, framed, spell}
 use Rattle.bgp_types.specs.WireAttrs.{WireAttr, wire_kind, size_width, attr_octets, written}
-use Rattle.bgp_types.specs.Writable.{IsPart, IsWritableUpdate}
+use Rattle.bgp_types.specs.Writable.{IsPart}
 use Rattle.bgp_types.proofs.OrderLaws.{all_rising}
 use Rattle.lab_keys.specs.Texts.{octets_in}
 use Rattle.lab_tables.specs.Peerings.{default_opening}
@@ -155,9 +155,11 @@ passed_low false = omega arith
 
 aggregator_each : (wide : Bool) (o : Option Aggregator) → Written (aggregator_written wide o)
 aggregator_each wide None = tt
-aggregator_each wide (Some a) =
-    (written_each (passed_flags a.partial) 7 (aggregator_octets wide (cond wide a.as_number (narrow_as a.as_number)) a.address) (passed_low a.partial) (omega arith)
-    (aggregator_octets_each wide (cond wide a.as_number (narrow_as a.as_number)) a.address), tt)
+aggregator_each wide (Some a) = (
+  written_each (passed_flags a.partial) 7 (aggregator_octets wide (cond wide a.as_number (narrow_as a.as_number)) a.address) (passed_low a.partial) (omega arith)
+      (aggregator_octets_each wide (cond wide a.as_number (narrow_as a.as_number)) a.address),
+  tt,
+)
 
 as4_path_each : (wide : Bool) (path : List PathPart) → AllByRecursion IsShort path → Written (as4_path_written wide path)
 as4_path_each true path few = tt
@@ -211,7 +213,7 @@ module _ (wide : Bool) (a : Attrs) (has : HasOctets a) where
           (
             written_each 64 3 (to_be_bytes w32 a.next_hop) (omega arith) (omega arith) (number_each w32 a.next_hop),
             and_then med _ (med_each a.med) (and_then atomic _ (atomic_each a.atomic) (and_then aggregator _ (aggregator_each wide a.aggregator)
-            (and_then fourth _ (as4_path_each wide a.path short) (and_then second others (as4_aggregator_each wide a.aggregator) others_each)))),
+                (and_then fourth _ (as4_path_each wide a.path short) (and_then second others (as4_aggregator_each wide a.aggregator) others_each)))),
           ),
         ),
       )

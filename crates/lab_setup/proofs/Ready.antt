@@ -1,8 +1,8 @@
 -- The laboratory that an input describes is one that the model's world can begin with.
-use Rattle.std.proofs.Common.{◌≡◌, ℕ, ◌+◌, ◌^◌, ◌<◌, ◌≤◌, Bool, true, false, cond, eqb, List, [], ◌∷◌, ◌++◌, length, map, refl, sym, ap, ◌∙◌, subst, arith}
-use Rattle.std.specs.Prelude.{◌==◌, ◌&&◌, not, ◌||◌, Option, Some, None, option_map, unwrap_or, slice_get, sum_by, count_by, All, find, is_none, codes, nat_lt, is_some, if◌then◌else◌}
+use Rattle.std.proofs.Common.{◌≡◌, ℕ, ◌+◌, ◌^◌, ◌<◌, ◌≤◌, Bool, true, false, cond, eqb, List, [], ◌∷◌, length, map, refl, sym, ap, ◌∙◌, subst, arith}
+use Rattle.std.specs.Prelude.{◌||◌, Option, Some, None, option_map, unwrap_or, slice_get, sum_by, All, find, is_none, codes, nat_lt, is_some, if◌then◌else◌}
 use Rattle.std.specs.Option.{option_or, option_map_or}
-use Rattle.std.specs.List.{AllByRecursion, enumerate_from, flat_map, last_or, list_any, list_all}
+use Rattle.std.specs.List.{AllByRecursion, enumerate_from, list_any}
 use Rattle.std.specs.Str.{bytes_eq}
 use Rattle.std.proofs.lemmas.Bool.{false≢true}
 use Rattle.std.proofs.lemmas.Bool.Decides.{nat_tests}
@@ -12,37 +12,33 @@ use Rattle.std.proofs.lemmas.List.Elements.{All-from_recursion}
 use Rattle.toml.specs.Data.{Members}
 use Rattle.bgp_types.specs.Prefixes.{IsPrefix, once_after}
 use Rattle.bgp_types.specs.Values.{is_no_host}
-use Rattle.bgp_story.specs.Legal.{IsPeering}
-use Rattle.bgp_story.specs.Opens.{IsAsNumber, IsHomeOpen}
-use Rattle.session_value.specs.declared.config.SessionConfig.{SessionConfig}
-use Rattle.session_value.specs.Sessions.{peering_of as peering_in_model}
-use Rattle.graft_model.specs.Setups.{Setup, RouterSetup, PeeringSetup, NamedRules, ScriptStep, SayStep, MoveStep, SettleStep, routers_in, peerings_in, identifier_of, room_of, of_router, rules_named, unknown as unknown_rules, missing_policy, first_of as first_missing, said_length, beat_of, starting_at, IsPeeringSetup, IsStep, IsSetup}
-use Rattle.lab_keys.specs.Values.{number_or, address_or, text_at, maybe_text, prefixes_at, items_at, tables_at}
-use Rattle.lab_keys.specs.Kinds.{first_of, each_from}
+use Rattle.bgp_story.specs.Opens.{IsAsNumber}
+use Rattle.graft_model.specs.Setups.{RouterSetup, PeeringSetup, NamedRules, ScriptStep, routers_in, peerings_in, identifier_of, room_of, of_router, rules_named, unknown as unknown_rules, first_of as first_missing, said_length, starting_at, IsPeeringSetup, IsStep, IsSetup}
+use Rattle.lab_keys.specs.Values.{text_at, maybe_text, prefixes_at, items_at, tables_at}
+use Rattle.lab_keys.specs.Kinds.{each_from}
 use Rattle.lab_keys.proofs.NoFlaws.{none_left, none_right, IsWithin, prefixes_formed}
 use Rattle.lab_tables.specs.declared.input.LabInput.{LabInput}
 use Rattle.lab_tables.specs.declared.input.PeeringInput.{PeeringInput}
 use Rattle.lab_tables.specs.declared.input.PolicyInput.{PolicyInput}
 use Rattle.lab_tables.specs.declared.input.RouterInput.{RouterInput}
 use Rattle.lab_tables.specs.declared.input.Step.{Step}
-use Rattle.lab_tables.specs.declared.input.Step.TheVariants.{Announce, Withdraw, Raw, Graft, Settle, Evacuate}
 use Rattle.lab_tables.specs.declared.words.StepWord.{StepWord}
 use Rattle.lab_tables.specs.declared.words.StepWord.TheVariants.{Announces, Withdraws, SaysRaw, Grafts, Settles, Evacuates, Other}
 use Rattle.lab_tables.specs.Meanings.{number_of}
 use Rattle.lab_tables.specs.Routers.{router_of}
 use Rattle.lab_tables.specs.Peerings.{peering_of}
 use Rattle.lab_tables.specs.Scripts.{word_at, worded_step, step_of}
-use Rattle.lab_tables.specs.Documents.{shaped, routers_of, router_names_of, peerings_of, peering_names_of, lab_of}
+use Rattle.lab_tables.specs.Documents.{routers_of, router_names_of, peerings_of, peering_names_of, lab_of}
 use Rattle.lab_input.specs.declared.bad.BadInput.{BadInput}
 use Rattle.lab_input.specs.declared.bad.BadInput.TheVariants.{Limit}
 use Rattle.lab_input.specs.Labs.{InputOf}
-use Rattle.lab_input.specs.Names.{unknown, unknown_at, policies_at, worded_named, step_named, named}
-use Rattle.lab_input.specs.Counts.{over, grafts_of, settles_of, added_settle, prefixes_named, peerings_at, room_flaw, said_on, most_said, said_flaw, counted, is_wide, said_by}
-use Rattle.lab_setup.specs.Setups.{named_rules, router_setup, identifier_at, config_of, peering_setup, script_step, ended_by, ended, setup_of}
-use Rattle.lab_input.proofs.Ready.{IsAccepted, accepted}
+use Rattle.lab_input.specs.Names.{unknown, unknown_at, policies_at, worded_named, step_named}
+use Rattle.lab_input.specs.Counts.{over, grafts_of, settles_of, added_settle, prefixes_named, peerings_at, room_flaw, said_on, most_said, said_flaw, counted}
+use Rattle.lab_setup.specs.Setups.{named_rules, router_setup, identifier_at, peering_setup, script_step, ended, setup_of}
+use Rattle.lab_input.proofs.Ready.{accepted}
 use Rattle.lab_setup.proofs.Kept.{IsPeeringTable, IsRouterTable, HasTables, tables_kept, number_below}
-use Rattle.lab_setup.proofs.Lists.{IsMadeOf, made_of, some_is, none_is, none_of, none_here, all_at, all_mapped, all_numbered, all_append, first_of_text, get_mapped, get_numbered, length_numbered, get_below, IsIn, below_get, count_numbered}
-use Rattle.lab_setup.proofs.Names.{IsKnown, known, IsNamedPeering, HasNames, names_kept}
+use Rattle.lab_setup.proofs.Lists.{made_of, none_of, none_here, all_at, all_mapped, all_numbered, first_of_text, get_mapped, get_numbered, length_numbered, IsIn, below_get, count_numbered}
+use Rattle.lab_setup.proofs.Names.{known, IsNamedPeering, HasNames, names_kept}
 use Rattle.lab_setup.proofs.Names.{number_below as place_below}
 use Rattle.lab_setup.proofs.Said.{said_whole, ends_with_settle, all_ended}
 

@@ -1,37 +1,36 @@
 -- A router as it begins.
-use Rattle.std.proofs.Common.{◌≡◌, ◌≢◌, ℕ, zero, suc, ◌+◌, ◌<◌, ◌≤◌, ◌==◌, List, [], ◌∷◌, ◌++◌, length, map as list_map, filter, replicate, take, get_or, set, Option, option_map, unwrap_or, Some, None, Bool, true, false, cond, is_some, inl, inr, ◌⊎◌, refl, sym, ap, subst, ◌∙◌, arith, append_assoc}
+use Rattle.std.proofs.Common.{◌≡◌, ℕ, zero, suc, ◌+◌, ◌<◌, ◌==◌, List, [], ◌∷◌, ◌++◌, length, map as list_map, filter, replicate, set, Option, option_map, unwrap_or, Some, None, Bool, true, false, cond, is_some, inl, inr, ◌⊎◌, refl, sym, ap, subst, ◌∙◌, arith, append_assoc}
 use Rattle.std.specs.Prelude.{if◌then◌else◌, slice_get}
 use Rattle.std.specs.FinMap as map
-use Rattle.std.specs.List.{AllByRecursion, list_any}
-use Rattle.std.proofs.lemmas.Bool.{cases_lt, eq-eqb, ne_eqb, eqb-true}
+use Rattle.std.specs.List.{AllByRecursion}
+use Rattle.std.proofs.lemmas.Bool.{cases_lt, eq-eqb, ne_eqb}
 use Rattle.std.proofs.lemmas.List.{append-nil, length-set}
 use Rattle.std.specs.Ordering.{nat_cmp}
-use Rattle.bgp_types.specs.Prefixes.{PrefixValue, same_prefix}
+use Rattle.bgp_types.specs.Prefixes.{PrefixValue}
 use Rattle.bgp_types.specs.Tables.{prefix_cmp}
 use Rattle.bgp_types.specs.Header.{frame_at}
 use Rattle.bgp_types.specs.declared.attrs.Route.{Route}
 use Rattle.route_policy.specs.declared.entry.Entry.{Entry}
 use Rattle.bgp_types.proofs.TableLaws.{prefix_total, exact_prefixes}
-use Rattle.bgp_story.specs.Legal.{IsGot, IsPeering}
-use Rattle.tcp_seq.specs.Endpoint.{bytes_in_order, run_from, fresh_endpoint}
+use Rattle.bgp_story.specs.Legal.{IsGot}
+use Rattle.tcp_seq.specs.Endpoint.{run_from, fresh_endpoint}
 use Rattle.session_value.specs.declared.config.SessionConfig.{SessionConfig}
-use Rattle.session_value.specs.Sessions.{begun, peering_of, state, unread}
-use Rattle.session_value.specs.Sets.{Entries, Prefixes, has}
+use Rattle.session_value.specs.Sessions.{begun, unread}
+use Rattle.session_value.specs.Sets.{Prefixes, has}
 use Rattle.bgp_session.specs.Running.{RunningSession}
 use Rattle.graft_steps.specs.declared.order.GraftIds.{GraftIds}
-use Rattle.rib_stages.specs.Values.{RibStore, RibValue, rib_of, set_of, table_at}
+use Rattle.rib_stages.specs.Values.{RibValue, rib_of, set_of, table_at}
 use Rattle.rib_stages.proofs.Kept.{set_has}
 use Rattle.graft_model.specs.First.{first_router, place_in}
-use Rattle.graft_model.specs.Setups.{Setup, PeeringSetup, IsSetup, config_of, has_network, of_router, peerings_in, routers_in}
+use Rattle.graft_model.specs.Setups.{Setup, PeeringSetup, IsSetup, of_router, peerings_in}
 use Rattle.graft_model.specs.Parts as model
 use Rattle.graft_model.specs.Parts.{RouterPart}
 use Rattle.graft_runs.specs.Actors.{Router, RouterIs}
-use Rattle.graft_actors.specs.Items.{home_first, remote_first}
 use Rattle.router_core.specs.Beginning.{AreBegun, CanBegin, begins, begun_at}
 use Rattle.router_core.specs.Begins.{BeginsAs}
 use Rattle.router_core.specs.Configs.{AreFirstsOf, IsConfigOf, IsRibOf, starting_here}
-use Rattle.router_core.specs.Parts.{router_part, own_part, Keeps, KeepsPlace, HasReadAll}
-use Rattle.router_core.specs.Places.{place_of, place_at, RunsAt}
+use Rattle.router_core.specs.Parts.{router_part, Keeps, KeepsPlace, HasReadAll}
+use Rattle.router_core.specs.Places.{place_of, place_at}
 use Rattle.router_core.specs.declared.config.Firsts.{Firsts}
 use Rattle.router_core.specs.declared.config.RouterConfig.{RouterConfig}
 use Rattle.router_core.specs.declared.fields.Fields.{Fields}

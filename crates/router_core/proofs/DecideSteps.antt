@@ -1,5 +1,5 @@
 -- Prefixes are decided, one after another.
-use Rattle.std.proofs.Common.{◌≡◌, ◌≢◌, ℕ, zero, suc, ◌+◌, ◌<◌, ◌≤◌, List, [], ◌∷◌, ◌++◌, length, Option, option_map, Some, None, Bool, true, false, cond, is_some, ◌&&◌, ◌||◌, ◌==◌, not, nat_lt, ◌⊎◌, inl, inr, refl, sym, ap, subst, ◌∙◌, arith, filter_map}
+use Rattle.std.proofs.Common.{◌≡◌, ◌≢◌, ℕ, zero, ◌+◌, ◌<◌, ◌≤◌, List, [], ◌∷◌, ◌++◌, length, Option, option_map, Some, None, Bool, true, false, cond, is_some, ◌&&◌, ◌||◌, ◌==◌, not, ◌⊎◌, inl, inr, refl, sym, ap, subst, ◌∙◌, arith, filter_map}
 use Rattle.std.specs.Prelude.{if◌then◌else◌}
 use Rattle.std.specs.FinMap as map
 use Rattle.std.specs.List.{range_with_len}
@@ -31,7 +31,7 @@ use Rattle.graft_model.specs.Points.{at}
 use Rattle.graft_model.specs.Parts.{RouterPart}
 use Rattle.graft_model.specs.Sets.{Adds}
 use Rattle.graft_model.specs.Setups.{Setup, peerings_in, routers_in}
-use Rattle.graft_model.specs.Steps.{RouterEvent, Decide}
+use Rattle.graft_model.specs.Steps.{Decide}
 use Rattle.graft_model.specs.TableRows.{Decides, DueEverywhere, holds_established, is_established, only}
 use Rattle.graft_actors.specs.Emissions.{Tally}
 use Rattle.graft_actors.specs.Notes.{WroteOne}

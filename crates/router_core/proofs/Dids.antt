@@ -1,8 +1,7 @@
 -- Pieces of a call, one after another; and one event as a piece of a call.
 use Rattle.std.proofs.Common.{◌≡◌, ℕ, List, [], ◌∷◌, ◌++◌, Some, None, refl, ap, sym, subst, ◌∙◌, inl}
-use Rattle.std.specs.List.{AllByRecursion}
-use Rattle.ring_net.specs.Deeds.{Deed, Replay, TakesNone, TakesFirst}
-use Rattle.ring_net.specs.Posts.{actor_of, Wrote}
+use Rattle.ring_net.specs.Deeds.{Deed, Replay, TakesNone}
+use Rattle.ring_net.specs.Posts.{actor_of}
 use Rattle.ring_net.specs.declared.post.Post.{Post}
 use Rattle.ring_net.proofs.PostLaws.{wrote_none, wrote_then}
 use Rattle.ring_net.proofs.Replays.{all-append, replay-append}
@@ -10,13 +9,13 @@ use Rattle.graft_steps.specs.declared.item.Item.{Item}
 use Rattle.bgp_session.specs.Running.{RunningSession}
 use Rattle.graft_model.specs.Setups.{Setup}
 use Rattle.graft_model.specs.Parts.{RouterPart}
-use Rattle.graft_model.specs.RouterRows.{RouterTaken, RouterSent}
+use Rattle.graft_model.specs.RouterRows.{RouterSent}
 use Rattle.graft_model.specs.Codes.{router_code}
 use Rattle.graft_model.specs.Steps.{RouterEvent, router_row}
 use Rattle.graft_runs.specs.Actors.{ActorName, Router, RouterIs, Thing, number_in, IsActor, actor_at}
-use Rattle.graft_runs.specs.Makes.{HasCode, taken_by_router, sent_by_router}
+use Rattle.graft_runs.specs.Makes.{HasCode, sent_by_router}
 use Rattle.graft_runs.proofs.Numbers.{there}
-use Rattle.graft_actors.specs.Acts.{acts, IsWelcome}
+use Rattle.graft_actors.specs.Acts.{acts}
 use Rattle.graft_actors.specs.Emissions.{Tally}
 use Rattle.graft_actors.specs.Items.{thing_of, MayGo}
 use Rattle.graft_actors.specs.Notes.{deed_of, WroteOne}

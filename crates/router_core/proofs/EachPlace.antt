@@ -11,7 +11,7 @@ use Rattle.graft_actors.specs.Emissions.{Tally, reach_of}
 use Rattle.router_core.specs.Parts.{Keeps}
 use Rattle.router_core.specs.Places.{place_at}
 use Rattle.router_core.specs.Sending.{AtPlace, IsOutletOf, SentNext}
-use Rattle.router_core.specs.Stages.{PlaceGoes, GraftGoes, IsLevel, EmitsAll, SendsAgain, BeginsGrafts, Emits, again_at, answer_at, with_again, with_answers}
+use Rattle.router_core.specs.Stages.{PlaceGoes, GraftGoes, IsLevel, EmitsAll, SendsAgain, BeginsGrafts, Emits, with_again, with_answers}
 use Rattle.router_core.specs.Visits.{Stage, Visits, Visited, Answers, AllNewOut, EmitsNew, SameButLeaving, SameButPlaces, SlicesOut, answering, beginning_grafts, emitting, sending_again, sending_new, slicing}
 use Rattle.router_core.specs.declared.fields.Fields.{Fields}
 use Rattle.router_core.specs.declared.place.Place.{Place}
@@ -39,6 +39,7 @@ module _ (f g : Fields) (p q : Post (Item RunningSession)) (n : ℕ) (last : len
   sends_again v = record {
     events = v.events;
     did = all_did (PlaceGoes IsLevel) sending_again.count SameButPlaces refl f g p q n v last (with_again f) (λ t k. refl) plus_again;
+    no_puts = v.no_puts;
     no_rounds = all_rounds (PlaceGoes IsLevel) sending_again.count SameButPlaces refl f g p q n v last;
     places = all_places (PlaceGoes IsLevel) sending_again.count SameButPlaces refl f g p q n v last;
     same = v.same;

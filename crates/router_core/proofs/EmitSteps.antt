@@ -1,11 +1,7 @@
 -- What sessions emit at their places.
-use Rattle.std.proofs.Common.{◌≡◌, ◌≢◌, ℕ, zero, suc, ◌+◌, ◌-◌, ◌<◌, ◌≤◌, ◌^◌, min, List, [], ◌∷◌, length, take, drop, Option, Some, None, option_map, Bool, true, false, ◌⊎◌, inl, inr, refl, sym, ap, subst, ◌∙◌, arith, set}
-use Rattle.std.specs.Prelude.{nat_lt, if◌then◌else◌, IsNone, IfNone, IsSome, ◌↔◌}
-use Rattle.std.proofs.lemmas.List.{length-take, length-drop}
-use Rattle.std.proofs.lemmas.Bool.{cases_lt, lt-ltb, le-ltb}
+use Rattle.std.proofs.Common.{◌≡◌, ℕ, ◌+◌, ◌<◌, ◌≤◌, [], ◌∷◌, length, Option, option_map, ◌⊎◌, inl, inr, refl, sym, ap, subst, ◌∙◌, arith, set}
 use Rattle.ring_net.specs.declared.post.Post.{Post}
-use Rattle.tcp_seq.specs.Endpoint.{Endpoint, PlacedSegment, IsInStreams, EmitsNext, EmitsAgain, EmitsAnswer, EmitsSlice, EmitsEmpty, next_length, again_length, ready_bytes, received_bytes}
-use Rattle.tcp_seq.specs.Numbers.{offset_from}
+use Rattle.tcp_seq.specs.Endpoint.{Endpoint, PlacedSegment, IsInStreams, EmitsSlice, EmitsEmpty, ready_bytes}
 use Rattle.tcp_seq.specs.Placed.{placed}
 use Rattle.tcp_seq.specs.declared.segment.Segment.{Segment}
 use Rattle.tcp_seq.specs.declared.segment.Way.{Way}
@@ -15,7 +11,7 @@ use Rattle.graft_steps.specs.declared.item.Item.TheVariants as items
 use Rattle.graft_steps.specs.declared.order.GraftIds.{GraftIds}
 use Rattle.session_value.specs.Sessions.{SessionValue, unread}
 use Rattle.bgp_session.specs.Running.{RunningSession}
-use Rattle.bgp_session.specs.Steps.{Emits, EmitsBy, sent_as}
+use Rattle.bgp_session.specs.Steps.{sent_as}
 use Rattle.rib_stages.specs.Values.{rib_of, table_at}
 use Rattle.graft_model.specs.Points.{at}
 use Rattle.graft_model.specs.Setups.{Setup, routers_in, peerings_in}
@@ -23,20 +19,18 @@ use Rattle.graft_model.specs.Slices.{EmitsAt}
 use Rattle.graft_model.specs.Parts as model
 use Rattle.graft_model.specs.Parts.{RouterPart, Seg}
 use Rattle.graft_model.specs.RouterRows.{OutwardTo}
-use Rattle.graft_model.specs.Steps.{RouterEvent, Emit}
+use Rattle.graft_model.specs.Steps.{Emit}
 use Rattle.graft_runs.specs.Actors.{FarSide, OutwardItem}
-use Rattle.graft_actors.specs.Emissions.{reach_of, IsCareful, Tally, counted}
-use Rattle.graft_actors.specs.Items.{home_first, remote_first, placed_for, segment_of, segment_thing, IsSegmentOf}
+use Rattle.graft_actors.specs.Emissions.{IsCareful, Tally, counted}
+use Rattle.graft_actors.specs.Items.{home_first, remote_first, placed_for, segment_of, segment_thing}
 use Rattle.graft_actors.specs.Notes.{WroteOne}
 use Rattle.router_core.specs.Parts.{router_part, Keeps, KeepsPlace, IsOfPeering}
 use Rattle.router_core.specs.Places.{place_of, place_at, order_of}
 use Rattle.router_core.specs.Rounds.{Did, tally_at}
-use Rattle.router_core.specs.Sending.{IsOutletOf}
 use Rattle.router_core.specs.Visits.{Stage, Visits, SameButPlaces}
 use Rattle.router_core.specs.declared.fields.Fields.{Fields}
 use Rattle.router_core.specs.declared.place.Place.{Place}
 use Rattle.router_core.specs.declared.place.Place.TheVariants.{Live}
-use Rattle.router_core.specs.declared.stages.send.Outlet.{Outlet}
 use Rattle.router_core.proofs.Dids.{Sends, did_sent}
 use Rattle.router_core.proofs.PlaceSteps.{keeps_live, here, elsewhere, part_at, keeps_at}
 
@@ -125,6 +119,7 @@ module _ (f g : Fields) (p q : Post (Item RunningSession)) (n : ℕ) (s u : Runn
     events = Emit n from len ∷ [];
     did = λ t. subst (λ (x : Place). Did f p t (Emit n from len ∷ []) g q (at t n (stage.count x (t n)))) (sym is)
         (subst (λ (x : Tally). Did f p t (Emit n from len ∷ []) g q (at t n x)) (count (t n)) (did_emit t));
+    no_puts = (tt, tt);
     goes = subst (λ (x : Place). stage.Goes [] x (place_at g.places.items n)) (sym is) (subst (λ (x : Place). stage.Goes [] (Live s o) x) (sym (here f g n (Live u o) there same items_are)) goes);
     others = λ k not. (elsewhere f g n (Live u o) there same items_are k not, refl);
     same = same_rest;

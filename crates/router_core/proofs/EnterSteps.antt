@@ -13,7 +13,7 @@ use Rattle.route_policy.specs.Policies.{policy}
 use Rattle.route_policy.specs.Rules.{holds_as}
 use Rattle.route_policy.specs.declared.entry.Entry.{Entry}
 use Rattle.route_policy.specs.declared.rule.Rule.{Rule}
-use Rattle.session_value.specs.Sets.{Entries, Prefixes, has, Marks, MarksOne}
+use Rattle.session_value.specs.Sets.{Entries, Prefixes, Marks, MarksOne}
 use Rattle.rib_stages.specs.Steps.{SetsEntry}
 use Rattle.rib_stages.specs.Values.{RibValue}
 use Rattle.rib_stages.proofs.Marks.{with_here, with_there, with_same, marks_next}

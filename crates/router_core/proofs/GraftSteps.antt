@@ -12,7 +12,7 @@ use Rattle.graft_steps.specs.declared.order.GraftIds.{GraftIds}
 use Rattle.graft_steps.specs.declared.refusal.Outcome.TheVariants.{Accepted}
 use Rattle.bgp_session.specs.Running.{RunningSession}
 use Rattle.session_value.specs.Sessions.{SessionValue}
-use Rattle.session_value.specs.Sets.{Entries, Prefixes, Marks}
+use Rattle.session_value.specs.Sets.{Entries, Marks}
 use Rattle.rib_stages.specs.Steps.{DropsEntries}
 use Rattle.rib_stages.specs.Values.{RibValue, rib_of, table_at}
 use Rattle.graft_model.specs.Points.{at}
@@ -25,14 +25,14 @@ use Rattle.graft_runs.specs.Actors.{Router, Operator, ReportItem, actor_at}
 use Rattle.graft_runs.proofs.Numbers.{there as is_there, of_number, at_operator}
 use Rattle.graft_actors.specs.Notes.{WroteOne}
 use Rattle.graft_actors.proofs.Welcome.{router_order, router_done}
-use Rattle.router_core.specs.Parts.{router_part, own_part, carried, Keeps, KeepsPlace, HasNoEntry}
-use Rattle.router_core.specs.Places.{order_of, place_of, place_at, RunsAt, IsFree, IsAway}
-use Rattle.router_core.specs.Takes.{Stays, TakesIt}
+use Rattle.router_core.specs.Parts.{router_part, carried, Keeps, KeepsPlace}
+use Rattle.router_core.specs.Places.{order_of, place_of, place_at, IsFree, IsAway}
+use Rattle.router_core.specs.Takes.{TakesIt}
 use Rattle.router_core.specs.declared.fields.Fields.{Fields}
 use Rattle.router_core.specs.declared.place.Place.{Place}
 use Rattle.router_core.specs.declared.place.Place.TheVariants.{Vacant, Live, Shadow}
 use Rattle.router_core.proofs.Dids.{did_same, same_router}
-use Rattle.router_core.proofs.Kept.{one_or_other, at_own, at_else, places_at, placed_here, placed_else, rest_of, keeps_on, with_routes, live_is, stays_itself}
+use Rattle.router_core.proofs.Kept.{one_or_other, at_else, places_at, placed_here, placed_else, rest_of, keeps_on, with_routes, live_is, stays_itself}
 use Rattle.router_core.proofs.Takings.{drops, is_router, takes_then}
 
 -- ---- places that the model sees

@@ -1,5 +1,5 @@
 -- What a router hears from another one.
-use Rattle.std.proofs.Common.{◌≡◌, ◌≢◌, ℕ, ◌<◌, ◌≤◌, [], length, Option, Some, refl, sym, ap, subst, ◌∙◌, arith}
+use Rattle.std.proofs.Common.{◌≡◌, ℕ, ◌<◌, ◌≤◌, [], length, Option, Some, refl, sym, ap, subst, ◌∙◌, arith}
 use Rattle.ring_net.specs.declared.post.Post.{Post}
 use Rattle.graft_steps.specs.declared.item.Item.{Item}
 use Rattle.graft_steps.specs.declared.item.Item.TheVariants as items
@@ -18,7 +18,7 @@ use Rattle.graft_runs.specs.Actors.{Router, actor_at}
 use Rattle.graft_runs.proofs.Numbers.{there}
 use Rattle.graft_actors.specs.Notes.{WroteOne}
 use Rattle.graft_actors.proofs.Welcome.{router_told}
-use Rattle.router_core.specs.Parts.{router_part, own_part, carried, Keeps, KeepsPlace}
+use Rattle.router_core.specs.Parts.{router_part, carried, Keeps, KeepsPlace}
 use Rattle.router_core.specs.Places.{place_at}
 use Rattle.router_core.specs.Takes.{TakesIt}
 use Rattle.router_core.specs.declared.fields.Fields.{Fields}

@@ -1,5 +1,5 @@
 -- What a router keeps while its places, its routes and what is due change.
-use Rattle.std.proofs.Common.{◌≡◌, ◌≢◌, ℕ, ◌<◌, ◌≤◌, List, length, Option, is_some, false, Bool, refl, sym, ap, subst, ◌∙◌, arith, inl, inr, ◌⊎◌, set}
+use Rattle.std.proofs.Common.{◌≡◌, ◌≢◌, ℕ, ◌<◌, ◌≤◌, List, length, Option, is_some, Bool, refl, sym, ap, subst, ◌∙◌, arith, inl, inr, ◌⊎◌, set}
 use Rattle.std.specs.Prelude.{if◌then◌else◌}
 use Rattle.std.specs.FinMap as map
 use Rattle.std.proofs.lemmas.Bool.{cases_lt, eq-eqb, ne_eqb}
@@ -8,13 +8,12 @@ use Rattle.session_value.specs.Sets.{Tellings}
 use Rattle.rib_stages.specs.declared.config.RibConfig.{RibConfig}
 use Rattle.rib_stages.specs.Values.{RibValue, rib_of, table_at}
 use Rattle.graft_model.specs.Points.{at}
-use Rattle.graft_model.specs.Parts as model
 use Rattle.graft_model.specs.Parts.{RouterPart}
 use Rattle.bgp_session.specs.Running.{RunningSession}
 use Rattle.graft_steps.specs.declared.order.GraftIds.{GraftIds}
 use Rattle.graft_model.specs.Setups.{routers_in}
 use Rattle.router_core.specs.Configs.{IsRibOf}
-use Rattle.router_core.specs.Parts.{router_part, Keeps, KeepsPlace}
+use Rattle.router_core.specs.Parts.{Keeps, KeepsPlace}
 use Rattle.router_core.specs.Places.{place_of, place_at, RunsAt}
 use Rattle.router_core.specs.Reading.{KeepsRest}
 use Rattle.router_core.specs.Takes.{Stays}

@@ -1,5 +1,5 @@
 -- A session that moves here: whether it is taken in, and how it lands.
-use Rattle.std.proofs.Common.{◌≡◌, ◌≢◌, ℕ, zero, suc, ◌+◌, ◌<◌, ◌≤◌, List, [], ◌∷◌, ◌++◌, length, get_or, Bool, true, false, Option, Some, None, is_some, refl, sym, ap, subst, ◌∙◌, arith, inl, inr, set}
+use Rattle.std.proofs.Common.{◌≡◌, ℕ, suc, ◌+◌, ◌<◌, ◌≤◌, List, [], ◌∷◌, ◌++◌, length, get_or, Bool, true, false, Option, Some, None, is_some, refl, sym, ap, ◌∙◌, arith}
 use Rattle.std.specs.Prelude.{count_by, fold, filter, is_none, option_map, if◌then◌else◌}
 use Rattle.std.specs.FinMap as map
 use Rattle.std.specs.List.{range_with_len}
@@ -19,7 +19,7 @@ use Rattle.session_value.specs.Sessions.{SessionValue}
 use Rattle.route_policy.specs.Candidates.{imported}
 use Rattle.route_policy.specs.declared.entry.Entry.{Entry}
 use Rattle.route_policy.specs.declared.rule.Rule.{Rule}
-use Rattle.rib_stages.specs.Values.{RibValue, rib_of, table_at}
+use Rattle.rib_stages.specs.Values.{RibValue, rib_of}
 use Rattle.graft_model.specs.Decisions.{entry_of, remote_identifier, session_route}
 use Rattle.graft_model.specs.GraftRows.{is_taken, taken_in, refusal_of}
 use Rattle.graft_model.specs.RouterRows.{BringsIn}

@@ -1,14 +1,12 @@
 -- Grafts begin at their source: each is refused, or the session leaves in it.
-use Rattle.std.proofs.Common.{◌≡◌, ◌≢◌, ℕ, ◌+◌, ◌<◌, List, [], ◌∷◌, length, Option, option_map, Some, None, Bool, true, false, ◌==◌, ◌⊎◌, inl, inr, refl, sym, ap, subst, ◌∙◌, arith, set}
+use Rattle.std.proofs.Common.{◌≡◌, ℕ, ◌+◌, ◌<◌, List, [], ◌∷◌, length, Option, Some, None, Bool, true, false, ◌==◌, inl, inr, refl, sym, ap, subst, ◌∙◌, set}
 use Rattle.std.specs.Prelude.{if◌then◌else◌}
 use Rattle.std.specs.FinMap as map
 use Rattle.std.proofs.lemmas.List.{length-set}
-use Rattle.ring_net.specs.Posts.{actor_of}
 use Rattle.ring_net.specs.declared.post.Post.{Post}
 use Rattle.ring_net.proofs.PostLaws.{wrote_then}
 use Rattle.bgp_types.specs.declared.message.SessionState.{SessionState}
 use Rattle.bgp_types.specs.declared.message.SessionState.TheVariants.{OpenSent, OpenConfirm, Established, Closed}
-use Rattle.bgp_types.specs.Prefixes.{PrefixValue}
 use Rattle.graft_steps.specs.declared.item.Item.{Item}
 use Rattle.graft_steps.specs.declared.item.Item.TheVariants as items
 use Rattle.graft_steps.specs.declared.order.GraftIds.{GraftIds}
@@ -17,23 +15,23 @@ use Rattle.graft_steps.specs.declared.refusal.Outcome.TheVariants as outcomes
 use Rattle.graft_steps.specs.declared.refusal.Refusal.TheVariants as refusals
 use Rattle.graft_steps.specs.Refusals.{freeze_refusal, session_refusal}
 use Rattle.graft_edge.specs.declared.ids.RouterId.{RouterId}
-use Rattle.session_value.specs.Sessions.{SessionValue, state, hold_time}
+use Rattle.session_value.specs.Sessions.{state, hold_time}
 use Rattle.session_value.specs.Sets.{Prefixes, has}
 use Rattle.bgp_session.specs.Running.{RunningSession}
 use Rattle.rib_stages.specs.Values.{rib_of, table_at}
 use Rattle.graft_model.specs.GraftRows.{Freezes, Leaves}
 use Rattle.graft_model.specs.Points.{at}
-use Rattle.graft_model.specs.Setups.{Setup, peerings_in, routers_in}
+use Rattle.graft_model.specs.Setups.{peerings_in, routers_in}
 use Rattle.graft_model.specs.Parts as model
 use Rattle.graft_model.specs.Parts.{RouterPart, Moved}
 use Rattle.graft_model.specs.RouterRows.{MeshTo, ReportOut}
-use Rattle.graft_model.specs.Steps.{RouterEvent, Refuse, Freeze, Leave}
+use Rattle.graft_model.specs.Steps.{Refuse, Freeze, Leave}
 use Rattle.graft_runs.specs.Actors.{Router, RouterIs, Operator, MeshItem}
 use Rattle.graft_actors.specs.Emissions.{Tally}
 use Rattle.graft_actors.specs.Items.{home_first, remote_first}
 use Rattle.graft_actors.specs.Notes.{deed_of, WroteOne}
 use Rattle.router_core.specs.Leaving.{BegunAs}
-use Rattle.router_core.specs.Parts.{router_part, own_part, carried, Keeps, KeepsPlace, IsGraftOf}
+use Rattle.router_core.specs.Parts.{router_part, own_part, Keeps, KeepsPlace, IsGraftOf}
 use Rattle.router_core.specs.Places.{place_of, place_at, order_of}
 use Rattle.router_core.specs.Rounds.{Did, SameRouter}
 use Rattle.router_core.specs.Stages.{GraftGoes}
@@ -41,12 +39,11 @@ use Rattle.router_core.specs.Visits.{Visits, SameButLeaving, SameButPlaces, begi
 use Rattle.router_core.specs.declared.fields.Fields.{Fields}
 use Rattle.router_core.specs.declared.place.Place.{Place}
 use Rattle.router_core.specs.declared.place.Place.TheVariants.{Vacant, Live, Shadow}
-use Rattle.router_core.specs.declared.stages.grafts.Begun.{Begun}
 use Rattle.router_core.specs.declared.stages.grafts.Begun.TheVariants.{Nothing, Refused, Left}
 use Rattle.router_core.proofs.Dids.{Sends, did_sent, sends_at, sends_is, sends_name}
 use Rattle.router_core.proofs.PlaceSteps.{at_own, elsewhere, here, keeps_at, part_at, visits_same}
 use Rattle.router_core.proofs.Standing.{keeps_on, none_in}
-use Rattle.router_core.proofs.VisitSteps.{same_or_not, at_here, at_other, set_here, set_other, set_at}
+use Rattle.router_core.proofs.VisitSteps.{same_or_not, at_here, at_other, set_here, set_other}
 
 -- a graft of this router has it for its source
 source_is : (f : Fields) (n : ℕ) (ids : GraftIds) → IsGraftOf f.known.setup f.number.0 n ids → (let r : RouterId = record { 0 = f.number.0 } in r) ≡ ids.source
@@ -102,6 +99,7 @@ module _ (f g : Fields) (p q : Post (Item RunningSession)) (n : ℕ) (s : Runnin
     refused = record {
       events = Refuse ids.graft ∷ [];
       did = λ t. subst (λ (u : ℕ → Tally). Did f p t (Refuse ids.graft ∷ []) g q u) (λ i k. sym (at_own t n (t n) refl k) i) (did_refuse t);
+      no_puts = (tt, tt);
       goes = (refl, subst (λ (x : Place). GraftGoes x (place_at g.places.items n)) (sym is) (inl (here f g n (Live s None) there same items_are)));
       others = λ k not. (elsewhere f g n (Live s None) there same items_are k not, refl);
       same = subst (λ (h : Fields). h ≡ record f { places = h.places; due_out = h.due_out }) (sym same) refl;
@@ -233,6 +231,7 @@ module _ (f g : Fields) (p q : Post (Item RunningSession)) (n : ℕ) (s : Runnin
     left = record {
       events = Freeze ids.graft ∷ Leave ids.graft ∷ [];
       did = λ t. subst (λ (u : ℕ → Tally). Did f p t (Freeze ids.graft ∷ Leave ids.graft ∷ []) g q u) (λ i k. sym (at_own t n (t n) refl k) i) (did_leave t);
+      no_puts = (tt, (tt, tt));
       goes = (refl, subst (λ (x : Place). GraftGoes x (place_at g.places.items n)) (sym is) (inr (ap (λ (xs : List Place). place_at xs n) items_are ∙ set_here f.places.items n (Shadow ids) there)));
       others = λ k not. (ap (λ (xs : List Place). place_at xs k) items_are ∙ set_other f.places.items n (Shadow ids) there k not, refl);
       same = same;

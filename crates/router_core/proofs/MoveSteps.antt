@@ -1,6 +1,5 @@
 -- A session that moves here: it lands, or is turned back, or dropped.
-use Rattle.std.proofs.Common.{◌≡◌, ◌≢◌, ℕ, ◌+◌, ◌<◌, ◌≤◌, List, [], ◌∷◌, length, Option, Some, None, refl, sym, ap, subst, ◌∙◌, arith, inl, inr, set}
-use Rattle.std.specs.FinMap as map
+use Rattle.std.proofs.Common.{◌≡◌, ◌≢◌, ℕ, ◌+◌, ◌<◌, List, [], ◌∷◌, length, Option, Some, None, refl, sym, ap, subst, ◌∙◌, arith, inl, inr}
 use Rattle.std.proofs.lemmas.List.{length-set}
 use Rattle.ring_net.specs.declared.post.Post.{Post}
 use Rattle.graft_steps.specs.declared.item.Item.{Item}
@@ -11,7 +10,6 @@ use Rattle.bgp_session.specs.Running.{RunningSession}
 use Rattle.rib_stages.specs.Values.{RibValue, rib_of, table_at}
 use Rattle.session_value.specs.Sets.{Entries, Prefixes}
 use Rattle.graft_model.specs.GraftRows.{Comes, refusal_of}
-use Rattle.graft_model.specs.Points.{at}
 use Rattle.graft_model.specs.Parts as model
 use Rattle.graft_model.specs.Parts.{RouterPart, Moved, Back, Done, PointAt}
 use Rattle.graft_model.specs.RouterRows.{MeshIn, MeshTo, OutwardTo}
@@ -22,10 +20,10 @@ use Rattle.graft_runs.proofs.Numbers.{there as is_there}
 use Rattle.graft_actors.specs.Items.{IsOnItsWay}
 use Rattle.graft_actors.specs.Notes.{WroteOne}
 use Rattle.graft_actors.proofs.Welcome.{router_moved}
-use Rattle.router_core.specs.Parts.{router_part, own_part, carried, Keeps, KeepsPlace, HasNoEntry}
-use Rattle.router_core.specs.Places.{place_of, place_at, RunsAt}
+use Rattle.router_core.specs.Parts.{router_part, carried, Keeps, KeepsPlace, HasNoEntry}
+use Rattle.router_core.specs.Places.{place_of, place_at}
 use Rattle.router_core.specs.Reading.{KeepsBut, ReadsAll, SettlesIn}
-use Rattle.router_core.specs.Takes.{Stays, TakesIt}
+use Rattle.router_core.specs.Takes.{TakesIt}
 use Rattle.router_core.specs.declared.fields.Fields.{Fields}
 use Rattle.router_core.specs.declared.place.Place.{Place}
 use Rattle.router_core.specs.declared.place.Place.TheVariants.{Vacant, Live, Shadow}

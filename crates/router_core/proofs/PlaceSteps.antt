@@ -1,24 +1,20 @@
 -- One place of a router changes.
-use Rattle.std.proofs.Common.{◌≡◌, ◌≢◌, ℕ, zero, suc, ◌<◌, List, [], ◌∷◌, length, arith, get_or, Option, option_map, inl, inr, refl, sym, ap, subst, ◌∙◌, set, true}
+use Rattle.std.proofs.Common.{◌≡◌, ◌≢◌, ℕ, zero, suc, ◌<◌, List, [], ◌∷◌, length, arith, get_or, Option, inl, inr, refl, sym, ap, subst, ◌∙◌, set}
 use Rattle.std.proofs.lemmas.List.{length-set}
 use Rattle.ring_net.specs.declared.post.Post.{Post}
 use Rattle.graft_steps.specs.declared.item.Item.{Item}
 use Rattle.graft_steps.specs.declared.order.GraftIds.{GraftIds}
 use Rattle.session_value.specs.declared.config.SessionConfig.{SessionConfig}
-use Rattle.session_value.specs.Sessions.{SessionValue, state, unread}
+use Rattle.session_value.specs.Sessions.{unread}
 use Rattle.session_value.specs.Fronts.{BeginsNothing}
 use Rattle.session_value.specs.Sets.{Entries, Prefixes}
-use Rattle.bgp_story.specs.declared.line.Line.{Line}
 use Rattle.bgp_story.specs.States.{state_of}
 use Rattle.bgp_session.specs.Running.{RunningSession}
 use Rattle.rib_stages.specs.Values.{rib_of, table_at}
 use Rattle.graft_model.specs.Points.{at}
 use Rattle.graft_model.specs.Setups.{Setup}
-use Rattle.graft_model.specs.Parts as model
-use Rattle.graft_model.specs.Parts.{RouterPart}
 use Rattle.graft_actors.specs.Emissions.{Tally}
-use Rattle.bgp_types.specs.declared.message.SessionState.TheVariants.{Closed}
-use Rattle.router_core.specs.Parts.{router_part, Keeps, KeepsPlace, IsOfPeering}
+use Rattle.router_core.specs.Parts.{router_part, Keeps, KeepsPlace}
 use Rattle.router_core.specs.Places.{place_of, place_at}
 use Rattle.router_core.specs.Rounds.{Did}
 use Rattle.router_core.specs.Visits.{Stage, Visits, SameButPlaces}
@@ -88,6 +84,7 @@ module _ (f g : Fields) (n : ℕ) (x : Place) (there : n < length f.places.items
     events = [];
     did = λ t. subst (λ (u : ℕ → Tally). Did f p t [] g p u) (λ i q. sym (at_own t n (stage.count (place_at f.places.items n) (t n)) (none (t n)) q) i)
         (did_same f g p t (record { setup = ap (λ (h : Fields). h.known.setup) same; number = ap (λ (h : Fields). h.number) same }) (part_same stays));
+    no_puts = tt;
     goes = subst (λ (y : Place). stage.Goes [] (place_at f.places.items n) y) (sym here) goes;
     others = λ q not. (elsewhere q not, refl);
     same = same_rest;

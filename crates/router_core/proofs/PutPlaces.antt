@@ -1,5 +1,5 @@
 -- What is put at one place after another.
-use Rattle.std.proofs.Common.{◌≡◌, ◌≢◌, ℕ, zero, suc, ◌+◌, ◌<◌, ◌≤◌, ◌⊎◌, List, [], ◌∷◌, ◌++◌, length, Option, option_map, Some, None, Bool, true, false, is_some, not, ◌&&◌, refl, sym, ap, subst, ◌∙◌, arith, inl, inr, set, append_assoc, append-nil}
+use Rattle.std.proofs.Common.{◌≡◌, ◌≢◌, ℕ, zero, suc, ◌+◌, ◌<◌, ◌≤◌, List, [], ◌∷◌, ◌++◌, length, Option, option_map, Some, None, Bool, true, false, is_some, not, ◌&&◌, refl, sym, ap, subst, ◌∙◌, arith, inl, inr, set, append_assoc, append-nil}
 use Rattle.std.specs.FinMap as map
 use Rattle.std.specs.Prelude.{fold, reverse}
 use Rattle.std.proofs.lemmas.List.{reverse-append}
@@ -18,7 +18,7 @@ use Rattle.session_value.specs.Sessions.{SessionValue, state, peering_of}
 use Rattle.session_value.specs.Sets.{BestRoutes, Prefixes, has}
 use Rattle.bgp_session.specs.Running.{RunningSession}
 use Rattle.rib_stages.specs.Values.{rib_of, table_at}
-use Rattle.tell_plan.specs.Plans.{IsNext, IsPlan, IsWritableFor, octets}
+use Rattle.tell_plan.specs.Plans.{IsWritableFor, octets}
 use Rattle.tell_plan.proofs.Sizes.{one_more}
 use Rattle.bgp_types.specs.declared.attrs.Attrs.{Attrs}
 use Rattle.bgp_types.proofs.WalkLaws.{next_entry}
@@ -30,7 +30,7 @@ use Rattle.graft_model.specs.Parts.{RouterPart}
 use Rattle.graft_model.specs.RouterRows.{PutsNothing}
 use Rattle.graft_model.specs.Sets.{Drops}
 use Rattle.graft_model.specs.Setups.{Setup}
-use Rattle.graft_model.specs.Steps.{RouterEvent, Put}
+use Rattle.graft_model.specs.Steps.{Put}
 use Rattle.graft_actors.specs.Emissions.{Tally}
 use Rattle.graft_actors.specs.Notes.{WroteOne}
 use Rattle.router_core.specs.Parts.{router_part, Keeps, KeepsPlace}

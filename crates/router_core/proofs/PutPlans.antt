@@ -1,6 +1,5 @@
 -- What is planned for the session at a place.
-use Rattle.std.proofs.Common.{◌≡◌, ℕ, List, [], ◌∷◌, ◌++◌, Option, option_map, Some, None, Bool, true, refl, sym, ap, subst, ◌∙◌}
-use Rattle.std.specs.Prelude.{reverse, option_copied}
+use Rattle.std.proofs.Common.{◌≡◌, ℕ, List, [], Option, Some, None, Bool, refl, ap, subst, ◌∙◌}
 use Rattle.std.specs.FinMap as map
 use Rattle.bgp_types.specs.declared.attrs.Attrs.{Attrs}
 use Rattle.bgp_types.specs.declared.message.SessionState.TheVariants.{Established}
@@ -10,25 +9,23 @@ use Rattle.bgp_story.specs.Readings.{Routes}
 use Rattle.graft_steps.specs.declared.order.GraftIds.{GraftIds}
 use Rattle.route_policy.specs.Telling.{OutSide, tell_out}
 use Rattle.route_policy.specs.declared.rule.Rule.{Rule}
-use Rattle.session_value.specs.Sessions.{SessionValue, state, peering_of}
-use Rattle.session_value.specs.Sets.{Prefixes, has}
+use Rattle.session_value.specs.Sessions.{state, peering_of}
+use Rattle.session_value.specs.Sets.{Prefixes}
 use Rattle.bgp_session.specs.Running.{RunningSession}
 use Rattle.rib_stages.specs.Values.{rib_of, table_at}
 use Rattle.tell_plan.specs.Plans.{IsPlan}
 use Rattle.tell_plan.specs.ToTell as plans
 use Rattle.tell_plan.specs.declared.batch.Batch.{Batch}
 use Rattle.graft_model.specs.Decisions.{out_side, to_tell}
-use Rattle.graft_model.specs.RouterRows.{IsToTell}
 use Rattle.graft_model.specs.Setups.{Setup, rules_for}
 use Rattle.router_core.specs.Configs.{ArePoliciesOf}
-use Rattle.router_core.specs.Parts.{router_part, Keeps, KeepsPlace}
+use Rattle.router_core.specs.Parts.{router_part, Keeps}
 use Rattle.router_core.specs.Places.{place_at}
 use Rattle.router_core.specs.Entering.{rules_by}
 use Rattle.router_core.specs.Putting.{PlannedAt}
 use Rattle.router_core.specs.declared.config.NamedPolicy.{NamedPolicy}
 use Rattle.router_core.specs.declared.fields.Fields.{Fields}
-use Rattle.router_core.specs.declared.place.Place.{Place}
-use Rattle.router_core.specs.declared.place.Place.TheVariants.{Vacant, Live, Shadow}
+use Rattle.router_core.specs.declared.place.Place.TheVariants.{Live}
 use Rattle.router_core.proofs.PutPlaces.{established}
 
 rules_are : (setup : Setup) (r : ℕ) (policies : List NamedPolicy) (name : Option (List ℕ)) → ArePoliciesOf setup r policies → rules_by policies name ≡ rules_for setup r name

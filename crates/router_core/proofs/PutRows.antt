@@ -1,6 +1,6 @@
 -- One UPDATE is put, or what was told as it is to be is due no more.
-use Rattle.std.proofs.Common.{◌≡◌, ◌≢◌, ℕ, zero, suc, ◌<◌, ◌≤◌, List, [], ◌∷◌, ◌++◌, length, Option, option_map, Some, None, Bool, true, false, cond, ◌||◌, ◌&&◌, not, is_some, refl, sym, ap, subst, ◌∙◌, arith, set, inl, inr}
-use Rattle.std.specs.Prelude.{fold, IsTrue}
+use Rattle.std.proofs.Common.{◌≡◌, ◌≢◌, ℕ, ◌<◌, List, [], ◌∷◌, ◌++◌, length, Option, option_map, None, Bool, true, false, cond, ◌||◌, ◌&&◌, not, is_some, refl, sym, ap, subst, ◌∙◌, set, inl, inr}
+use Rattle.std.specs.Prelude.{fold}
 use Rattle.std.specs.FinMap as map
 use Rattle.std.specs.List.{list_any, All}
 use Rattle.std.specs.Cmp.{eq_by_cmp_equiv}
@@ -10,10 +10,8 @@ use Rattle.std.proofs.lemmas.List.Sums.{fold-append}
 use Rattle.ring_net.specs.declared.post.Post.{Post}
 use Rattle.graft_steps.specs.declared.item.Item.{Item}
 use Rattle.graft_steps.specs.declared.order.GraftIds.{GraftIds}
-use Rattle.bgp_types.specs.declared.attrs.Attrs.{Attrs}
 use Rattle.bgp_types.specs.declared.message.Message.TheVariants.{UpdateMsg}
-use Rattle.bgp_types.specs.declared.message.SessionState.{SessionState}
-use Rattle.bgp_types.specs.declared.message.SessionState.TheVariants.{OpenSent, Established, Closed}
+use Rattle.bgp_types.specs.declared.message.SessionState.TheVariants.{OpenSent, Established}
 use Rattle.bgp_types.specs.Prefixes.{PrefixValue, IsPrefix, same_prefix}
 use Rattle.bgp_types.specs.Tables.{prefix_cmp}
 use Rattle.bgp_types.proofs.TableLaws.{prefix_total, tied}
@@ -30,31 +28,29 @@ use Rattle.session_value.specs.Sessions.{SessionValue, state, peering_of, unread
 use Rattle.session_value.specs.Sets.{Prefixes, has}
 use Rattle.bgp_session.specs.Running.{RunningSession}
 use Rattle.rib_stages.specs.Values.{rib_of, table_at}
-use Rattle.tell_plan.specs.Plans.{IsNext, IsPlan, IsWritableFor}
+use Rattle.tell_plan.specs.Plans.{IsPlan, IsWritableFor}
 use Rattle.tell_plan.specs.declared.batch.Batch.{Batch}
 use Rattle.tell_plan.proofs.Listed.{same_itself, is_same}
 use Rattle.tell_plan.proofs.PlanLaws.{changes, one_way, rest}
 use Rattle.graft_model.specs.Points.{at}
-use Rattle.graft_model.specs.Parts as model
 use Rattle.graft_model.specs.Parts.{RouterPart}
-use Rattle.graft_model.specs.RouterRows.{IsToTell, PutsSome, PutsNothing, RouterTaken, RouterSent}
+use Rattle.graft_model.specs.RouterRows.{IsToTell, PutsSome, RouterTaken, RouterSent}
 use Rattle.graft_model.specs.Setups.{Setup}
-use Rattle.graft_model.specs.Sets.{Drops}
 use Rattle.graft_model.specs.Decisions.{to_tell}
-use Rattle.graft_model.specs.Steps.{RouterEvent, Put, router_row, puts}
+use Rattle.graft_model.specs.Steps.{Put, puts}
 use Rattle.graft_actors.specs.Emissions.{Tally}
 use Rattle.graft_actors.specs.Notes.{WroteOne}
-use Rattle.router_core.specs.Parts.{router_part, Keeps, KeepsPlace, IsOfPeering}
+use Rattle.router_core.specs.Parts.{router_part, Keeps, KeepsPlace}
 use Rattle.router_core.specs.Places.{place_of, place_at, order_of}
-use Rattle.router_core.specs.Putting.{CanOffer, WasPut, NextAt, PlannedAt, PutsSomeAt}
+use Rattle.router_core.specs.Putting.{CanOffer, WasPut, PlannedAt, PutsSomeAt}
 use Rattle.router_core.specs.Rounds.{CarefulRouter, Did, PutsNext, SameRouter}
 use Rattle.router_core.specs.Stages.{PlaceGoes, PutsMore}
 use Rattle.router_core.specs.Updates.{IsNextUpdate}
 use Rattle.router_core.specs.Visits.{SameButLeaving}
 use Rattle.router_core.specs.declared.fields.Fields.{Fields}
 use Rattle.router_core.specs.declared.place.Place.{Place}
-use Rattle.router_core.specs.declared.place.Place.TheVariants.{Vacant, Live, Shadow}
-use Rattle.router_core.proofs.Dids.{did_one, did_same}
+use Rattle.router_core.specs.declared.place.Place.TheVariants.{Live}
+use Rattle.router_core.proofs.Dids.{did_one}
 use Rattle.router_core.proofs.Standing.{keeps_on}
 use Rattle.std.proofs.lemmas.List.{length-set}
 use Rattle.router_core.proofs.VisitSteps.{same_or_not, at_here, at_other, set_here, set_other, set_at}

@@ -1,6 +1,5 @@
 -- One message that a session reads, as an event of the router; and all of them.
-use Rattle.std.proofs.Common.{◌≡◌, ◌≢◌, ℕ, ◌+◌, ◌<◌, ◌≤◌, List, [], ◌∷◌, ◌++◌, length, get_or, Option, Some, None, option_map, refl, sym, ap, subst, ◌∙◌, arith, inl, inr, set}
-use Rattle.std.specs.FinMap as map
+use Rattle.std.proofs.Common.{◌≡◌, ◌≢◌, ℕ, ◌<◌, List, [], ◌∷◌, ◌++◌, length, get_or, Option, Some, None, option_map, refl, sym, ap, subst, ◌∙◌, arith, inl, inr, set}
 use Rattle.std.proofs.lemmas.Bool.{cases_lt}
 use Rattle.std.proofs.lemmas.List.{length-set, get_or_past, set-get_or}
 use Rattle.ring_net.specs.declared.post.Post.{Post}
@@ -16,17 +15,14 @@ use Rattle.session_value.specs.Sets.{Entries, Prefixes}
 use Rattle.session_value.specs.Ties.{IsTied}
 use Rattle.rib_stages.specs.Values.{RibValue, rib_of, table_at}
 use Rattle.graft_model.specs.Decisions.{entry_of}
-use Rattle.graft_model.specs.Points.{at}
-use Rattle.graft_model.specs.Parts as model
 use Rattle.graft_model.specs.Parts.{RouterPart}
 use Rattle.graft_model.specs.RouterRows.{GetsNext}
 use Rattle.graft_model.specs.Steps.{RouterEvent, Got}
 use Rattle.graft_actors.specs.Emissions.{Tally}
 use Rattle.graft_actors.specs.Notes.{WroteOne}
-use Rattle.router_core.specs.Entering.{entry_here}
 use Rattle.router_core.specs.Parts.{router_part, Keeps, KeepsPlace, IsOfPeering, HasReadAll}
 use Rattle.router_core.specs.Places.{order_of, place_of, place_at, RunsAt}
-use Rattle.router_core.specs.Reading.{FollowsStep, KeepsBut, KeepsLive, KeepsRest, ReadsAll, ReadsNone, ReadsOne, ReadsAt, StaysBut, prefixes_in, unread_at}
+use Rattle.router_core.specs.Reading.{FollowsStep, KeepsBut, KeepsLive, KeepsRest, ReadsAll, ReadsNone, ReadsOne, ReadsAt, StaysBut, unread_at}
 use Rattle.router_core.specs.Rounds.{Did}
 use Rattle.router_core.specs.Takes.{Stays}
 use Rattle.router_core.specs.declared.fields.Fields.{Fields}

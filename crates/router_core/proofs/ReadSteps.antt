@@ -1,5 +1,5 @@
 -- A session reads a message: what it brings in, what it heard, and what is left to read.
-use Rattle.std.proofs.Common.{◌≡◌, ◌≢◌, ℕ, ◌+◌, ◌-◌, ◌<◌, ◌≤◌, List, [], ◌∷◌, ◌++◌, length, drop, Bool, true, false, Option, Some, None, is_some, option_map, Result, Ok, Err, refl, sym, ap, subst, ◌∙◌, arith, inl, inr, ◌⊎◌}
+use Rattle.std.proofs.Common.{◌≡◌, ◌≢◌, ℕ, ◌+◌, ◌-◌, ◌<◌, ◌≤◌, List, length, Bool, true, false, Option, Some, None, is_some, option_map, Result, Ok, Err, refl, sym, ap, subst, ◌∙◌, arith, inl, inr, ◌⊎◌}
 use Rattle.std.specs.FinMap as map
 use Rattle.std.specs.List.{list_any}
 use Rattle.std.proofs.lemmas.Bool.Decides.{nat_tests}
@@ -28,18 +28,16 @@ use Rattle.session_value.specs.Sets.{BestRoutes, Entries, Prefixes, has}
 use Rattle.session_value.specs.Ties.{IsTied}
 use Rattle.session_value.proofs.Gets.{state_next}
 use Rattle.session_value.proofs.Replies.{while_unclosed}
-use Rattle.tcp_seq.specs.Endpoint.{Endpoint, received_bytes}
+use Rattle.tcp_seq.specs.Endpoint.{received_bytes}
 use Rattle.graft_model.specs.Decisions.{entry_of, remote_identifier}
-use Rattle.graft_model.specs.RouterRows.{DueThen, FollowsHeard}
+use Rattle.graft_model.specs.RouterRows.{DueThen}
 use Rattle.graft_model.specs.Setups.{rules_for}
-use Rattle.bgp_session.specs.Running.{RunningSession}
 use Rattle.bgp_session.specs.Steps.{Tells}
 use Rattle.bgp_session.specs.declared.answers.ReadStep.{ReadStep}
 use Rattle.bgp_session.specs.declared.answers.ReadStep.TheVariants as steps
-use Rattle.rib_stages.specs.Values.{RibValue}
-use Rattle.router_core.specs.Entering.{EntersAll, entry_here, rules_by}
+use Rattle.router_core.specs.Entering.{entry_here, rules_by}
 use Rattle.router_core.specs.Parts.{IsDueWhileUp}
-use Rattle.router_core.specs.Reading.{KeepsRest, prefixes_in, DueBy, IsDueBest}
+use Rattle.router_core.specs.Reading.{KeepsRest, prefixes_in, DueBy}
 use Rattle.router_core.specs.declared.fields.Fields.{Fields}
 use Rattle.router_core.proofs.PrefixSets.{keys_any}
 

@@ -1,5 +1,5 @@
 -- What is left, the lowest of it.
-use Rattle.std.proofs.Common.{◌≡◌, ℕ, zero, suc, ◌+◌, ◌<◌, ◌≤◌, min, List, [], ◌∷◌, length, get_or, Option, Some, None, Bool, true, false, is_some, inl, inr, ◌⊎◌, ◌↔◌, refl, sym, ap, subst, ◌∙◌, arith}
+use Rattle.std.proofs.Common.{◌≡◌, ℕ, ◌+◌, ◌<◌, ◌≤◌, min, List, length, Option, Some, None, Bool, true, false, is_some, inl, inr, ◌⊎◌, ◌↔◌, refl, sym, ap, subst, ◌∙◌, arith}
 use Rattle.std.specs.FinMap as map
 use Rattle.std.proofs.lemmas.Bool.{cases_lt}
 use Rattle.bgp_types.specs.Prefixes.{PrefixValue}
@@ -12,7 +12,6 @@ use Rattle.settled_check.specs.Left.{HasGraft, HasSome, HasStream, graft_at}
 use Rattle.graft_model.specs.Parts.{RouterPart}
 use Rattle.router_core.specs.Places.{lower_of, place_of, place_at}
 use Rattle.router_core.specs.declared.place.Place.{Place}
-use Rattle.router_core.specs.declared.place.Place.TheVariants.{Vacant}
 use Rattle.router_core.proofs.Standing.{none_in}
 use Rattle.router_core.proofs.TellSteps.{table_at_end}
 use Rattle.router_core.proofs.VisitSteps.{place_at_end, same_or_not}

@@ -1,5 +1,5 @@
 -- A session that comes back refused.
-use Rattle.std.proofs.Common.{◌≡◌, ◌≢◌, ℕ, ◌+◌, ◌<◌, ◌≤◌, List, [], ◌∷◌, length, Option, Some, None, refl, sym, ap, subst, ◌∙◌, arith, inl, inr, set}
+use Rattle.std.proofs.Common.{◌≡◌, ◌≢◌, ℕ, ◌+◌, ◌<◌, List, [], ◌∷◌, length, Option, Some, None, refl, sym, ap, subst, ◌∙◌, arith, inl, inr, set}
 use Rattle.std.proofs.lemmas.List.{length-set}
 use Rattle.ring_net.specs.declared.post.Post.{Post}
 use Rattle.graft_steps.specs.declared.item.Item.{Item}
@@ -10,7 +10,6 @@ use Rattle.graft_steps.specs.declared.refusal.Outcome.TheVariants.{Refused}
 use Rattle.bgp_session.specs.Running.{RunningSession}
 use Rattle.rib_stages.specs.Values.{rib_of, table_at}
 use Rattle.session_value.specs.Sets.{Prefixes}
-use Rattle.graft_model.specs.Points.{at}
 use Rattle.graft_model.specs.Parts as model
 use Rattle.graft_model.specs.Parts.{RouterPart, Back}
 use Rattle.graft_model.specs.RouterRows.{MeshIn, ReportOut}
@@ -21,10 +20,10 @@ use Rattle.graft_runs.proofs.Numbers.{there as is_there, at_operator}
 use Rattle.graft_actors.specs.Items.{IsOnItsWay}
 use Rattle.graft_actors.specs.Notes.{WroteOne}
 use Rattle.graft_actors.proofs.Welcome.{router_back}
-use Rattle.router_core.specs.Parts.{router_part, own_part, carried, Keeps, KeepsPlace}
-use Rattle.router_core.specs.Places.{place_of, place_at, RunsAt, IsAway}
+use Rattle.router_core.specs.Parts.{router_part, carried, Keeps, KeepsPlace}
+use Rattle.router_core.specs.Places.{place_of, place_at, IsAway}
 use Rattle.router_core.specs.Reading.{IsDueAgain, KeepsBut, OneSet, ReadsAll}
-use Rattle.router_core.specs.Takes.{Stays, TakesIt}
+use Rattle.router_core.specs.Takes.{TakesIt}
 use Rattle.router_core.specs.declared.fields.Fields.{Fields}
 use Rattle.router_core.specs.declared.place.Place.{Place}
 use Rattle.router_core.specs.declared.place.Place.TheVariants.{Live, Shadow}

@@ -7,12 +7,12 @@ use Rattle.std.specs.List.{list_any}
 use Rattle.std.proofs.lemmas.Bool.{cases_lt, eq-eqb, ne_eqb}
 use Rattle.std.proofs.lemmas.List.{length-set}
 use Rattle.bgp_types.specs.Prefixes.{PrefixValue, same_prefix}
-use Rattle.bgp_types.specs.declared.message.Message.TheVariants.{NoticeMsg, KeepaliveMsg}
+use Rattle.bgp_types.specs.declared.message.Message.TheVariants.{KeepaliveMsg}
 use Rattle.bgp_types.specs.declared.message.SessionState.{SessionState}
 use Rattle.bgp_types.specs.declared.message.SessionState.TheVariants.{OpenSent, OpenConfirm, Established, Closed}
 use Rattle.bgp_story.specs.declared.line.Line.{Line}
 use Rattle.bgp_story.specs.declared.line.Line.TheVariants.{Put, Tick}
-use Rattle.bgp_story.specs.Legal.{hold_expired, is_up, silence}
+use Rattle.bgp_story.specs.Legal.{is_up, silence}
 use Rattle.bgp_story.specs.Readings.{Routes, unless_closed}
 use Rattle.ring_net.specs.declared.post.Post.{Post}
 use Rattle.graft_steps.specs.declared.item.Item.{Item}
@@ -31,9 +31,7 @@ use Rattle.bgp_session.specs.declared.answers.TickStep.{TickStep}
 use Rattle.bgp_session.specs.declared.answers.TickStep.TheVariants.{Plain, Beat, Expired}
 use Rattle.rib_stages.specs.Values.{RibValue, rib_of, table_at}
 use Rattle.graft_model.specs.Decisions.{entry_of}
-use Rattle.graft_model.specs.Parts as model
 use Rattle.graft_model.specs.Parts.{RouterPart}
-use Rattle.graft_model.specs.Points.{at}
 use Rattle.graft_model.specs.RouterRows as rows
 use Rattle.graft_model.specs.RouterRows.{DueThen, FollowsHeard}
 use Rattle.graft_model.specs.Steps.{RouterEvent}
@@ -47,7 +45,7 @@ use Rattle.router_core.specs.Rounds.{Did}
 use Rattle.router_core.specs.Sending.{AtPlace}
 use Rattle.router_core.specs.Stages.{PassesRounds, PassesWhereItMay, PlaceGoes, PutsMore}
 use Rattle.router_core.specs.Ticking.{Ticked, followed}
-use Rattle.router_core.specs.Turned.{round_on, rounds_on}
+use Rattle.router_core.specs.Turned.{rounds_on}
 use Rattle.router_core.specs.Visits.{SameButPlaces, SameButSessions, Visited, Visits, passing_rounds}
 use Rattle.router_core.specs.declared.fields.Fields.{Fields}
 use Rattle.router_core.specs.declared.place.Place.{Place}
@@ -241,6 +239,7 @@ module _ (f g : Fields) (p : ℕ) (a b : Post (Item RunningSession)) (s u : Runn
     events = events.Tick p f.turns ∷ [];
     did = λ t. subst (λ (v : ℕ → Tally). Did f a t (events.Tick p f.turns ∷ []) g b v) (λ i n. sym (at_own t p (t p) refl n) i)
         (did_one f g a b t (events.Tick p f.turns) 31 p f.turns 0 (record { setup = ap (λ (h : Fields). h.known.setup) same; number = ap (λ (h : Fields). h.number) same }) wrote (record { kind = refl; a = refl; b = refl; c = refl }) row tt);
+    no_puts = (tt, tt);
     goes = subst (λ (xs : List ℕ). PlaceGoes (PassesWhereItMay f.turns xs) (place_at f.places.items p) (place_at g.places.items p)) (sym round_here)
         (subst (λ (x : Place). PlaceGoes (PassesWhereItMay f.turns (f.turns ∷ [])) x (place_at g.places.items p)) (sym is) (u, here, (more, inl (may, refl))));
     others = λ n not. (elsewhere n not, round_else n not);
@@ -291,6 +290,7 @@ pub passes_all : (f g : Fields) (a b : Post (Item RunningSession)) (n : ℕ) →
 passes_all f g a b n last v = record {
   events = v.events;
   did = λ t. subst (λ (w : ℕ → Tally). Did f a t v.events g b w) (λ i k. both (nat_lt k n) (t k) i) (v.did t);
+  no_puts = v.no_puts;
   places = λ k. elim (cases_lt k n) [
     | inl below ↦ v.done k below
     | inr from ↦

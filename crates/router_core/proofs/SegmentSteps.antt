@@ -1,6 +1,5 @@
 -- The segments that a router takes.
-use Rattle.std.proofs.Common.{◌≡◌, ◌≢◌, ℕ, ◌+◌, ◌<◌, ◌≤◌, List, [], ◌∷◌, length, Bool, true, false, Option, Some, None, option_map, refl, sym, ap, subst, ◌∙◌, arith, inl, inr, set}
-use Rattle.std.proofs.lemmas.Bool.{cases_lt}
+use Rattle.std.proofs.Common.{◌≡◌, ◌≢◌, ℕ, ◌+◌, ◌<◌, ◌≤◌, List, [], length, Bool, true, false, Option, Some, option_map, refl, sym, ap, subst, ◌∙◌, arith, inl, inr, set}
 use Rattle.std.proofs.lemmas.List.{length-set}
 use Rattle.ring_net.specs.declared.post.Post.{Post}
 use Rattle.graft_steps.specs.declared.item.Item.{Item}
@@ -14,14 +13,12 @@ use Rattle.tcp_seq.specs.declared.segment.Way.{Way}
 use Rattle.tcp_seq.specs.declared.segment.Way.TheVariants.{Home}
 use Rattle.bgp_session.specs.Running.{RunningSession}
 use Rattle.bgp_session.specs.Steps.{Arrives, received_as}
-use Rattle.session_value.specs.declared.config.SessionConfig.{SessionConfig}
 use Rattle.session_value.specs.Sessions.{SessionValue}
-use Rattle.graft_edge.specs.declared.ids.PeeringId.{PeeringId}
 use Rattle.rib_stages.specs.Values.{rib_of, table_at}
 use Rattle.graft_model.specs.Points.{at}
 use Rattle.graft_model.specs.Parts as model
 use Rattle.graft_model.specs.Parts.{RouterPart}
-use Rattle.graft_model.specs.RouterRows.{SegmentIn, IsLive}
+use Rattle.graft_model.specs.RouterRows.{SegmentIn}
 use Rattle.graft_model.specs.Setups.{routers_in, peerings_in}
 use Rattle.graft_model.specs.Steps.{Arrive, Stray}
 use Rattle.graft_runs.specs.Actors.{FarSide, actor_at}
@@ -38,7 +35,7 @@ use Rattle.router_core.specs.declared.place.Place.{Place}
 use Rattle.router_core.specs.declared.place.Place.TheVariants.{Vacant, Live, Shadow}
 use Rattle.router_core.proofs.Dids.{did_same, same_router}
 use Rattle.router_core.proofs.Kept.{one_or_other, places_at, placed_here, placed_else, rest_of, rest_on, live_is, stays_itself}
-use Rattle.router_core.proofs.Takings.{drops, all_stay, takes_then}
+use Rattle.router_core.proofs.Takings.{drops, takes_then}
 
 module _ (f : Fields) (a b : Post (Item RunningSession)) (from p : ℕ) (g : Segment) (keeps : Keeps f) where
   -- a segment of no far side

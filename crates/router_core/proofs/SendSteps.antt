@@ -1,9 +1,9 @@
 -- The retransmission turn, the new slices and the answer of the session at a place.
-use Rattle.std.proofs.Common.{◌≡◌, ℕ, ◌+◌, ◌-◌, ◌<◌, ◌≤◌, List, [], ◌∷◌, length, Option, option_map, Some, None, Bool, true, false, ◌⊎◌, inl, inr, refl, sym, ap, subst, ◌∙◌, arith, set}
-use Rattle.std.specs.Prelude.{nat_lt, if◌then◌else◌, IsNone, IfNone, IsSome, ◌↔◌, Result, Ok, Err, IfOk, OnOk}
+use Rattle.std.proofs.Common.{◌≡◌, ℕ, ◌+◌, ◌<◌, ◌≤◌, [], ◌∷◌, length, Option, option_map, Some, None, Bool, true, false, ◌⊎◌, inl, inr, refl, sym, ap, subst, ◌∙◌, arith, set}
+use Rattle.std.specs.Prelude.{nat_lt, if◌then◌else◌, IsNone, IfNone, ◌↔◌, Result, Ok, Err, IfOk, OnOk}
 use Rattle.std.proofs.lemmas.Bool.{cases_lt, lt-ltb, le-ltb}
 use Rattle.ring_net.specs.declared.post.Post.{Post}
-use Rattle.tcp_seq.specs.Endpoint.{Endpoint, PlacedSegment, EmitsNext, EmitsAgain, EmitsAnswer, EmitsSlice, next_length, again_length}
+use Rattle.tcp_seq.specs.Endpoint.{Endpoint, PlacedSegment, EmitsNext, EmitsAgain, EmitsSlice, next_length, again_length}
 use Rattle.tcp_seq.specs.Numbers.{offset_from}
 use Rattle.tcp_seq.specs.declared.segment.Segment.{Segment}
 use Rattle.graft_steps.specs.declared.item.Item.{Item}
@@ -16,13 +16,12 @@ use Rattle.graft_model.specs.Setups.{routers_in}
 use Rattle.graft_model.specs.Slices.{EmitsAt}
 use Rattle.graft_model.specs.Parts as model
 use Rattle.graft_actors.specs.Emissions.{Tally, reach_of}
-use Rattle.graft_actors.specs.Items.{home_first}
 use Rattle.graft_actors.specs.Notes.{WroteOne}
 use Rattle.rib_stages.specs.Values.{rib_of, table_at}
 use Rattle.router_core.specs.Parts.{Keeps, KeepsPlace, IsOfPeering}
 use Rattle.router_core.specs.Places.{place_of, place_at, order_of}
 use Rattle.router_core.specs.Sending.{AtPlace, SentAgain, SentNext, SentAnswer, IsOutletOf}
-use Rattle.router_core.specs.Stages.{IsLevel, PlaceGoes, again_at, answer_at}
+use Rattle.router_core.specs.Stages.{IsLevel, again_at, answer_at}
 use Rattle.router_core.specs.Visits.{Stage, Visits, SameButPlaces, Answers, SlicesOut, AllNewOut, answering, sending_again, slicing}
 use Rattle.router_core.specs.declared.fields.Fields.{Fields}
 use Rattle.router_core.specs.declared.place.Place.{Place}

@@ -1,5 +1,5 @@
 -- What a router keeps while its stages change it.
-use Rattle.std.proofs.Common.{◌≡◌, ℕ, ◌≤◌, length, is_some, false, refl, sym, ap, subst, ◌∙◌}
+use Rattle.std.proofs.Common.{◌≡◌, ℕ, length, is_some, false, refl, sym, ap, subst, ◌∙◌}
 use Rattle.std.specs.FinMap as map
 use Rattle.bgp_types.specs.Prefixes.{PrefixValue}
 use Rattle.bgp_types.specs.Tables.{prefix_cmp}

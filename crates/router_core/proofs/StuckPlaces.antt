@@ -1,21 +1,20 @@
--- Whether the session at a place is stuck.
-use Rattle.std.proofs.Common.{◌≡◌, ℕ, zero, suc, ◌+◌, ◌<◌, ◌≤◌, List, [], ◌∷◌, length, Option, option_map, Some, None, Bool, refl, sym, ap, subst, ◌∙◌, arith, inl, inr}
+-- Whether the session at a place is stuck: whether its next update has room, and a KEEPALIVE.
+use Rattle.std.proofs.Common.{◌≡◌, ℕ, ◌+◌, ◌<◌, ◌≤◌, [], length, Option, option_map, Some, None, refl, sym, ap, subst, ◌∙◌, arith, inl, inr}
 use Rattle.std.proofs.lemmas.Bool.{cases_lt}
 use Rattle.bgp_story.specs.Legal.{is_wide}
 use Rattle.graft_steps.specs.declared.order.GraftIds.{GraftIds}
-use Rattle.session_value.specs.Sessions.{SessionValue, state, peering_of}
+use Rattle.session_value.specs.Sessions.{SessionValue, peering_of}
 use Rattle.bgp_session.specs.Running.{RunningSession}
-use Rattle.tell_plan.specs.Plans.{IsNext, IsPlan, IsWritableFor}
+use Rattle.tell_plan.specs.Plans.{IsWritableFor}
 use Rattle.tell_plan.specs.declared.batch.Batch.{Batch}
 use Rattle.graft_model.specs.Decisions.{to_tell}
 use Rattle.graft_model.specs.Parts as model
 use Rattle.graft_model.specs.Parts.{RouterPart}
 use Rattle.graft_model.specs.RouterRows.{IsLive, IsToTell}
-use Rattle.graft_model.specs.Setups.{Setup}
-use Rattle.router_core.specs.Parts.{router_part, Keeps}
+use Rattle.router_core.specs.Parts.{router_part}
 use Rattle.router_core.specs.Places.{order_of, place_of, place_at}
-use Rattle.router_core.specs.Putting.{NextAt, PlannedAt}
-use Rattle.router_core.specs.Updates.{IsNextUpdate, IsStuck, IsStuckAt, StuckAnswer, length_with}
+use Rattle.router_core.specs.Putting.{NextAt, PlannedAt, TimeAnswer}
+use Rattle.router_core.specs.Updates.{IsNextUpdate, IsStuck, IsStuckAt, IsStuckInTime, HasNoRoomAt, RoomAnswer, StuckAnswer, length_with}
 use Rattle.router_core.specs.declared.fields.Fields.{Fields}
 use Rattle.router_core.specs.declared.place.Place.{Place}
 use Rattle.router_core.specs.declared.place.Place.TheVariants.{Vacant, Live, Shadow}
@@ -31,18 +30,18 @@ module _ (f : Fields) (n : ℕ) where
   record StuckHere (s : RunningSession) (m : ℕ) : Type 0 where
     pub stuck : IsStuck f.known.setup f.number.0 (router_part f) n s.session m
 
-  stuck_here : (s : RunningSession) (o : Option GraftIds) (m : ℕ) → place_at f.places.items n ≡ Live s o → IsStuckAt f.known.setup f.number.0 (router_part f) n m → IsStuck f.known.setup f.number.0 (router_part f) n s.session m
+  stuck_here : (s : RunningSession) (o : Option GraftIds) (m : ℕ) → place_at f.places.items n ≡ Live s o → HasNoRoomAt f.known.setup f.number.0 (router_part f) n m → IsStuck f.known.setup f.number.0 (router_part f) n s.session m
   stuck_here s o m is x =
       subst (λ (v : SessionValue). IsStuck f.known.setup f.number.0 (router_part f) n v m) (live_is x.session s.session x.order (option_map order_of o) (sym x.live.is ∙ ap place_of is)) x.stuck
 
-  pub vacant_free : (m : ℕ) → place_at f.places.items n ≡ Vacant → ¬ IsStuckAt f.known.setup f.number.0 (router_part f) n m
+  pub vacant_free : (m : ℕ) → place_at f.places.items n ≡ Vacant → ¬ HasNoRoomAt f.known.setup f.number.0 (router_part f) n m
   vacant_free m is x = let e : model.Vacant ≡ model.Live x.session x.order = sym (ap place_of is) ∙ x.live.is in absurd cc
 
-  shadow_free : (m : ℕ) (away : GraftIds) → place_at f.places.items n ≡ Shadow away → ¬ IsStuckAt f.known.setup f.number.0 (router_part f) n m
+  shadow_free : (m : ℕ) (away : GraftIds) → place_at f.places.items n ≡ Shadow away → ¬ HasNoRoomAt f.known.setup f.number.0 (router_part f) n m
   shadow_free m away is x = let e : model.Shadow away.graft ≡ model.Live x.session x.order = sym (ap place_of is) ∙ x.live.is in absurd cc
 
   -- nothing is planned
-  pub free_of_plan : (place : Place) → place_at f.places.items n ≡ place → PlannedAt f.known.setup f.number.0 (router_part f) n place [] → StuckAnswer f.known.setup f.number.0 (router_part f) n None
+  pub free_of_plan : (place : Place) → place_at f.places.items n ≡ place → PlannedAt f.known.setup f.number.0 (router_part f) n place [] → RoomAnswer f.known.setup f.number.0 (router_part f) n None
   free_of_plan Vacant is plan m x = vacant_free m is x
   free_of_plan (Live s o) is plan m x = let stuck = stuck_here s o m is x in plan stuck.next.first stuck.next.least.is
   free_of_plan (Shadow away) is plan m x = shadow_free m away is x
@@ -52,13 +51,13 @@ module _ (f : Fields) (n : ℕ) where
     one s m next stuck = next_one (IsToTell f.known.setup f.number.0 (router_part f) n s.session) (to_tell f.known.setup f.number.0 (router_part f) s.session) (is_wide (peering_of s.session.config) s.session.story) stuck.batch batch stuck.next next
 
     -- the next UPDATE can't be written
-    pub free_unwritable : (place : Place) → place_at f.places.items n ≡ place → NextAt f.known.setup f.number.0 (router_part f) n place batch → ¬ IsWritableFor batch → StuckAnswer f.known.setup f.number.0 (router_part f) n None
+    pub free_unwritable : (place : Place) → place_at f.places.items n ≡ place → NextAt f.known.setup f.number.0 (router_part f) n place batch → ¬ IsWritableFor batch → RoomAnswer f.known.setup f.number.0 (router_part f) n None
     free_unwritable Vacant is next not m x = absurd next
     free_unwritable (Live s o) is next not m x = let stuck = stuck_here s o m is x in not (subst IsWritableFor (one s m next.1 stuck) stuck.writable)
     free_unwritable (Shadow away) is next not m x = absurd next
 
     -- it has room
-    pub free_with_room : (s : RunningSession) (o : Option GraftIds) → place_at f.places.items n ≡ Live s o → NextAt f.known.setup f.number.0 (router_part f) n (Live s o) batch → length_with s.session batch ≤ 1044480 → StuckAnswer f.known.setup f.number.0 (router_part f) n None
+    pub free_with_room : (s : RunningSession) (o : Option GraftIds) → place_at f.places.items n ≡ Live s o → NextAt f.known.setup f.number.0 (router_part f) n (Live s o) batch → length_with s.session batch ≤ 1044480 → RoomAnswer f.known.setup f.number.0 (router_part f) n None
     free_with_room s o is next room m x =
         let stuck = stuck_here s o m is x in
         over (length_with s.session batch) m (stuck.size ∙ ap (length_with s.session) (one s m next.1 stuck)) room stuck.above
@@ -68,7 +67,7 @@ module _ (f : Fields) (n : ℕ) where
 
     -- it has none
     pub stuck_there : (s : RunningSession) (o : Option GraftIds) → place_at f.places.items n ≡ Live s o → NextAt f.known.setup f.number.0 (router_part f) n (Live s o) batch → IsWritableFor batch → 1044480 < length_with s.session batch
-        → StuckAnswer f.known.setup f.number.0 (router_part f) n (Some (length_with s.session batch))
+        → RoomAnswer f.known.setup f.number.0 (router_part f) n (Some (length_with s.session batch))
     stuck_there s o is next writable above = record {
       session = s.session;
       order = option_map order_of o;
@@ -77,17 +76,53 @@ module _ (f : Fields) (n : ℕ) where
     }
 
 module _ (f : Fields) (n len : ℕ) (batch : Batch) (lens : (s : RunningSession) (o : Option GraftIds) → place_at f.places.items n ≡ Live s o → len ≡ length_with s.session batch) where
-  pub stuck_by_place : (place : Place) → place_at f.places.items n ≡ place → NextAt f.known.setup f.number.0 (router_part f) n place batch → IsWritableFor batch → 1044480 < len → StuckAnswer f.known.setup f.number.0 (router_part f) n (Some len)
+  pub stuck_by_place : (place : Place) → place_at f.places.items n ≡ place → NextAt f.known.setup f.number.0 (router_part f) n place batch → IsWritableFor batch → 1044480 < len → RoomAnswer f.known.setup f.number.0 (router_part f) n (Some len)
   stuck_by_place Vacant is next writable above = absurd next
   stuck_by_place (Live s o) is next writable above =
       let e = lens s o is in
-      subst (λ (k : ℕ). StuckAnswer f.known.setup f.number.0 (router_part f) n (Some k)) (sym e) (stuck_there f n batch s o is next writable (subst (λ (k : ℕ). 1044480 < k) e above))
+      subst (λ (k : ℕ). RoomAnswer f.known.setup f.number.0 (router_part f) n (Some k)) (sym e) (stuck_there f n batch s o is next writable (subst (λ (k : ℕ). 1044480 < k) e above))
   stuck_by_place (Shadow away) is next writable above = absurd next
 
-  pub free_by_place : (place : Place) → place_at f.places.items n ≡ place → NextAt f.known.setup f.number.0 (router_part f) n place batch → len ≤ 1044480 → StuckAnswer f.known.setup f.number.0 (router_part f) n None
+  pub free_by_place : (place : Place) → place_at f.places.items n ≡ place → NextAt f.known.setup f.number.0 (router_part f) n place batch → len ≤ 1044480 → RoomAnswer f.known.setup f.number.0 (router_part f) n None
   free_by_place Vacant is next room = absurd next
   free_by_place (Live s o) is next room = free_with_room f n batch s o is next (subst (λ (k : ℕ). k ≤ 1044480) (lens s o is) room)
   free_by_place (Shadow away) is next room = absurd next
+
+-- ---- no room for the next update, or else for a KEEPALIVE
+
+module _ (f : Fields) (n : ℕ) where
+  no_room_stuck : (m : ℕ) → HasNoRoomAt f.known.setup f.number.0 (router_part f) n m → IsStuckAt f.known.setup f.number.0 (router_part f) n m
+  no_room_stuck m x = record { session = x.session; order = x.order; live = x.live; stuck = inl x.stuck }
+
+  pub some_stuck : (m : ℕ) → RoomAnswer f.known.setup f.number.0 (router_part f) n (Some m) → StuckAnswer f.known.setup f.number.0 (router_part f) n (Some m)
+  some_stuck m x = no_room_stuck m x
+
+  nothing_stuck : (m : ℕ) → place_at f.places.items n ≡ Vacant → ¬ IsStuckAt f.known.setup f.number.0 (router_part f) n m
+  nothing_stuck m is x = let e : model.Vacant ≡ model.Live x.session x.order = sym (ap place_of is) ∙ x.live.is in absurd cc
+
+  shadow_stuck : (m : ℕ) (away : GraftIds) → place_at f.places.items n ≡ Shadow away → ¬ IsStuckAt f.known.setup f.number.0 (router_part f) n m
+  shadow_stuck m away is x = let e : model.Shadow away.graft ≡ model.Live x.session x.order = sym (ap place_of is) ∙ x.live.is in absurd cc
+
+  module _ (room : RoomAnswer f.known.setup f.number.0 (router_part f) n None) where
+    has_room : (s : SessionValue) (o : Option model.Order) → IsLive (router_part f) n s o → (m : ℕ) → ¬ IsStuck f.known.setup f.number.0 (router_part f) n s m
+    has_room s o live m x = room m (record { session = s; order = o; live = live; stuck = x })
+
+    late_stuck : (s : RunningSession) (o : Option GraftIds) (m : ℕ) → place_at f.places.items n ≡ Live s o → IsStuckInTime s.session m → IsStuckAt f.known.setup f.number.0 (router_part f) n m
+    late_stuck s o m is late =
+        let live : IsLive (router_part f) n s.session (option_map order_of o) = record { is = ap place_of is } in
+        record { session = s.session; order = option_map order_of o; live = live; stuck = inr (has_room s.session (option_map order_of o) live, late) }
+
+    in_time : (s : RunningSession) (o : Option GraftIds) (m : ℕ) → place_at f.places.items n ≡ Live s o → IsStuckAt f.known.setup f.number.0 (router_part f) n m → IsStuckInTime s.session m
+    in_time s o m is x = subst (λ (v : SessionValue). IsStuckInTime v m) (live_is x.session s.session x.order (option_map order_of o) (sym x.live.is ∙ ap place_of is))
+        (elim x.stuck [ inl stuck ↦ absurd (has_room x.session x.order x.live m stuck) | inr late ↦ late.1 ])
+
+    pub late_by_place : (place : Place) → place_at f.places.items n ≡ place → (answer : Option ℕ) → TimeAnswer place answer → StuckAnswer f.known.setup f.number.0 (router_part f) n answer
+    late_by_place Vacant is None late = λ m. nothing_stuck m is
+    late_by_place Vacant is (Some k) late = absurd (let e : ⊥ = cc in e)
+    late_by_place (Live s o) is None late = λ m x. late m (in_time s o m is x)
+    late_by_place (Live s o) is (Some k) late = late_stuck s o k is late
+    late_by_place (Shadow away) is None late = λ m. shadow_stuck m away is
+    late_by_place (Shadow away) is (Some k) late = absurd (let e : ⊥ = cc in e)
 
 -- one place more
 pub none_more : (f : Fields) (n : ℕ) → ((p m : ℕ) → p < n → ¬ IsStuckAt f.known.setup f.number.0 (router_part f) p m) → StuckAnswer f.known.setup f.number.0 (router_part f) n None → (p m : ℕ) → p < n + 1 → ¬ IsStuckAt f.known.setup f.number.0 (router_part f) p m
@@ -103,5 +138,5 @@ none_more f n none here p m below x = elim (same_or_not n p) [
 pub none_behind : (f : Fields) (n : ℕ) → ((p m : ℕ) → p < n → ¬ IsStuckAt f.known.setup f.number.0 (router_part f) p m) → length f.places.items ≤ n → (p m : ℕ) → ¬ IsStuckAt f.known.setup f.number.0 (router_part f) p m
 none_behind f n none last p m x = elim (cases_lt p n) [
   | inl below ↦ none p m below x
-  | inr from ↦ vacant_free f p m (place_at_end f.places.items p (omega (arith, from, last))) x
+  | inr from ↦ nothing_stuck f p m (place_at_end f.places.items p (omega (arith, from, last))) x
 ]

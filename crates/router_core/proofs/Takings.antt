@@ -1,7 +1,7 @@
 -- What a router takes: an event that takes an item, and what follows it; and the items that it drops.
-use Rattle.std.proofs.Common.{◌≡◌, ℕ, ◌+◌, ◌<◌, ◌≤◌, List, [], ◌∷◌, Option, Some, None, refl, sym, ap, subst, ◌∙◌, arith, inl, inr, map}
+use Rattle.std.proofs.Common.{◌≡◌, ℕ, ◌<◌, List, [], ◌∷◌, Option, Some, None, refl, sym, ap, subst, ◌∙◌, arith, inl, inr, map}
 use Rattle.std.specs.List.{AllByRecursion}
-use Rattle.ring_net.specs.Deeds.{Deed, Replay, TakesNone}
+use Rattle.ring_net.specs.Deeds.{Deed, Replay}
 use Rattle.ring_net.specs.Posts.{actor_of, Wrote}
 use Rattle.ring_net.specs.declared.post.Post.{Post}
 use Rattle.ring_net.proofs.PostLaws.{wrote_then}
@@ -9,22 +9,21 @@ use Rattle.graft_steps.specs.declared.item.Item.{Item}
 use Rattle.graft_steps.specs.declared.item.Item.TheVariants as items
 use Rattle.graft_steps.specs.declared.order.GraftIds.{GraftIds}
 use Rattle.bgp_session.specs.Running.{RunningSession}
-use Rattle.graft_model.specs.Setups.{Setup, routers_in, peerings_in}
-use Rattle.graft_model.specs.Parts.{RouterPart}
+use Rattle.graft_model.specs.Setups.{Setup, routers_in}
 use Rattle.graft_model.specs.RouterRows.{RouterTaken, RouterSent}
 use Rattle.graft_model.specs.Codes.{router_code}
 use Rattle.graft_model.specs.Steps.{RouterEvent, router_row}
-use Rattle.graft_runs.specs.Actors.{ActorName, Router, FarSide, Operator, RouterIs, Thing, number_in, IsActor, actor_at}
+use Rattle.graft_runs.specs.Actors.{ActorName, Router, FarSide, Operator, Thing, number_in, IsActor, actor_at}
 use Rattle.graft_runs.specs.Makes.{HasCode, numbered, taken_by_router, sent_by_router}
-use Rattle.graft_runs.proofs.Numbers.{there, of_number, at_operator}
+use Rattle.graft_runs.proofs.Numbers.{of_number}
 use Rattle.graft_actors.specs.Acts.{acts, IsWelcome, MayComeFrom, SendsFit, things}
 use Rattle.graft_actors.specs.Emissions.{Tally, nothing}
 use Rattle.graft_actors.specs.Items.{thing_of}
 use Rattle.graft_actors.specs.Notes.{deed_of, WroteOne}
 use Rattle.router_core.specs.Parts.{router_part, own_part, carried, Keeps}
 use Rattle.router_core.specs.Places.{RunsAt}
-use Rattle.router_core.specs.Rounds.{AreOf, CarefulRouter, router_tally, RouterRound, SameRouter, Did}
-use Rattle.router_core.specs.Takes.{Stays, TakesRows, Took, TakesIt, IsOther}
+use Rattle.router_core.specs.Rounds.{CarefulRouter, router_tally, RouterRound, SameRouter, Did}
+use Rattle.router_core.specs.Takes.{Stays, TakesIt, IsOther}
 use Rattle.router_core.specs.declared.fields.Fields.{Fields}
 use Rattle.router_core.proofs.Dids.{same_router, router_then, round_at}
 use Rattle.router_core.proofs.Kept.{live_is, stays_itself}

@@ -1,9 +1,8 @@
 -- Routers are told, one prefix after another.
-use Rattle.std.proofs.Common.{◌≡◌, ◌≢◌, ℕ, zero, suc, ◌+◌, ◌<◌, ◌≤◌, List, [], ◌∷◌, ◌++◌, length, Option, Some, None, Bool, true, false, is_some, ◌⊎◌, inl, inr, refl, sym, ap, subst, ◌∙◌, arith}
+use Rattle.std.proofs.Common.{◌≡◌, ◌≢◌, ℕ, zero, suc, ◌+◌, ◌<◌, ◌≤◌, List, [], ◌∷◌, ◌++◌, length, Option, true, false, inl, inr, refl, sym, ap, subst, ◌∙◌, arith}
 use Rattle.std.specs.FinMap as map
-use Rattle.std.specs.Prelude.{slice_get}
 use Rattle.bgp_types.specs.Prefixes.{PrefixValue}
-use Rattle.bgp_types.specs.Tables.{prefix_cmp, first_above}
+use Rattle.bgp_types.specs.Tables.{prefix_cmp}
 use Rattle.bgp_types.specs.declared.attrs.Route.{Route}
 use Rattle.route_policy.specs.Telling.{tell_in}
 use Rattle.ring_net.specs.declared.post.Post.{Post}
@@ -11,20 +10,18 @@ use Rattle.graft_steps.specs.declared.item.Item.{Item}
 use Rattle.graft_steps.specs.declared.item.Item.TheVariants as items
 use Rattle.bgp_session.specs.Running.{RunningSession}
 use Rattle.session_value.specs.Sets.{Prefixes, has}
-use Rattle.rib_stages.specs.Values.{table_at, rib_of}
+use Rattle.rib_stages.specs.Values.{table_at}
 use Rattle.rib_stages.proofs.Drops.{fewer_left}
 use Rattle.graft_model.specs.Points.{at}
 use Rattle.graft_model.specs.Parts.{RouterPart, Told}
 use Rattle.graft_model.specs.RouterRows.{MeshTo}
 use Rattle.graft_model.specs.Setups.{routers_in}
-use Rattle.graft_model.specs.Steps.{RouterEvent, Tell}
+use Rattle.graft_model.specs.Steps.{Tell}
 use Rattle.graft_runs.specs.Actors.{Router, MeshItem}
-use Rattle.graft_actors.specs.Emissions.{Tally}
 use Rattle.graft_actors.specs.Notes.{WroteOne}
 use Rattle.std.proofs.lemmas.Bool.{cases_lt}
 use Rattle.router_core.specs.Parts.{router_part, Keeps}
-use Rattle.router_core.specs.Rounds.{Did}
-use Rattle.router_core.specs.Stages.{NoRounds, TellsAll}
+use Rattle.router_core.specs.Stages.{TellsAll}
 use Rattle.router_core.specs.Tellings.{TellsOne, TellsSome, TellsRouter, TellsFirst}
 use Rattle.router_core.specs.Turned.{rounds_on}
 use Rattle.router_core.specs.declared.fields.Fields.{Fields}

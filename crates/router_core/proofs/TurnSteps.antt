@@ -1,10 +1,9 @@
 -- A turn is its stages, one after another.
-use Rattle.std.proofs.Common.{◌≡◌, ℕ, zero, suc, ◌+◌, ◌<◌, ◌≤◌, List, [], ◌∷◌, ◌++◌, Option, option_map, Some, None, Bool, true, false, refl, sym, ap, subst, ◌∙◌, arith, inl, inr, ◌⊎◌, append_assoc}
+use Rattle.std.proofs.Common.{◌≡◌, ℕ, ◌+◌, ◌<◌, ◌≤◌, List, [], ◌∷◌, ◌++◌, Option, option_map, Some, None, Bool, true, false, refl, sym, ap, subst, ◌∙◌, arith, inl, inr, ◌⊎◌, append_assoc}
 use Rattle.std.proofs.lemmas.List.{append-nil}
 use Rattle.std.specs.Prelude.{nat_lt, if◌then◌else◌}
-use Rattle.std.specs.FinMap as map
 use Rattle.std.proofs.lemmas.Bool.{lt-ltb, le-ltb}
-use Rattle.tcp_seq.specs.Endpoint.{Endpoint, again_length}
+use Rattle.tcp_seq.specs.Endpoint.{again_length}
 use Rattle.ring_net.specs.declared.post.Post.{Post}
 use Rattle.graft_steps.specs.declared.item.Item.{Item}
 use Rattle.graft_steps.specs.declared.order.GraftIds.{GraftIds}
@@ -17,18 +16,18 @@ use Rattle.graft_model.specs.Parts as model
 use Rattle.graft_model.specs.Parts.{RouterPart}
 use Rattle.graft_model.specs.Steps.{RouterEvent}
 use Rattle.graft_actors.specs.Emissions.{Tally, IsRested, nothing, reach_of}
-use Rattle.router_core.specs.Parts.{router_part, Keeps, KeepsPlace}
+use Rattle.router_core.specs.Parts.{router_part, KeepsPlace}
 use Rattle.router_core.specs.Places.{place_of, place_at, order_of, RunsAt}
 use Rattle.router_core.specs.Rested.{IsDone, IsQuietPlace, RestedRouter}
-use Rattle.router_core.specs.Rounds.{SameRouter, Did}
+use Rattle.router_core.specs.Rounds.{Did}
 use Rattle.router_core.specs.Stages.{PlaceGoes, GraftGoes, PutsMore, IsLevel, EmitsAll, PassesWhereItMay, again_at, answer_at, with_again, with_answers, SendsAgain, PassesRounds, BeginsGrafts, DecidesAll, TellsAll, PutsAll, Emits}
-use Rattle.router_core.specs.Turned.{rounds_on, round_on, TurnsSession, TurnsOnce}
+use Rattle.router_core.specs.Turned.{rounds_on, TicksFirst, TurnsSession, TurnsOnce}
 use Rattle.router_core.specs.Updates.{IsStuck, IsUnwritable}
 use Rattle.router_core.specs.declared.fields.Fields.{Fields}
 use Rattle.router_core.specs.declared.place.Place.{Place}
 use Rattle.router_core.specs.declared.place.Place.TheVariants.{Vacant, Live, Shadow}
 use Rattle.router_core.proofs.Dids.{did_same, did_then}
-use Rattle.router_core.proofs.RoundLists.{rounds_on-append}
+use Rattle.router_core.proofs.RoundLists.{no_puts_then, rounds_on-append}
 
 -- ---- rounds
 
@@ -224,15 +223,29 @@ module _ (f a b c d e g h k : Fields) (p0 p1 p2 p3 p4 p5 p6 p7 : Post (Item Runn
       (did_then e g k p4 p5 p7 t t tally tells.events (puts.events ++ emits.events) (tells.did t)
       (did_then g h k p5 p6 p7 t t tally puts.events emits.events (puts.did t) (emits.did t)))))))
 
+  -- the events behind the stage of rounds
+  abbrev behind : List RouterEvent
+  behind = grafts.events ++ (decides.events ++ (tells.events ++ (puts.events ++ emits.events)))
+
+  no_rounds_behind : (p : ℕ) → rounds_on p behind ≡ []
+  no_rounds_behind p =
+      rounds_before p grafts.events (decides.events ++ (tells.events ++ (puts.events ++ emits.events))) (grafts.no_rounds p) ∙ rounds_before p decides.events (tells.events ++ (puts.events ++ emits.events)) (decides.no_rounds p)
+      ∙ rounds_before p tells.events (puts.events ++ emits.events) (tells.no_rounds p) ∙ rounds_before p puts.events emits.events (puts.no_rounds p) ∙ emits.no_rounds p
+
+  in_order : TicksFirst events
+  in_order = record {
+    first = again.events ++ rounds.events;
+    rest = behind;
+    split = sym (append_assoc again.events rounds.events behind);
+    no_puts = no_puts_then again.events rounds.events again.no_puts rounds.no_puts;
+    no_rounds = no_rounds_behind;
+  }
+
   -- the rounds of the turn are those of its stage
   rounds_are : (p : ℕ) → rounds_on p events ≡ rounds_on p rounds.events
   rounds_are p =
-      let tail : rounds_on p (grafts.events ++ (decides.events ++ (tells.events ++ (puts.events ++ emits.events)))) ≡ [] =
-      rounds_before p grafts.events (decides.events ++ (tells.events ++ (puts.events ++ emits.events))) (grafts.no_rounds p) ∙ rounds_before p decides.events (tells.events ++ (puts.events ++ emits.events)) (decides.no_rounds p)
-      ∙ rounds_before p tells.events (puts.events ++ emits.events) (tells.no_rounds p) ∙ rounds_before p puts.events emits.events (puts.no_rounds p) ∙ emits.no_rounds p in
-      rounds_before p again.events (rounds.events ++ (grafts.events ++ (decides.events ++ (tells.events ++ (puts.events ++ emits.events))))) (again.no_rounds p)
-      ∙ rounds_on-append p rounds.events (grafts.events ++ (decides.events ++ (tells.events ++ (puts.events ++ emits.events))))
-      ∙ ap (λ (xs : List ℕ). rounds_on p rounds.events ++ xs) tail ∙ append-nil (rounds_on p rounds.events)
+      rounds_before p again.events (rounds.events ++ behind) (again.no_rounds p) ∙ rounds_on-append p rounds.events behind
+      ∙ ap (λ (xs : List ℕ). rounds_on p rounds.events ++ xs) (no_rounds_behind p) ∙ append-nil (rounds_on p rounds.events)
 
   session_turns : (p : ℕ) (s u : RunningSession) (o q : Option GraftIds) → RunsAt f.places.items p s o → RunsAt k.places.items p u q → TurnsSession k.turns p events (tally p) s u
   session_turns p s u o q before after =
@@ -291,6 +304,7 @@ module _ (f a b c d e g h k : Fields) (p0 p1 p2 p3 p4 p5 p6 p7 : Post (Item Runn
         coded = did_all.coded;
         tally = tally;
         round = did_all.round;
+        in_order = in_order;
         rested = rested;
         few = λ p. (again_few (place_at a.places.items p), answer_few (place_at h.places.items p));
         sessions = session_turns;

@@ -1,27 +1,23 @@
 -- A stage goes from place to place.
-use Rattle.std.proofs.Common.{◌≡◌, ◌≢◌, ℕ, zero, suc, ◌+◌, ◌<◌, ◌≤◌, List, [], ◌∷◌, ◌++◌, length, Bool, true, false, ◌⊎◌, inl, inr, refl, sym, ap, subst, ◌∙◌, arith, set, get_or, Decides}
-use Rattle.std.specs.Prelude.{nat_lt, if◌then◌else◌, ◌==◌}
+use Rattle.std.proofs.Common.{◌≡◌, ◌≢◌, ℕ, zero, suc, ◌+◌, ◌<◌, ◌≤◌, List, [], ◌∷◌, ◌++◌, length, Bool, ◌⊎◌, inl, inr, refl, sym, ap, subst, ◌∙◌, arith, set}
+use Rattle.std.specs.Prelude.{nat_lt, if◌then◌else◌}
 use Rattle.std.proofs.lemmas.List.{append-nil, get_or-set_same, get_or-set_other}
 use Rattle.std.proofs.lemmas.Bool.{cases_lt, lt-ltb, le-ltb, eq-eqb, ne_eqb}
 use Rattle.ring_net.specs.declared.post.Post.{Post}
 use Rattle.graft_steps.specs.declared.item.Item.{Item}
 use Rattle.bgp_session.specs.Running.{RunningSession}
 use Rattle.graft_model.specs.Points.{at}
-use Rattle.graft_model.specs.Parts as model
-use Rattle.graft_model.specs.Parts.{RouterPart}
-use Rattle.graft_model.specs.Steps.{RouterEvent}
 use Rattle.graft_actors.specs.Emissions.{Tally}
-use Rattle.router_core.specs.Parts.{router_part, Keeps}
+use Rattle.router_core.specs.Parts.{Keeps}
 use Rattle.router_core.specs.Places.{place_of, place_at}
-use Rattle.router_core.specs.Rounds.{SameRouter, Did}
-use Rattle.router_core.specs.Stages.{NoRounds}
-use Rattle.router_core.specs.Turned.{rounds_on}
+use Rattle.router_core.specs.Rounds.{Did}
+use Rattle.router_core.specs.Turned.{NoRounds, rounds_on}
 use Rattle.router_core.specs.Visits.{Stage, Visits, Visited}
 use Rattle.router_core.specs.declared.fields.Fields.{Fields}
 use Rattle.router_core.specs.declared.place.Place.{Place}
 use Rattle.router_core.specs.declared.place.Place.TheVariants.{Vacant}
 use Rattle.router_core.proofs.Dids.{did_same, did_then}
-use Rattle.router_core.proofs.RoundLists.{rounds_on-append}
+use Rattle.router_core.proofs.RoundLists.{no_puts_then, rounds_on-append}
 
 -- ---- numbers
 
@@ -101,6 +97,7 @@ module _ (stage : Stage) (a b c : Fields) (p q r : Post (Item RunningSession)) (
     events = before.events ++ now.events;
     did = λ t. did_then a b c p q r t (counted_by stage a.places.items t n) (counted_by stage a.places.items t (n + 1)) before.events now.events (before.did t)
         (subst (λ (u : ℕ → Tally). Did b q (counted_by stage a.places.items t n) now.events c r u) (λ i k. counted_then t k i) (now.did (counted_by stage a.places.items t n)));
+    no_puts = no_puts_then before.events now.events before.no_puts now.no_puts;
     done = done_then;
     left = left_then;
     same = same_then a b c before.same now.same;
@@ -111,6 +108,7 @@ pub visited_first : (stage : Stage) (f : Fields) (p : Post (Item RunningSession)
 visited_first stage f p same keeps = record {
   events = [];
   did = λ t. subst (λ (u : ℕ → Tally). Did f p t [] f p u) (λ i k. sym (counted_from stage f.places.items t 0 k (omega arith)) i) (did_same f f p t (record { setup = refl; number = refl }) refl);
+  no_puts = tt;
   done = λ k below. absurd (omega (arith, below));
   left = λ k from. (refl, refl);
   same = same;
@@ -159,6 +157,7 @@ module _ (x y z : Stage) (a b c : Fields) (p q r : Post (Item RunningSession)) (
     did = λ t. subst (λ (u : ℕ → Tally). Did a p t (before.events ++ now.events) c r u) (λ i k. counted_twice counts t k i)
         (did_then a b c p q r t (at t n (x.count (place_at a.places.items n) (t n))) (at (at t n (x.count (place_at a.places.items n) (t n))) n (y.count (place_at b.places.items n) (at t n (x.count (place_at a.places.items n) (t n)) n)))
         before.events now.events (before.did t) (now.did (at t n (x.count (place_at a.places.items n) (t n)))));
+    no_puts = no_puts_then before.events now.events before.no_puts now.no_puts;
     goes = subst (λ (k : List ℕ). z.Goes k (place_at a.places.items n) (place_at c.places.items n)) (sym (rounds_on-append n before.events now.events))
         (goes (rounds_on n before.events) (rounds_on n now.events) (place_at a.places.items n) (place_at b.places.items n) (place_at c.places.items n) before.goes now.goes);
     others = λ k not. ((now.others k not).0 ∙ (before.others k not).0, rounds_on-append k before.events now.events ∙ ap (λ (l : List ℕ). l ++ rounds_on k now.events) (before.others k not).1 ∙ (now.others k not).1);
@@ -171,6 +170,7 @@ pub visits_as : (x z : Stage) (a b : Fields) (p q : Post (Item RunningSession)) 
 visits_as x z a b p q n v goes counts same = record {
   events = v.events;
   did = λ t. subst (λ (c : Tally). Did a p t v.events b q (at t n c)) (counts (t n)) (v.did t);
+  no_puts = v.no_puts;
   goes = goes (rounds_on n v.events) v.goes;
   others = v.others;
   same = same;

@@ -1,5 +1,5 @@
 -- The places of a router that begins.
-use Rattle.std.specs.Prelude.{ℕ, ◌≡◌, ◌<◌, ◌==◌, List, [], ◌∷◌, length, Option, Some, None, if◌then◌else◌}
+use Rattle.std.specs.Prelude.{ℕ, ◌≡◌, ◌<◌, ◌==◌, List, [], ◌∷◌, length, None, if◌then◌else◌}
 use Rattle.bgp_story.specs.Legal.{IsPeering}
 use Rattle.session_value.specs.declared.config.SessionConfig.{SessionConfig}
 use Rattle.session_value.specs.Sessions.{begun, peering_of}

@@ -1,5 +1,5 @@
 -- Which configuration is that of a router of a laboratory.
-use Rattle.std.specs.Prelude.{ℕ, ◌≡◌, ◌<◌, ◌≤◌, ◌==◌, List, [], Bool, Option, Some, None, map, filter, option_map, unwrap_or, slice_get}
+use Rattle.std.specs.Prelude.{ℕ, ◌≡◌, ◌<◌, ◌≤◌, ◌==◌, List, Option, Some, None, map, filter, option_map, slice_get}
 use Rattle.std.specs.List.{find}
 use Rattle.std.specs.Str.{bytes_eq}
 use Rattle.bgp_types.specs.Prefixes.{PrefixValue}
@@ -7,7 +7,7 @@ use Rattle.rib_stages.specs.declared.config.RibConfig.{RibConfig}
 use Rattle.rib_stages.specs.Choosing as of_rib
 use Rattle.route_policy.specs.declared.rule.Rule.{Rule}
 use Rattle.session_value.specs.declared.config.SessionConfig.{SessionConfig}
-use Rattle.graft_model.specs.Setups.{Setup, PeeringSetup, cost_between, has_network, identifier_of, peerings_in, room_of, routers_in, rules_named}
+use Rattle.graft_model.specs.Setups.{Setup, cost_between, has_network, identifier_of, peerings_in, room_of, routers_in, rules_named}
 use Rattle.graft_actors.specs.Items.{home_first, remote_first}
 use Rattle.router_core.specs.declared.config.Firsts.{Firsts}
 use Rattle.router_core.specs.declared.config.NamedPolicy.{NamedPolicy}

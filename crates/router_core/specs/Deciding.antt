@@ -15,7 +15,7 @@ use Rattle.graft_actors.specs.Emissions.{Tally}
 use Rattle.router_core.specs.Parts.{Keeps}
 use Rattle.router_core.specs.Places.{place_of, place_at}
 use Rattle.router_core.specs.Rounds.{Did}
-use Rattle.router_core.specs.Stages.{NoRounds}
+use Rattle.router_core.specs.Turned.{NoRounds}
 use Rattle.router_core.specs.declared.fields.Fields.{Fields}
 
 -- At the first so many numbers a prefix is in the sets too, where its number passes the test.

@@ -3,7 +3,7 @@ use Rattle.std.specs.Prelude.{◌≡◌, false, Bool, ℕ, Some, None}
 use Rattle.std.proofs.Props.{props}
 use Rattle.session_value.specs.Sets.{Entries, Prefixes}
 use Rattle.graft_model.specs.Setups.{Setup}
-use Rattle.router_core.specs.Parts.{Keeps, KeepsPlace, IsOrderOf}
+use Rattle.router_core.specs.Parts.{Keeps, KeepsPlace}
 use Rattle.router_core.specs.declared.fields.Fields.{Fields}
 use Rattle.router_core.specs.declared.place.Place.{Place}
 use Rattle.router_core.specs.declared.place.Place.TheVariants.{Vacant, Live, Shadow}

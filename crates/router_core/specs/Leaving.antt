@@ -1,5 +1,5 @@
 -- What becomes of a stored graft.
-use Rattle.std.specs.Prelude.{ℕ, ◌≡◌, Option, Some, None}
+use Rattle.std.specs.Prelude.{◌≡◌, Some, None}
 use Rattle.graft_steps.specs.Refusals.{freeze_refusal}
 use Rattle.session_value.specs.Sessions.{state, hold_time}
 use Rattle.router_core.specs.declared.place.Place.{Place}

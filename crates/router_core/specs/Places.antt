@@ -1,5 +1,6 @@
 -- A router's places as it keeps them.
-use Rattle.std.specs.Prelude.{ℕ, ◌≡◌, ◌<◌, Bool, true, false, if◌then◌else◌, List, Option, Some, None, option_map, min, slice_index_or}
+use Rattle.std.specs.Prelude.{ℕ, ◌≡◌, Bool, true, false, if◌then◌else◌, List, [], ◌∷◌, Option, Some, None, option_map, min, slice_index_or}
+use Rattle.std.specs.List.{flat_map}
 use Rattle.bgp_session.specs.Running.{RunningSession}
 use Rattle.graft_steps.specs.declared.order.GraftIds.{GraftIds}
 use Rattle.graft_model.specs.Parts as model
@@ -48,3 +49,12 @@ abbrev pub lower_of : Option ℕ → Option ℕ → Option ℕ
 lower_of None other = other
 lower_of (Some n) None = Some n
 lower_of (Some n) (Some m) = Some (min n m)
+
+-- the sessions that are held, by rising peering
+abbrev pub session_in : Place → List RunningSession
+session_in Vacant = []
+session_in (Live running order) = running ∷ []
+session_in (Shadow away) = []
+
+abbrev pub sessions_in : List Place → List RunningSession
+sessions_in places = flat_map session_in places

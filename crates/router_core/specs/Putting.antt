@@ -1,31 +1,30 @@
 -- What is put on the session at a place.
-use Rattle.std.specs.Prelude.{ℕ, ◌≡◌, ◌≢◌, ◌<◌, ◌≤◌, List, [], ◌∷◌, length, Option, Some, None, Bool, true, false, MatchBool, fold}
-use Rattle.std.specs.FinMap as map
+use Rattle.std.specs.Prelude.{ℕ, ◌≡◌, ◌≢◌, ◌<◌, ◌≤◌, List, [], ◌∷◌, Option, Some, None, Bool, true, false, MatchBool}
 use Rattle.ring_net.specs.declared.post.Post.{Post}
 use Rattle.bgp_types.specs.declared.message.SessionState.TheVariants.{Established}
 use Rattle.bgp_types.specs.declared.message.Update.{Update}
 use Rattle.bgp_story.specs.Legal.{IsOneWay, is_wide}
 use Rattle.graft_steps.specs.declared.item.Item.{Item}
-use Rattle.session_value.specs.Cases.{Changes, PutsUpdate, update_for}
-use Rattle.session_value.specs.Points.{at}
+use Rattle.session_value.specs.Cases.{Changes, PutsUpdate}
 use Rattle.session_value.specs.Sessions.{SessionValue, state, peering_of}
 use Rattle.bgp_session.specs.Running.{RunningSession}
 use Rattle.bgp_session.specs.Steps.{offered_length}
 use Rattle.rib_stages.specs.Values.{table_at}
-use Rattle.tell_plan.specs.Plans.{IsPlan, IsWritableFor}
+use Rattle.tell_plan.specs.Plans.{IsPlan}
 use Rattle.tell_plan.specs.declared.batch.Batch.{Batch}
 use Rattle.graft_model.specs.Setups.{Setup}
 use Rattle.graft_model.specs.Parts.{RouterPart}
 use Rattle.graft_model.specs.RouterRows.{IsToTell}
 use Rattle.graft_model.specs.Decisions.{to_tell}
-use Rattle.graft_model.specs.Steps.{RouterEvent, Put}
+use Rattle.graft_model.specs.Steps.{RouterEvent}
 use Rattle.graft_actors.specs.Emissions.{Tally}
 use Rattle.router_core.specs.Parts.{router_part, Keeps}
 use Rattle.router_core.specs.Places.{place_at}
 use Rattle.router_core.specs.Rested.{IsDone}
 use Rattle.router_core.specs.Rounds.{Did}
-use Rattle.router_core.specs.Stages.{NoRounds, PlaceGoes, PutsMore}
-use Rattle.router_core.specs.Updates.{IsNextUpdate}
+use Rattle.router_core.specs.Stages.{PlaceGoes, PutsMore}
+use Rattle.router_core.specs.Turned.{NoRounds}
+use Rattle.router_core.specs.Updates.{IsNextUpdate, IsStuckInTime}
 use Rattle.router_core.specs.Visits.{SameButLeaving}
 use Rattle.router_core.specs.declared.fields.Fields.{Fields}
 use Rattle.router_core.specs.declared.place.Place.{Place}
@@ -72,6 +71,13 @@ abbrev pub NextAt : Setup → ℕ → RouterPart → ℕ → Place → Batch →
 NextAt setup r part p Vacant batch = ⊥
 NextAt setup r part p (Live s order) batch = (state s.session ≡ Established) × IsNextUpdate setup r part p s.session batch
 NextAt setup r part p (Shadow away) batch = ⊥
+
+-- the length at which no round may pass on the session that is live there, if it is so
+abbrev pub TimeAnswer : Place → Option ℕ → Type 0
+TimeAnswer Vacant answer = answer ≡ None
+TimeAnswer (Live s order) None = (n : ℕ) → ¬ IsStuckInTime s.session n
+TimeAnswer (Live s order) (Some n) = IsStuckInTime s.session n
+TimeAnswer (Shadow away) answer = answer ≡ None
 
 -- ---- at one place
 

@@ -1,5 +1,5 @@
 -- What sessions take in and read at their places, what is due then, and what a router keeps meanwhile.
-use Rattle.std.specs.Prelude.{ℕ, ◌≡◌, ◌≢◌, ◌<◌, ◌≤◌, ◌^◌, ◌||◌, Bool, true, false, List, [], ◌∷◌, length, Option, None, Some, is_some, slice_set}
+use Rattle.std.specs.Prelude.{ℕ, ◌≡◌, ◌≢◌, ◌<◌, ◌≤◌, ◌^◌, ◌||◌, Bool, true, false, List, [], ◌∷◌, length, Option, None, is_some, slice_set}
 use Rattle.std.specs.FinMap as map
 use Rattle.std.specs.List.{list_any}
 use Rattle.bgp_types.specs.Prefixes.{PrefixValue, same_prefix}
@@ -11,7 +11,7 @@ use Rattle.tcp_seq.specs.declared.segment.Segment.{Segment}
 use Rattle.tcp_seq.specs.declared.segment.Way.TheVariants.{Home}
 use Rattle.session_value.specs.declared.config.SessionConfig.{SessionConfig}
 use Rattle.session_value.specs.Sessions.{unread}
-use Rattle.session_value.specs.Sets.{BestRoutes, Entries, Prefixes, has}
+use Rattle.session_value.specs.Sets.{BestRoutes, Prefixes, has}
 use Rattle.session_value.specs.Ties.{IsTied}
 use Rattle.rib_stages.specs.Values.{rib_of, table_at}
 use Rattle.bgp_session.specs.Fronts.{CantRead}
@@ -21,7 +21,7 @@ use Rattle.bgp_session.specs.declared.answers.ReadStep.{ReadStep}
 use Rattle.bgp_session.specs.declared.answers.ReadStep.TheVariants as steps
 use Rattle.graft_steps.specs.declared.item.Item.{Item}
 use Rattle.graft_steps.specs.declared.order.GraftIds.{GraftIds}
-use Rattle.graft_model.specs.Setups.{Setup, peerings_in, room_of, routers_in}
+use Rattle.graft_model.specs.Setups.{peerings_in, room_of, routers_in}
 use Rattle.graft_model.specs.Steps.{RouterEvent, Got}
 use Rattle.graft_actors.specs.Emissions.{Tally}
 use Rattle.router_core.specs.Configs.{ArePoliciesOf, AreFirstsOf, IsRibOf}

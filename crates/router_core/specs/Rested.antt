@@ -1,9 +1,8 @@
 -- A router at the end of its turn.
-use Rattle.std.specs.Prelude.{ℕ, ◌≡◌, ◌⊎◌, None, Option}
+use Rattle.std.specs.Prelude.{ℕ, ◌≡◌, ◌⊎◌, None}
 use Rattle.std.specs.FinMap as map
-use Rattle.session_value.specs.Sessions.{SessionValue}
 use Rattle.graft_model.specs.Setups.{Setup}
-use Rattle.graft_model.specs.Parts.{Place, Vacant, Live, Frozen, Shadow, Order, RouterPart}
+use Rattle.graft_model.specs.Parts.{Place, Vacant, Live, Frozen, Shadow, RouterPart}
 use Rattle.graft_actors.specs.Emissions.{IsRested}
 use Rattle.router_core.specs.Parts.{HasReadAll}
 use Rattle.router_core.specs.Updates.{IsStuck, IsUnwritable}

@@ -1,13 +1,11 @@
 -- A router: how it begins, and what is said of its calls.
-use Rattle.std.specs.Prelude.{ℕ, ◌≡◌, ◌<◌, ◌≢◌, List, Option, Some, None, false}
+use Rattle.std.specs.Prelude.{ℕ, ◌≡◌, List, Option, false}
 use Rattle.ring_net.specs.Deeds.{Deed}
 use Rattle.graft_steps.specs.declared.item.Item.{Item}
 use Rattle.graft_steps.specs.declared.order.GraftIds.{GraftIds}
 use Rattle.bgp_session.specs.Running.{RunningSession}
-use Rattle.graft_model.specs.First.{first_router}
 use Rattle.graft_model.specs.Setups.{Setup}
 use Rattle.graft_model.specs.Parts.{RouterPart}
-use Rattle.graft_runs.specs.Actors.{Router, RouterIs}
 use Rattle.graft_actors.specs.Acts.{OwnPart}
 use Rattle.router_core.specs.Begins.{BeginsAs}
 use Rattle.router_core.specs.Parts.{router_part, own_part}

@@ -1,11 +1,10 @@
 -- The stages of a router's turn, in their order: segments are sent again, rounds pass, grafts begin, prefixes are decided, routers and sessions are told, and all is
 -- emitted that may be.
-use Rattle.std.specs.Prelude.{ℕ, ◌≡◌, ◌⊎◌, ◌+◌, ◌<◌, nat_lt, if◌then◌else◌, false, List, [], ◌∷◌, Option, Some, None}
+use Rattle.std.specs.Prelude.{ℕ, ◌≡◌, ◌⊎◌, ◌+◌, nat_lt, if◌then◌else◌, false, List, [], ◌∷◌, Some, None}
 use Rattle.std.specs.FinMap as map
 use Rattle.ring_net.specs.declared.post.Post.{Post}
 use Rattle.tcp_seq.specs.Endpoint.{again_length}
 use Rattle.graft_steps.specs.declared.item.Item.{Item}
-use Rattle.graft_steps.specs.declared.order.GraftIds.{GraftIds}
 use Rattle.bgp_session.specs.Running.{RunningSession}
 use Rattle.bgp_session.specs.Steps.{MayPass}
 use Rattle.graft_model.specs.Steps.{RouterEvent}
@@ -14,7 +13,7 @@ use Rattle.router_core.specs.Parts.{router_part, Keeps}
 use Rattle.router_core.specs.Places.{place_at}
 use Rattle.router_core.specs.Rested.{IsDone}
 use Rattle.router_core.specs.Rounds.{Did}
-use Rattle.router_core.specs.Turned.{rounds_on}
+use Rattle.router_core.specs.Turned.{NoPuts, NoRounds, rounds_on}
 use Rattle.router_core.specs.declared.fields.Fields.{Fields}
 use Rattle.router_core.specs.declared.place.Place.{Place}
 use Rattle.router_core.specs.declared.place.Place.TheVariants.{Vacant, Live, Shadow}
@@ -73,13 +72,10 @@ with_answers f t p = record (t p) { answers = (t p).answers + answer_at (place_a
 
 -- ---- the stages
 
--- no round passes in the events
-abbrev pub NoRounds : List RouterEvent → Type 0
-NoRounds events = (p : ℕ) → rounds_on p events ≡ []
-
 pub record SendsAgain (old : Fields) (before : Post (Item RunningSession)) (new : Fields) (after : Post (Item RunningSession)) : Type 0 where
   pub events : List RouterEvent
   pub did : (t : ℕ → Tally) → Did old before t events new after (with_again old t)
+  pub no_puts : NoPuts events
   pub no_rounds : NoRounds events
   pub places : (p : ℕ) → PlaceGoes IsLevel (place_at old.places.items p) (place_at new.places.items p)
   pub same : new ≡ record old { places = new.places }
@@ -88,6 +84,7 @@ pub record SendsAgain (old : Fields) (before : Post (Item RunningSession)) (new 
 pub record PassesRounds (old : Fields) (before : Post (Item RunningSession)) (new : Fields) (after : Post (Item RunningSession)) : Type 0 where
   pub events : List RouterEvent
   pub did : (t : ℕ → Tally) → Did old before t events new after t
+  pub no_puts : NoPuts events
   pub places : (p : ℕ) → PlaceGoes (PassesWhereItMay old.turns (rounds_on p events)) (place_at old.places.items p) (place_at new.places.items p)
   pub same : new ≡ record old { places = new.places; rib = new.rib; due_out = new.due_out }
   pub keeps : Keeps new

@@ -11,7 +11,7 @@ use Rattle.graft_model.specs.Steps.{RouterEvent, Tell}
 use Rattle.graft_actors.specs.Emissions.{Tally}
 use Rattle.router_core.specs.Parts.{Keeps}
 use Rattle.router_core.specs.Rounds.{Did}
-use Rattle.router_core.specs.Stages.{NoRounds}
+use Rattle.router_core.specs.Turned.{NoRounds}
 use Rattle.router_core.specs.declared.fields.Fields.{Fields}
 
 -- A router is told a prefix, which is due to it no more.

@@ -1,6 +1,6 @@
 -- What a router says of one turn.
-use Rattle.std.specs.Prelude.{ℕ, ◌≡◌, ◌≤◌, ◌<◌, ◌+◌, ◌==◌, ◌⊎◌, List, [], ◌∷◌, Option, if◌then◌else◌}
-use Rattle.std.specs.List.{flat_map}
+use Rattle.std.specs.Prelude.{ℕ, ◌≡◌, ◌≤◌, ◌<◌, ◌+◌, ◌==◌, ◌⊎◌, List, [], ◌∷◌, ◌++◌, Option, if◌then◌else◌}
+use Rattle.std.specs.List.{AllByRecursion, flat_map}
 use Rattle.ring_net.specs.Deeds.{Deed}
 use Rattle.ring_net.specs.Posts.{Moved}
 use Rattle.ring_net.specs.declared.post.Post.{Post}
@@ -8,7 +8,7 @@ use Rattle.graft_steps.specs.declared.item.Item.{Item}
 use Rattle.graft_steps.specs.declared.order.GraftIds.{GraftIds}
 use Rattle.bgp_session.specs.Running.{RunningSession}
 use Rattle.bgp_session.specs.Steps.{MayPass}
-use Rattle.graft_model.specs.Steps.{RouterEvent, Tick}
+use Rattle.graft_model.specs.Steps.{RouterEvent, Put, Tick}
 use Rattle.graft_actors.specs.Emissions.{Tally, nothing}
 use Rattle.graft_actors.specs.Acts.{acts}
 use Rattle.router_core.specs.Parts.{router_part, own_part, carried, Keeps}
@@ -24,6 +24,26 @@ round_on p event = []
 
 abbrev pub rounds_on : ℕ → List RouterEvent → List ℕ
 rounds_on p events = flat_map (round_on p) events
+
+-- no round passes in the events
+abbrev pub NoRounds : List RouterEvent → Type 0
+NoRounds events = (p : ℕ) → rounds_on p events ≡ []
+
+-- and nothing is put
+abbrev pub IsNoPut : RouterEvent → Type 0
+IsNoPut (Put p n) = ⊥
+IsNoPut event = Unit {0}
+
+abbrev pub NoPuts : List RouterEvent → Type 0
+NoPuts events = AllByRecursion IsNoPut events
+
+-- The rounds of a turn pass before anything is put.
+pub record TicksFirst (events : List RouterEvent) : Type 0 where
+  pub first : List RouterEvent
+  pub rest : List RouterEvent
+  pub split : events ≡ first ++ rest
+  pub no_puts : NoPuts first
+  pub no_rounds : NoRounds rest
 
 -- The session of a peering that stays live through a turn: what is acknowledged stays; what was outstanding is sent again where nothing was acknowledged since the last
 -- turn; and one round passes where one may.
@@ -41,6 +61,7 @@ pub record Turned (old : Fields) (deeds : List (Deed (Item RunningSession))) (ne
   pub coded : AreOf events deeds
   pub tally : ℕ → Tally
   pub round : RouterRound old.known.setup old.number.0 (router_part old) (λ p. nothing) events (router_part new) tally
+  pub in_order : TicksFirst events
   pub rested : RestedRouter old.known.setup old.number.0 (router_part new)
   pub few : (p : ℕ) → ((tally p).again ≤ 1) × ((tally p).answers ≤ 1)
   pub sessions : (p : ℕ) (s u : RunningSession) (o q : Option GraftIds) → RunsAt old.places.items p s o → RunsAt new.places.items p u q → TurnsSession new.turns p events (tally p) s u

@@ -1,10 +1,10 @@
 -- What is put next on a session, and why it may not be.
-use Rattle.std.specs.Prelude.{ℕ, ◌≡◌, ◌<◌, ◌+◌, List, length, Option, Some, None}
+use Rattle.std.specs.Prelude.{ℕ, ◌≡◌, ◌≢◌, ◌<◌, ◌+◌, ◌⊎◌, length, Option, Some, None}
 use Rattle.bgp_types.specs.declared.message.Message.TheVariants.{UpdateMsg}
-use Rattle.bgp_types.specs.declared.message.SessionState.TheVariants.{Established}
+use Rattle.bgp_types.specs.declared.message.SessionState.TheVariants.{Established, Closed}
 use Rattle.bgp_types.specs.Spelling.{spell}
 use Rattle.bgp_story.specs.Legal.{is_wide}
-use Rattle.session_value.specs.Sessions.{SessionValue, state, peering_of}
+use Rattle.session_value.specs.Sessions.{SessionValue, state, hold_time, peering_of}
 use Rattle.session_value.specs.Cases.{update_for}
 use Rattle.tell_plan.specs.Plans.{IsNext, IsWritableFor}
 use Rattle.tell_plan.specs.declared.batch.Batch.{Batch}
@@ -30,6 +30,13 @@ pub record IsStuck (setup : Setup) (r : ℕ) (part : RouterPart) (p : ℕ) (sess
   pub size : n ≡ length_with session batch
   pub above : 1044480 < n
 
+-- A session whose hold time runs is stuck at a length: a KEEPALIVE of 19 bytes would take what was put to that length, above 1,044,480, so that no round may pass.
+pub record IsStuckInTime (session : SessionValue) (n : ℕ) : Type 0 where
+  pub unclosed : state session ≢ Closed
+  pub runs : 0 < hold_time session
+  pub size : n ≡ length session.end.stream + 19
+  pub above : 1044480 < n
+
 -- Its next update has attributes that no message has.
 pub record IsUnwritable (setup : Setup) (r : ℕ) (part : RouterPart) (p : ℕ) (session : SessionValue) : Type 0 where
   pub established : state session ≡ Established
@@ -39,12 +46,23 @@ pub record IsUnwritable (setup : Setup) (r : ℕ) (part : RouterPart) (p : ℕ) 
 
 -- ---- a session without room
 
--- the live session of a peering is stuck at a length
-pub record IsStuckAt (setup : Setup) (r : ℕ) (part : RouterPart) (p n : ℕ) : Type 0 where
+-- the next update of the live session of a peering has no room: it would take what was put to this length
+pub record HasNoRoomAt (setup : Setup) (r : ℕ) (part : RouterPart) (p n : ℕ) : Type 0 where
   pub session : SessionValue
   pub order : Option Order
   pub live : IsLive part p session order
   pub stuck : IsStuck setup r part p session n
+
+abbrev pub RoomAnswer : Setup → ℕ → RouterPart → ℕ → Option ℕ → Type 0
+RoomAnswer setup r part p None = (n : ℕ) → ¬ HasNoRoomAt setup r part p n
+RoomAnswer setup r part p (Some n) = HasNoRoomAt setup r part p n
+
+-- The live session of a peering is stuck at a length: its next update has no room; or else no round may pass on it.
+pub record IsStuckAt (setup : Setup) (r : ℕ) (part : RouterPart) (p n : ℕ) : Type 0 where
+  pub session : SessionValue
+  pub order : Option Order
+  pub live : IsLive part p session order
+  pub stuck : IsStuck setup r part p session n ⊎ (((m : ℕ) → ¬ IsStuck setup r part p session m) × IsStuckInTime session n)
 
 -- the lowest peering whose session is stuck, and the length
 abbrev pub IsFirstStuck : Setup → ℕ → RouterPart → Option (ℕ × ℕ) → Type 0

@@ -10,7 +10,7 @@ use Rattle.router_core.specs.Parts.{Keeps}
 use Rattle.router_core.specs.Places.{place_at}
 use Rattle.router_core.specs.Rounds.{Did}
 use Rattle.router_core.specs.Stages.{PlaceGoes, GraftGoes, IsLevel, EmitsAll, PassesWhereItMay, again_at, answer_at}
-use Rattle.router_core.specs.Turned.{rounds_on}
+use Rattle.router_core.specs.Turned.{NoPuts, rounds_on}
 use Rattle.router_core.specs.declared.fields.Fields.{Fields}
 use Rattle.router_core.specs.declared.place.Place.{Place}
 use Rattle.router_core.specs.declared.place.Place.TheVariants.{Vacant, Live, Shadow}
@@ -25,6 +25,7 @@ pub record Stage : Type 1 where
 pub record Visits (stage : Stage) (p : ℕ) (old : Fields) (before : Post (Item RunningSession)) (new : Fields) (after : Post (Item RunningSession)) : Type 0 where
   pub events : List RouterEvent
   pub did : (t : ℕ → Tally) → Did old before t events new after (at t p (stage.count (place_at old.places.items p) (t p)))
+  pub no_puts : NoPuts events
   pub goes : stage.Goes (rounds_on p events) (place_at old.places.items p) (place_at new.places.items p)
   pub others : (q : ℕ) → q ≢ p → (place_at new.places.items q ≡ place_at old.places.items q) × (rounds_on q events ≡ [])
   pub same : stage.Same old new
@@ -34,6 +35,7 @@ pub record Visits (stage : Stage) (p : ℕ) (old : Fields) (before : Post (Item 
 pub record Visited (stage : Stage) (n : ℕ) (old : Fields) (before : Post (Item RunningSession)) (new : Fields) (after : Post (Item RunningSession)) : Type 0 where
   pub events : List RouterEvent
   pub did : (t : ℕ → Tally) → Did old before t events new after (λ p. if nat_lt p n then stage.count (place_at old.places.items p) (t p) else t p)
+  pub no_puts : NoPuts events
   pub done : (p : ℕ) → p < n → stage.Goes (rounds_on p events) (place_at old.places.items p) (place_at new.places.items p)
   pub left : (p : ℕ) → n ≤ p → (place_at new.places.items p ≡ place_at old.places.items p) × (rounds_on p events ≡ [])
   pub same : stage.Same old new

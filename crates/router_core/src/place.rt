@@ -1,13 +1,14 @@
 //! A router's place for the session of a peering.
 
-ghost use Rattle.std.specs.Prelude.{◌≡◌, ◌≢◌, Some, None, MatchBool, IfOk};
+ghost use Rattle.std.specs.Prelude.{◌≡◌, ◌≢◌, ◌++◌, Some, None, MatchBool, IfOk, OnOk};
 ghost use Rattle.bgp_session.specs.Running.{RunningSession};
-ghost use Rattle.router_core.specs.Places.{IsFree, IsAway};
+ghost use Rattle.router_core.specs.Places.{IsFree, IsAway, session_in, sessions_in};
 ghost use Rattle.router_core.specs.Reading.{ArrivesAt, FitsPlace, ReadsAt};
 
 use bgp_session::{ReadStep, Session};
-use graft_edge::NoMemory;
+use graft_edge::{Items, NoMemory};
 use graft_steps::{Away, Ordered};
+use std::alloc::Global;
 use tcp_seq::Segment;
 
 /// A router's place for the session of a peering. A session that moves is taken out of one router's place and put into another's: no call of it takes memory.
@@ -89,4 +90,25 @@ impl Place {
             Place::Vacant | Place::Shadow { .. } => Ok(None),
         }
     }
+}
+
+/// Adds the session of a place, if one is held there.
+fn push_session(sessions: &mut Items<Session>, place: Place) -> Result<(), NoMemory>
+    ensures { OnOk result (sessions.new ≡ sessions.old ++ session_in place) }
+{
+    match place {
+        Place::Live { session, .. } => sessions.push(session),
+        Place::Vacant | Place::Shadow { .. } => Ok(()),
+    }
+}
+
+/// The sessions that are held at places, in the order of the places.
+pub(crate) fn sessions_of(alloc: Global, places: Vec<Place>) -> Result<Items<Session>, NoMemory>
+    ensures { IfOk result (λ sessions. sessions ≡ sessions_in places.items) }
+{
+    let mut sessions = Items::new(alloc);
+    for place in places {
+        push_session(&mut sessions, place)?;
+    }
+    Ok(sessions)
 }

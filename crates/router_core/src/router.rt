@@ -6,13 +6,13 @@ ghost use Rattle.router_core.specs.FieldProps.{Keeps-prop-if};
 
 use crate::config::RouterConfig;
 use crate::fields::Fields;
-use crate::place::Place;
+use crate::place::{Place, sessions_of};
 use crate::rest::{nothing_left, rest};
 use crate::stages::{stuck, turn};
 use crate::takes;
 use bgp_session::{Capsule, Session};
 use graft_actors::Known;
-use graft_edge::{NoMemory, PeeringId};
+use graft_edge::{Items, NoMemory, PeeringId};
 use graft_steps::{Item, RouterRest};
 use rib_stages::Rib;
 use ring_net::Post;
@@ -39,7 +39,7 @@ impl Router {
     ghost use Rattle.graft_actors.specs.Acts.{acts};
     ghost use Rattle.router_core.specs.Configs.{IsConfigOf};
     ghost use Rattle.router_core.specs.Parts.{carried};
-    ghost use Rattle.router_core.specs.Places.{RunsAt};
+    ghost use Rattle.router_core.specs.Places.{RunsAt, sessions_in};
     ghost use Rattle.router_core.specs.Routers.{own, part_in, IsNew, IsHeldAt, Works, took, turned};
     ghost use Rattle.router_core.specs.Updates.{IsFirstStuck};
 
@@ -101,8 +101,8 @@ impl Router {
         Ok(false)
     }
 
-    /// The lowest peering whose live session is stuck, and the length to which its next UPDATE would take what it put, above 1,044,480 bytes. None where no session is
-    /// stuck.
+    /// The lowest peering whose live session is stuck, and a length above 1,044,480 bytes: that to which its next UPDATE would take what it put; or else, where the session isn't closed and its hold
+    /// time runs, that to which a KEEPALIVE would, so that no round may pass on it. None where no session is stuck.
     pub fn stuck(&self) -> Result<Option<(PeeringId, usize)>, NoMemory>
         ensures { IfOk result (λ answer. IsFirstStuck (own self.now).setup self.now.fields.number.0 (part_in self.now) (option_map (λ x. (x.0.0, x.1)) answer)) }
     {
@@ -141,5 +141,13 @@ impl Router {
             return nothing_left(self.fields.number);
         }
         rest(&self.fields)
+    }
+
+    /// The sessions that are held here, by rising peering, of a router that is wanted no more.
+    pub fn into_sessions(self, alloc: Global) -> Result<Items<Session>, NoMemory>
+        ensures { IfOk result (λ sessions. sessions ≡ sessions_in self.fields.places.items) }
+    {
+        let Router { fields, .. } = self;
+        sessions_of(alloc, fields.places)
     }
 }

@@ -1,6 +1,6 @@
 //! What sessions are told (RFC 4271, section 9.2).
 
-ghost use Rattle.std.specs.Prelude.{◌≡◌, ◌<◌, ◌^◌, ◌-◌, [], length, min, reverse, All, fold, IfOk, OnOk, option_map};
+ghost use Rattle.std.specs.Prelude.{ℕ, ◌≡◌, ◌<◌, ◌^◌, ◌-◌, [], length, min, reverse, All, fold, IfOk, IfSome, IfNone, OnOk, option_map};
 ghost use Rattle.std.specs.FinMap as map;
 ghost use Rattle.bgp_types.specs.Prefixes.{IsPrefix};
 ghost use Rattle.ring_net.specs.Posts.{SameEdges};
@@ -11,15 +11,15 @@ ghost use Rattle.tell_plan.specs.Plans.{IsWritableFor, octets};
 ghost use Rattle.router_core.specs.Parts.{Keeps, router_part};
 ghost use Rattle.router_core.specs.Places.{place_at};
 ghost use Rattle.router_core.specs.declared.place.Place.TheVariants.{Live};
-ghost use Rattle.router_core.specs.Putting.{NextAt, OfferedAt, OffersAt, PlannedAt, PutOrDone, PutsAt, PutsSomeAt};
-ghost use Rattle.router_core.specs.Updates.{IsFirstStuck, StuckAnswer, length_with};
+ghost use Rattle.router_core.specs.Putting.{NextAt, OfferedAt, OffersAt, PlannedAt, PutOrDone, PutsAt, PutsSomeAt, TimeAnswer};
+ghost use Rattle.router_core.specs.Updates.{IsFirstStuck, IsStuckInTime, RoomAnswer, StuckAnswer, length_with};
 ghost use Rattle.router_core.specs.Stages.{PutsAll};
 
 use crate::due::DueSets;
 use crate::fields::Fields;
 use crate::place::Place;
 use crate::takes::named::policy_of;
-use bgp_session::{Capsule, OfferStop};
+use bgp_session::{Capsule, OfferStop, Session};
 use bgp_types::{Message, Prefix, SessionState, TryCopy, Update, message_len};
 use graft_actors::note;
 use graft_edge::{NoMemory, PeeringId};
@@ -35,6 +35,9 @@ const PUT: u16 = 1;
 
 /// How many bytes an established session puts at most, so that a NOTIFICATION has room behind them.
 const MOST_PUT: usize = 1_044_480;
+
+/// How many bytes a KEEPALIVE has.
+const KEEPALIVE_LEN: usize = 19;
 
 /// Offers an UPDATE to the session that is live at a place, and answers whether its stream had room.
 fn offer(place: &mut Place, update: Update) -> Result<bool, NoMemory>
@@ -194,11 +197,11 @@ fn len_with(router: &Fields, n: usize, batch: Batch) -> usize
     }
 }
 
-/// The length at which the session at a place is stuck, if it is.
-fn stuck_at(router: &Fields, n: usize) -> Result<Option<usize>, NoMemory>
+/// The length to which its next UPDATE would take what was put on the session at a place, if it has no room.
+fn no_room_at(router: &Fields, n: usize) -> Result<Option<usize>, NoMemory>
     requires keeps { Keeps router.now }
     requires place { n < length router.now.places.items }
-    ensures { IfOk result (λ answer. StuckAnswer router.now.known.setup router.now.number.0 (router_part router.now) n answer) }
+    ensures { IfOk result (λ answer. RoomAnswer router.now.known.setup router.now.number.0 (router_part router.now) n answer) }
 {
     let mut batches = planned(router, n)?;
     let Some(batch) = batches.pop() else {
@@ -215,7 +218,49 @@ fn stuck_at(router: &Fields, n: usize) -> Result<Option<usize>, NoMemory>
     }
 }
 
-/// The lowest peering whose live session has an UPDATE to put that would take what it put above 1,044,480 bytes, and that length.
+/// The length to which a KEEPALIVE would take what a session put, where its hold time runs and no KEEPALIVE has room.
+fn late(session: &Session) -> Option<usize>
+    ensures some { IfSome result (λ n. IsStuckInTime session.now.session n) }
+    ensures none { IfNone result ((n : ℕ) → ¬ IsStuckInTime session.now.session n) }
+{
+    if session.state() == SessionState::Closed {
+        return None;
+    }
+    if session.hold() == 0 {
+        return None;
+    }
+    let length = session.put_len() as usize + KEEPALIVE_LEN;
+    if length > MOST_PUT {
+        Some(length)
+    } else {
+        None
+    }
+}
+
+/// The same of the session that is live at a place.
+fn late_at(place: &Place) -> Option<usize>
+    ensures { TimeAnswer place.now result }
+{
+    match place {
+        Place::Live { session, .. } => late(session),
+        Place::Vacant | Place::Shadow { .. } => None,
+    }
+}
+
+/// The length at which the session at a place is stuck, if it is.
+fn stuck_at(router: &Fields, n: usize) -> Result<Option<usize>, NoMemory>
+    requires keeps { Keeps router.now }
+    requires place { n < length router.now.places.items }
+    ensures { IfOk result (λ answer. StuckAnswer router.now.known.setup router.now.number.0 (router_part router.now) n answer) }
+{
+    match no_room_at(router, n)? {
+        Some(length) => Ok(Some(length)),
+        None => Ok(late_at(&router.places[n])),
+    }
+}
+
+/// The lowest peering whose live session is stuck: it has an UPDATE to put that would take what it put above 1,044,480 bytes, or else its hold time runs and a KEEPALIVE would. Beside it
+/// that length.
 pub(crate) fn stuck(router: &Fields) -> Result<Option<(PeeringId, usize)>, NoMemory>
     requires { Keeps router.now }
     ensures { IfOk result (λ answer. IsFirstStuck router.now.known.setup router.now.number.0 (router_part router.now) (option_map (λ x. (x.0.0, x.1)) answer)) }

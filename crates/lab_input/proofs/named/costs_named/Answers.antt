@@ -5,10 +5,9 @@ use Rattle.std.specs.List.{list_any}
 use Rattle.toml.specs.View.{table_view}
 use Rattle.lab_keys.specs.Kinds.{first_of}
 use Rattle.lab_keys.specs.Values.{text_at}
-use Rattle.lab_tables.specs.Peerings.{cost_of}
 use Rattle.lab_input.specs.declared.named.Ends.{Ends}
 use Rattle.lab_input.specs.contracts.named.EndsPartialEq.TheImpl as ends_eq
-use Rattle.lab_input.specs.Names.{each_after, cost_named, unknown, repeated_if, same_ends}
+use Rattle.lab_input.specs.Names.{each_after, cost_named, unknown, repeated_if}
 use Rattle.lab_input.proofs.Afters.{after_goes_on, after_stops, any_next, again_is}
 use Rattle.lab_input.proofs.Keys.{ends_key, has_ends}
 use Rattle.lab_input.proofs.named.costs_named.Goals as goal

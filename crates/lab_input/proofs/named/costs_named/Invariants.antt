@@ -2,7 +2,6 @@ use Rattle.std.proofs.Common.{◌≡◌, [], map, take, drop}
 use Rattle.std.specs.HashSet.{contains}
 use Rattle.std.specs.List.{list_any}
 use Rattle.toml.specs.View.{table_view}
-use Rattle.lab_tables.specs.Peerings.{cost_of}
 use Rattle.lab_input.specs.declared.named.Ends.{Ends}
 use Rattle.lab_input.specs.contracts.named.EndsPartialEq.TheImpl as ends_eq
 use Rattle.lab_input.specs.Names.{each_after, cost_named}

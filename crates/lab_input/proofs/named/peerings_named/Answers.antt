@@ -1,4 +1,4 @@
-use Rattle.std.proofs.Common.{◌≡◌, ◌==◌, ◌<◌, ◌∙◌, ℕ, Bor, List, Bool, not, cond, true, [], map, take, length, nat_eq, sym, ap, arith}
+use Rattle.std.proofs.Common.{◌≡◌, ◌==◌, ◌<◌, ◌∙◌, ℕ, List, Bool, not, cond, true, [], map, take, length, nat_eq, sym, ap, arith}
 use Rattle.std.specs.Prelude.{codes}
 use Rattle.std.specs.HashSet.{contains, contains_by}
 use Rattle.std.specs.List.{list_any}

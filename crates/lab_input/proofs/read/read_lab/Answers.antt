@@ -4,7 +4,7 @@ use Rattle.std.proofs.lemmas.Bool.{false≢true}
 use Rattle.toml.specs.Parse.{parse_document}
 use Rattle.toml.specs.View.{table_view}
 use Rattle.lab_input.specs.Bytes.{document_of}
-use Rattle.lab_input.specs.Labs.{input_in, input_of, Answers}
+use Rattle.lab_input.specs.Labs.{input_in, Answers}
 use Rattle.lab_input.proofs.Bytes.{document_of-text, document_of-no_text, input_of-long, input_of-short}
 use Rattle.lab_input.proofs.read.read_lab.Goals as goal
 

@@ -1,4 +1,4 @@
-use Rattle.std.proofs.Common.{◌≡◌, ℕ, List, length, arith, ap, ◌∙◌}
+use Rattle.std.proofs.Common.{◌≡◌, List, length, arith, ap, ◌∙◌}
 use Rattle.std.proofs.lemmas.List.{length-map}
 use Rattle.session_value.specs.Sets.{Prefixes}
 use Rattle.rib_stages.specs.Values.{table_at}

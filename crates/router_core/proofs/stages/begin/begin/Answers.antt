@@ -1,4 +1,4 @@
-use Rattle.std.proofs.Common.{ℕ, length, sym, subst, ◌∙◌}
+use Rattle.std.proofs.Common.{ℕ, sym, subst, ◌∙◌}
 use Rattle.std.specs.List.{AllByRecursion}
 use Rattle.router_core.specs.Beginning.{AreBegun, CanBegin}
 use Rattle.router_core.specs.declared.fields.Fields.{Fields}

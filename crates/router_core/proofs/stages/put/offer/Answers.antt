@@ -1,4 +1,4 @@
-use Rattle.std.proofs.Common.{◌≡◌, refl, sym, ap, subst, true, false, ◌<◌, Err}
+use Rattle.std.proofs.Common.{refl, sym, ap, subst, true, false, ◌<◌, Err}
 use Rattle.router_core.specs.Putting.{OfferedAt}
 use Rattle.router_core.specs.declared.place.Place.{Place}
 use Rattle.router_core.specs.declared.place.Place.TheVariants.{Live}

@@ -1,4 +1,4 @@
-use Rattle.std.proofs.Common.{◌≡◌, ℕ, ◌≤◌, length, refl, sym, ap, subst, ◌∙◌, arith, add-one}
+use Rattle.std.proofs.Common.{◌≡◌, ◌≤◌, length, sym, ap, subst, ◌∙◌, arith, add-one}
 use Rattle.ring_net.proofs.TakesEach.{same_edges_self, same_edges_then}
 use Rattle.graft_model.specs.Setups.{peerings_in}
 use Rattle.router_core.specs.Putting.{PutsFirst}

@@ -1,4 +1,3 @@
-use Rattle.std.proofs.Common.{◌≡◌, length}
 use Rattle.ring_net.specs.Posts.{SameEdges}
 use Rattle.router_core.specs.Putting.{PutsFirst}
 use Rattle.router_core.proofs.stages.put.put_all.Given as goal

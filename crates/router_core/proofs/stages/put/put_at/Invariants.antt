@@ -1,4 +1,4 @@
-use Rattle.std.proofs.Common.{◌≡◌, length}
+use Rattle.std.proofs.Common.{length}
 use Rattle.std.specs.Prelude.{reverse}
 use Rattle.ring_net.specs.Posts.{SameEdges}
 use Rattle.tell_plan.specs.Gathering.{AreSound}

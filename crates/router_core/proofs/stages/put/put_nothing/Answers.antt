@@ -1,7 +1,6 @@
-use Rattle.std.proofs.Common.{◌≡◌, refl, sym, ap, ◌∙◌}
+use Rattle.std.proofs.Common.{refl, sym, ap, ◌∙◌}
 use Rattle.std.proofs.lemmas.Result.{on_ok_weaker}
 use Rattle.session_value.specs.Points.{at}
-use Rattle.session_value.specs.Sets.{Prefixes}
 use Rattle.rib_stages.specs.Values.{table_at}
 use Rattle.router_core.proofs.PutPlaces.{none_of, some_due, puts_idle, puts_nothing}
 use Rattle.router_core.proofs.stages.put.put_nothing.Goals as goal

@@ -1,4 +1,4 @@
-use Rattle.std.proofs.Common.{◌≡◌, ℕ, ◌≤◌, ◌<◌, List, [], ◌∷◌, length, Bool, true, false, get_or, refl, sym, ap, subst, ◌∙◌, arith}
+use Rattle.std.proofs.Common.{◌≡◌, ℕ, ◌≤◌, ◌<◌, List, [], length, Bool, true, false, get_or, refl, sym, ap, subst, ◌∙◌, arith}
 use Rattle.std.specs.Prelude.{fold}
 use Rattle.std.specs.FinMap as map
 use Rattle.std.specs.Vec.{with_item}
@@ -12,7 +12,6 @@ use Rattle.session_value.specs.Points.{at}
 use Rattle.router_core.specs.Parts.{router_part}
 use Rattle.router_core.specs.Places.{place_at}
 use Rattle.router_core.specs.Putting.{NextAt, OfferedAt, OffersAt}
-use Rattle.router_core.specs.declared.fields.Fields.{Fields}
 use Rattle.router_core.specs.declared.place.Place.{Place}
 use Rattle.router_core.specs.declared.place.Place.TheVariants.{Vacant}
 use Rattle.router_core.proofs.PutPlaces.{offers_at, offered_none, offered_rest, offered_some, offered_stuck, next_fits}

@@ -1,4 +1,4 @@
-use Rattle.std.proofs.Common.{◌≡◌, ℕ, Option, subst, arith}
+use Rattle.std.proofs.Common.{ℕ, Option, subst, arith}
 use Rattle.router_core.specs.Parts.{router_part}
 use Rattle.router_core.specs.Updates.{StuckAnswer}
 use Rattle.router_core.proofs.StuckPlaces.{none_behind, none_more}

@@ -1,4 +1,4 @@
-use Rattle.std.proofs.Common.{Option, None, Some, refl, subst}
+use Rattle.std.proofs.Common.{Option, refl, subst}
 use Rattle.std.specs.Prelude.{OnOk}
 use Rattle.std.specs.Vec.{with_item}
 use Rattle.bgp_session.specs.declared.answers.ReadStep.{ReadStep}

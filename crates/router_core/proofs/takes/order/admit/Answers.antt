@@ -1,7 +1,6 @@
-use Rattle.std.proofs.Common.{◌≡◌, Some, None, refl, arith, subst, sym, ◌∙◌, set}
+use Rattle.std.proofs.Common.{◌≡◌, Some, refl, arith, subst, sym, ◌∙◌, set}
 use Rattle.std.proofs.lemmas.Result.{on_ok_weaker}
 use Rattle.router_core.specs.Places.{IsFree, place_at}
-use Rattle.router_core.specs.declared.place.Place.{Place}
 use Rattle.router_core.specs.declared.place.Place.TheVariants.{Live}
 use Rattle.router_core.proofs.GraftSteps.{drops_order, admits}
 use Rattle.router_core.proofs.PlaceTests.{place_item}

@@ -1,0 +1,69 @@
+-- Where a group begins.
+use Rattle.std.proofs.Common.{◌≡◌, ℕ, List, [], ◌∷◌, ◌++◌, length, Option, Some, None, option_map, slice_get, refl, sym, ap, ◌∙◌, subst, inl, inr, arith, append_assoc}
+use Rattle.std.specs.Prelude.{◌↔◌}
+use Rattle.std.proofs.lemmas.List.{length-append}
+use Rattle.std.proofs.lemmas.Option.{same_Some}
+use Rattle.ring_net.specs.declared.entry.JournalEntry.{JournalEntry}
+use Rattle.journal_merge.specs.Merges.{entries_by}
+use Rattle.graft_steps.specs.declared.item.Item.{Item}
+use Rattle.session_value.specs.Sessions.{SessionValue}
+use Rattle.graft_model.specs.Codes.{operator_code}
+use Rattle.graft_model.specs.Setups.{Setup, SayStep, MoveStep}
+use Rattle.graft_model.specs.Parts.{OperatorPart, World}
+use Rattle.graft_model.specs.Quiet.{Quiet}
+use Rattle.graft_model.specs.OperatorRows.{OperatorTaken, OperatorSent}
+use Rattle.graft_model.specs.Steps.{OperatorEvent, Order, Note, Go, operator_row}
+use Rattle.settled_check.specs.Left.{HasUnissued, IsOpen}
+use Rattle.graft_runs.specs.Actors.{ActorPart, RouterIs, FarIs, OperatorIs, Thing, Operator}
+use Rattle.graft_runs.specs.Makes.{HasCode, makes_as, numbered, taken_by_operator}
+use Rattle.graft_runs.specs.Laws.{IsGo}
+use Rattle.graft_actors.specs.Acts.{OwnPart, ActsAs, things}
+use Rattle.run_marks.specs.Marks.{before, operator_in, GoFollows, BeginsWithGo}
+
+-- ---- in the journal
+
+there : {A : Type 0} (had : List A) (x : A) (more : List A) → slice_get (had ++ x ∷ more) (length had) ≡ Some x
+there [] x more = refl
+there (y ∷ had) x more = there had x more
+
+pub group_seen : (setup : Setup) (journal : List JournalEntry) (mark next : List ℕ) (had new more : List JournalEntry) → entries_by (operator_in setup) journal ≡ (had ++ new) ++ more
+    → before mark (operator_in setup) ≡ length had → before next (operator_in setup) ≡ length (had ++ new) → GoFollows setup journal mark next ↔ BeginsWithGo new
+group_seen setup journal mark next had [] more is at_mark at_next = ((λ follows. absurd (omega (arith, follows.there, at_mark, at_next, length-append had []))), λ none. absurd none)
+group_seen setup journal mark next had (e ∷ new) more is at_mark at_next = (
+  λ follows. subst IsGo (same_Some follows.entry e (sym follows.is ∙ first)) follows.go,
+  λ go. record { entry = e; is = first; there = omega (arith, at_mark, at_next, length-append had (e ∷ new)); go = go },
+)
+  where
+    first : slice_get (entries_by (operator_in setup) journal) (before mark (operator_in setup)) ≡ Some e
+    first = ap (slice_get (entries_by (operator_in setup) journal)) at_mark ∙ ap (λ (xs : List JournalEntry). slice_get xs (length had)) (is ∙ append_assoc had (e ∷ new) more) ∙ there had e (new ++ more)
+
+-- ---- in a quiet world
+
+pub nothing_open : (setup : Setup) (w : World) → Quiet setup w → (¬ HasUnissued setup w.operator) × ((k : ℕ) → ¬ IsOpen setup w.operator k)
+nothing_open setup w quiet = (
+  (λ some. (let e = quiet.issued some.0 some.1.step some.1.is some.1.ordered some.1.group in let f = some.1.unissued in cc)),
+  λ k open_one. quiet.ended open_one.step open_one.peering open_one.target open_one.is open_one.group (ap w.operator.outcome open_one.number ∙ open_one.unended),
+)
+
+module _ (setup : Setup) (part : OperatorPart) (none : ¬ HasUnissued setup part) where
+  no_order : (step : ℕ) (taken : Option OperatorTaken) (sent : List OperatorSent) (after : OperatorPart) → operator_row setup (Order step) part taken sent after → ⊥
+  no_order step taken sent after (inl row) = none (step, record { step = SayStep row.peering row.bytes; is = row.is; ordered = λ e. cc; group = row.next.group; unissued = row.next.unissued })
+  no_order step taken sent after (inr row) = none (step, record { step = MoveStep row.peering row.target; is = row.is; ordered = λ e. cc; group = row.next.group; unissued = row.next.unissued })
+
+  goes : (event : OperatorEvent) (entry : JournalEntry) (taken : Option OperatorTaken) (sent : List OperatorSent) (after : OperatorPart) → operator_row setup event part taken sent after → HasCode (operator_code event) entry
+      → None ≡ option_map (λ t. numbered setup (taken_by_operator t)) taken → IsGo entry
+  goes (Order step) entry taken sent after row coded untaken = absurd (no_order step taken sent after row)
+  goes (Note router) entry taken sent after row coded untaken = let some = untaken ∙ ap (option_map (λ (t : OperatorTaken). numbered setup (taken_by_operator t))) row.takes in absurd cc
+  goes Go entry taken sent after row coded untaken = coded.kind
+
+  row_goes : (entry : JournalEntry) (sent : List (ℕ × Thing)) (after : ActorPart) → makes_as setup (Some Operator) (OperatorIs part) entry None sent after → IsGo entry
+  row_goes entry sent (RouterIs after) row = absurd row
+  row_goes entry sent (FarIs after) row = absurd row
+  row_goes entry sent (OperatorIs after) row = goes row.event entry row.took row.gave after row.holds row.coded row.is_taken
+
+pub act_goes : {C : Type 0} (session : C → SessionValue) (setup : Setup) (part : OperatorPart) (entry : JournalEntry) (sent : List (ℕ × Item C)) (after : OwnPart) → ¬ HasUnissued setup part
+    → ActsAs session (record { setup = setup; name = Operator; part = OperatorIs part }) entry None sent after → IsGo entry
+act_goes session setup part entry sent after none act = elim act.does [
+  | inl event ↦ row_goes setup part none entry (things session setup sent) after.part event.row
+  | inr drop ↦ (let some = drop.takes in absurd cc)
+]

@@ -1,0 +1,81 @@
+-- What stands before a mark in the merged journal of a net, and between two marks.
+use Rattle.std.specs.Prelude.{ℕ, ◌≡◌, ◌<◌, ◌+◌, ◌==◌, ◌↔◌, Bool, List, [], ◌∷◌, ◌++◌, length, filter, Some, None, slice_get, slice_index_or}
+use Rattle.ring_net.specs.declared.entry.JournalEntry.{JournalEntry}
+use Rattle.ring_net.specs.Phases.{View}
+use Rattle.journal_merge.specs.Merges.{Interleaves, entries_by, upto}
+use Rattle.graft_steps.specs.declared.item.Item.{Item}
+use Rattle.session_value.specs.Sessions.{SessionValue}
+use Rattle.graft_model.specs.declared.kind.EventKind.TheVariants as kinds
+use Rattle.graft_model.specs.Codes.{number_of}
+use Rattle.graft_model.specs.Setups.{Setup, routers_in, peerings_in}
+use Rattle.graft_model.specs.Parts.{OperatorPart, World}
+use Rattle.graft_model.specs.First.{first_world}
+use Rattle.graft_model.specs.Steps.{Event, Run}
+use Rattle.graft_model.specs.Quiet.{Quiet}
+use Rattle.settled_check.specs.Left.{HasUnissued, IsOpen}
+use Rattle.graft_runs.specs.Actors.{OperatorIs, Operator}
+use Rattle.graft_runs.specs.Laws.{AreEntriesOf, IsGo}
+use Rattle.graft_actors.specs.Acts.{OwnPart, ActsAs}
+use Rattle.world_runs.specs.Runs.{IsSeenAs, Ran}
+
+-- ---- before a mark
+
+-- the number of an actor's entries that stand before a mark
+abbrev pub before : List ℕ → ℕ → ℕ
+before mark k = slice_index_or mark k 0
+
+-- The entries that stand before a mark are those of a run to this world.
+pub record IsWorldAtMark (setup : Setup) (journal : List JournalEntry) (mark : List ℕ) (w : World) : Type 0 where
+  pub events : List Event
+  pub entries_of : AreEntriesOf setup events (upto (before mark) journal)
+  pub run : Run setup (first_world setup) events w
+
+-- A mark has the length of each journal of a view, and the journals of a later one go on from there.
+pub record IsMarkOf {A I : Type 0} (u v : View A I) (mark : List ℕ) : Type 0 where
+  pub lengths : (k : ℕ) → before mark k ≡ length (u.journal k)
+  pub later : (k : ℕ) → (more : List JournalEntry) × (v.journal k ≡ u.journal k ++ more)
+
+module _ {A C : Type 0} (own : A → OwnPart) (session : C → SessionValue) where
+  -- before a mark of the journal of v stands a run to a world as which u is seen
+  abbrev pub MarksStandForWorlds : Type 0
+  MarksStandForWorlds = (setup : Setup) (u v : View A (Item C)) (mark : List ℕ) (journal : List JournalEntry) → IsMarkOf u v mark → Interleaves v.journal journal → Ran own session setup u
+      → (w : World) × IsWorldAtMark setup journal mark w × IsSeenAs own session setup u w
+
+-- ---- groups
+
+-- the operator's number: it is the last actor
+abbrev pub operator_in : Setup → ℕ
+operator_in setup = routers_in setup + peerings_in setup
+
+abbrev pub is_go : JournalEntry → Bool
+is_go entry = entry.kind == number_of kinds.Go
+
+-- the group that is at work after a run is the number of those that its entries of the operator begin
+abbrev pub GroupsAreCounted : Type 0
+GroupsAreCounted = (setup : Setup) (events : List Event) (entries : List JournalEntry) (w : World) → AreEntriesOf setup events entries → Run setup (first_world setup) events w
+    → w.operator.group ≡ length (filter is_go (entries_by (operator_in setup) entries))
+
+-- the operator's first entry behind a mark begins a group, and stands before the next mark
+pub record GoFollows (setup : Setup) (journal : List JournalEntry) (mark next : List ℕ) : Type 0 where
+  pub entry : JournalEntry
+  pub is : slice_get (entries_by (operator_in setup) journal) (before mark (operator_in setup)) ≡ Some entry
+  pub there : before mark (operator_in setup) < before next (operator_in setup)
+  pub go : IsGo entry
+
+abbrev pub BeginsWithGo : List JournalEntry → Type 0
+BeginsWithGo [] = ⊥
+BeginsWithGo (entry ∷ entries) = IsGo entry
+
+-- it does exactly where what the operator noted between the two marks begins with it
+abbrev pub GroupsAreSeen : Type 0
+GroupsAreSeen = (setup : Setup) (journal : List JournalEntry) (mark next : List ℕ) (had new more : List JournalEntry) → entries_by (operator_in setup) journal ≡ (had ++ new) ++ more
+    → before mark (operator_in setup) ≡ length had → before next (operator_in setup) ≡ length (had ++ new) → GoFollows setup journal mark next ↔ BeginsWithGo new
+
+-- in a quiet world each step of the group at work was issued, and no graft of it is open
+abbrev pub QuietHasNothingOpen : Type 0
+QuietHasNothingOpen = (setup : Setup) (w : World) → Quiet setup w → (¬ HasUnissued setup w.operator) × ((k : ℕ) → ¬ IsOpen setup w.operator k)
+
+-- what the operator does there without an item begins a group: it has no step to issue
+abbrev pub QuietActsBeginGroups : {C : Type 0} (session : C → SessionValue) → Type 0
+QuietActsBeginGroups {C} session = (setup : Setup) (part : OperatorPart) (entry : JournalEntry) (sent : List (ℕ × Item C)) (after : OwnPart) → ¬ HasUnissued setup part
+    → ActsAs session (record { setup = setup; name = Operator; part = OperatorIs part }) entry None sent after → IsGo entry

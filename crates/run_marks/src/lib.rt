@@ -1,0 +1,6 @@
+//! What the marks of a net's run tell: the world that stands behind the entries before a mark, and where groups of the script begin.
+#![tactic(auto)]
+
+mod laws;
+
+pub use laws::{groups_are_counted, marks_stand_for_worlds};
