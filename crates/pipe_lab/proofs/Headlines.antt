@@ -1,20 +1,12 @@
 -- What is seen of the world that a run of a pipe ends in.
-use Rattle.std.proofs.Common.{◌≡◌, append-nil, List, [], ◌∷◌, map, sym, ap, ◌∙◌, subst, ℕ, zero, suc, Some}
-use Rattle.std.specs.Prelude.{Result, Ok, Err, IfOk, slice_get, false}
+use Rattle.std.proofs.Common.{◌≡◌, List, [], ◌∷◌, map, sym, ap, ◌∙◌, subst, ℕ}
+use Rattle.std.specs.Prelude.{Result, Ok, Err, IfOk}
 use Rattle.std.specs.FinMap as table
-use Rattle.std.proofs.lemmas.Option.{same_Some}
-use Rattle.bgp_story.specs.Legal.{Peering}
-use Rattle.bgp_story.specs.Opens.{home_open}
 use Rattle.bgp_story.specs.Readings.{heard, told}
 use Rattle.bgp_story.specs.States.{StoryValue}
 use Rattle.lab_tables.specs.declared.input.LabInput.{LabInput}
-use Rattle.lab_tables.specs.declared.input.PeeringInput.{PeeringInput}
-use Rattle.lab_tables.specs.declared.input.RouterInput.{RouterInput}
-use Rattle.lab_input.specs.Said.{IsReady}
 use Rattle.pipe_model.specs.declared.pipe.Pipe.{Pipe}
-use Rattle.pipe_model.specs.Claims.{sessions_in, Transparent, Quiet, Solves}
-use Rattle.pipe_model.specs.Pipes.{session_of}
-use Rattle.pipe_model.specs.Worlds.{Session}
+use Rattle.pipe_model.specs.Claims.{sessions_in, Quiet, Solves}
 use Rattle.pipe_world.specs.declared.world.PipeWorld.{PipeWorld}
 use Rattle.pipe_world.specs.Views.{AlwaysTransparent, session_in, world_of}
 use Rattle.pipe_lab.specs.declared.lab.Lab.{Lab}

@@ -1,4 +1,6 @@
-use Rattle.std.proofs.Common.{refl, ap, ◌∙◌, [], ◌∷◌, take}
+use Rattle.std.proofs.Common.{refl, ap, ◌∙◌, [], ◌∷◌, map, take}
+use Rattle.std.specs.FinMap as table
+use Rattle.pipe_lab.specs.Seen.{best_entry}
 use Rattle.pipe_lab.proofs.Headlines.{seen_session}
 use Rattle.pipe_lab.proofs.run.seen_of.Goals as goal
 
