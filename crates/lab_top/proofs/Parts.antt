@@ -1,5 +1,5 @@
 -- How a job ends, of what its parts give.
-use Rattle.std.proofs.Common.{◌≡◌, ℕ, List, inl, inr, refl}
+use Rattle.std.proofs.Common.{◌≡◌, ℕ, List, inl, inr, refl, subst}
 use Rattle.std.specs.Prelude.{◌⊎◌, false, Option, None, Result, Ok, Err}
 use Rattle.graft_edge.specs.declared.memory.NoMemory.{NoMemory}
 use Rattle.lab_tables.specs.declared.input.LabInput.{LabInput}
@@ -46,6 +46,10 @@ stopped_ends words o n stops.Failed result ask rose is = failed_ends words o n r
 stopped_ends words o n stops.NoMemory result ask read is = none_ends words o n result is
 
 -- ---- a source with an input
+
+pub writes_it : (text told : List ℕ) (planned faults_before faults_after : ℕ) (before after : Option (List ℕ)) (status : ℕ) → text ≡ told
+    → Writes text planned faults_before faults_after before after status → Writes told planned faults_before faults_after before after status
+writes_it text told planned faults_before faults_after before after status same w = subst (λ t. Writes t planned faults_before faults_after before after status) same w
 
 pub checked_ends : (words : List (List ℕ)) (o n : Outside) (input : LabInput) (text : List ℕ) (status : ℕ) (lab : Option Lab) → Asks words Check → Reads o.left n.left (Ok input)
     → text ≡ check_line input → lab ≡ None → Writes text 0 o.write_faults n.write_faults o.written n.written status → Ended words o n status lab
