@@ -1,6 +1,7 @@
 //! What an UPDATE does to routes, with a list of the prefixes that have another route then.
 
-ghost use Rattle.std.specs.Prelude.{◌≡◌, ◌≢◌, Option, None, Some, true, MatchBool, fold, is_some, IfOk, OnOk};
+ghost use Rattle.std.specs.Prelude.{◌≡◌, ◌≢◌, Option, None, Some, true, MatchBool, fold, is_some, option_map, IfOk, OnOk};
+ghost use Rattle.std.specs.Arc.{arc_value};
 ghost use Rattle.std.specs.FinMap as map;
 ghost use Rattle.std.specs.List.{list_any};
 ghost use Rattle.std.specs.List.Sorted.{IsStrictlySortedBy};
@@ -10,9 +11,10 @@ ghost use Rattle.bgp_types.specs.Tables.{prefix_cmp};
 ghost use Rattle.bgp_story.specs.Readings.{Routes, announce as announced};
 ghost use Rattle.adj_rib.specs.Changes.{Moved, given, withdraw_unless};
 
-use bgp_types::{Attrs, Items, NoMemory, Prefix, PrefixList, Table, TryCopy, Update};
-use prefix_trie::TrieTable;
+use crate::shared::{SharedAttrs, SharedRoutes};
+use bgp_types::{Attrs, Items, NoMemory, Prefix, PrefixList, TryCopy, Update};
 use std::alloc::Global;
+use std::sync::Arc;
 
 /// The same prefixes, each once, in rising order.
 pub fn in_order(prefixes: PrefixList) -> PrefixList
@@ -46,20 +48,20 @@ pub fn list_announced(alloc: Global, update: &Update) -> Result<PrefixList, NoMe
 
 /// Takes a prefix out unless it is announced, and lists it where it was there. `announced` is in rising order.
 fn withdraw_one(
-    routes: &mut TrieTable<Attrs>,
+    routes: &mut SharedRoutes,
     prefix: Prefix,
     announced: &[Prefix],
     changed: &mut PrefixList,
 ) -> Result<(), NoMemory>
     requires { IsStrictlySortedBy prefix_cmp announced.now }
-    ensures routes { OnOk result (routes.new.contents ≡ withdraw_unless announced.now routes.old.contents prefix) }
+    ensures routes { OnOk result (routes.new ≡ withdraw_unless announced.now routes.old prefix) }
     ensures changed { OnOk result ((before : Routes) (to : PrefixValue → Option Attrs) → list_any (same_prefix prefix) announced.now ≡ is_some (to prefix)
-        → Moved to before routes.old.contents changed.old → Moved to before routes.new.contents changed.new) }
+        → Moved to before routes.old changed.old → Moved to before routes.new changed.new) }
 {
     if is_among(prefix, announced) {
         return Ok(());
     }
-    if routes.remove(prefix).is_some() {
+    if routes.remove(prefix) {
         changed.push(prefix)?;
     }
     Ok(())
@@ -67,15 +69,15 @@ fn withdraw_one(
 
 /// Takes the prefixes out that aren't announced, and lists those that were there. `announced` is in rising order.
 pub fn withdraw(
-    routes: &mut TrieTable<Attrs>,
+    routes: &mut SharedRoutes,
     prefixes: &[Prefix],
     announced: &[Prefix],
     changed: &mut PrefixList,
 ) -> Result<(), NoMemory>
     requires { IsStrictlySortedBy prefix_cmp announced.now }
-    ensures routes { OnOk result (routes.new.contents ≡ fold (withdraw_unless announced.now) routes.old.contents prefixes.now) }
+    ensures routes { OnOk result (routes.new ≡ fold (withdraw_unless announced.now) routes.old prefixes.now) }
     ensures changed { OnOk result ((before : Routes) (to : PrefixValue → Option Attrs) → ((p : PrefixValue) → list_any (same_prefix p) announced.now ≡ is_some (to p))
-        → Moved to before routes.old.contents changed.old → Moved to before routes.new.contents changed.new) }
+        → Moved to before routes.old changed.old → Moved to before routes.new changed.new) }
 {
     for prefix in prefixes {
         withdraw_one(routes, *prefix, announced, changed)?;
@@ -83,44 +85,33 @@ pub fn withdraw(
     Ok(())
 }
 
-/// Gives a prefix a copy of this route, and answers what it had.
-fn set_copy(
-    routes: &mut TrieTable<Attrs>,
-    prefix: Prefix,
-    attrs: &Attrs,
-) -> Result<Option<Attrs>, NoMemory>
-    ensures set { OnOk result (routes.new.contents ≡ map.insert routes.old.contents prefix attrs.now) }
-    ensures had { IfOk result (λ had. had ≡ map.get routes.old.contents prefix) }
-{
-    match routes.set(prefix, attrs.copy()?) {
-        Ok(had) => Ok(had),
-        Err(_) => Err(NoMemory),
-    }
-}
-
 /// Whether this is the route that a prefix had.
 #[tactic(auto, using(bgp_types::proofs::Equality::attrs_equal))]
-fn is_same(had: &Option<Attrs>, attrs: &Attrs) -> bool
-    ensures { MatchBool result (had.now ≡ Some attrs.now) (had.now ≢ Some attrs.now) }
+fn is_same(had: &Option<SharedAttrs>, attrs: &SharedAttrs) -> bool
+    ensures { MatchBool result (option_map arc_value had.now ≡ Some (arc_value attrs.now)) (option_map arc_value had.now ≢ Some (arc_value attrs.now)) }
 {
+    let attrs: &Attrs = attrs;
     match had {
-        Some(had) => had == attrs,
+        Some(had) => {
+            let had: &Attrs = had;
+            had == attrs
+        }
         None => false,
     }
 }
 
 /// Gives a prefix this route, and lists it where it had another or none.
 fn announce_one(
-    routes: &mut TrieTable<Attrs>,
+    routes: &mut SharedRoutes,
     prefix: Prefix,
-    attrs: &Attrs,
+    attrs: &SharedAttrs,
     changed: &mut PrefixList,
 ) -> Result<(), NoMemory>
-    ensures routes { OnOk result (routes.new.contents ≡ map.insert routes.old.contents prefix attrs.now) }
-    ensures changed { OnOk result ((before : Routes) (to : PrefixValue → Option Attrs) → to prefix ≡ Some attrs.now
-        → Moved to before routes.old.contents changed.old → Moved to before routes.new.contents changed.new) }
+    ensures routes { OnOk result (routes.new ≡ map.insert routes.old prefix (arc_value attrs.now)) }
+    ensures changed { OnOk result ((before : Routes) (to : PrefixValue → Option Attrs) → to prefix ≡ Some (arc_value attrs.now)
+        → Moved to before routes.old changed.old → Moved to before routes.new changed.new) }
 {
-    let had = set_copy(routes, prefix, attrs)?;
+    let had = routes.set(prefix, attrs)?;
     if is_same(&had, attrs) {
         return Ok(());
     }
@@ -130,17 +121,19 @@ fn announce_one(
 
 /// Gives each of the prefixes this route, and lists those that had another or none.
 pub fn announce(
-    routes: &mut TrieTable<Attrs>,
+    alloc: Global,
+    routes: &mut SharedRoutes,
     prefixes: &[Prefix],
     attrs: &Attrs,
     changed: &mut PrefixList,
 ) -> Result<(), NoMemory>
-    ensures routes { OnOk result (routes.new.contents ≡ fold (announced (Some attrs.now)) routes.old.contents prefixes.now) }
+    ensures routes { OnOk result (routes.new ≡ fold (announced (Some attrs.now)) routes.old prefixes.now) }
     ensures changed { OnOk result ((before : Routes) (to : PrefixValue → Option Attrs) → ((p : PrefixValue) → list_any (same_prefix p) prefixes.now ≡ true → to p ≡ Some attrs.now)
-        → Moved to before routes.old.contents changed.old → Moved to before routes.new.contents changed.new) }
+        → Moved to before routes.old changed.old → Moved to before routes.new changed.new) }
 {
+    let shared = Arc::new(alloc, attrs.copy()?)?;
     for prefix in prefixes {
-        announce_one(routes, *prefix, attrs, changed)?;
+        announce_one(routes, *prefix, &shared, changed)?;
     }
     Ok(())
 }

@@ -3,5 +3,6 @@
 
 mod changes;
 mod rib;
+mod shared;
 
 pub use rib::AdjRib;

@@ -7,8 +7,8 @@ ghost use Rattle.bgp_story.specs.Readings.{apply};
 ghost use Rattle.adj_rib.specs.Changes.{Changed};
 
 use crate::changes::{announce, in_order, list_announced, withdraw};
-use bgp_types::{Attrs, Items, NoMemory, Prefix, PrefixList, Table, Update};
-use prefix_trie::TrieTable;
+use crate::shared::SharedRoutes;
+use bgp_types::{Attrs, Items, NoMemory, Prefix, PrefixList, Update};
 use std::alloc::Global;
 use std::marker::Model;
 
@@ -16,7 +16,7 @@ use std::marker::Model;
 #[derive(Drop)]
 pub struct AdjRib {
     alloc: Global,
-    routes: TrieTable<Attrs>,
+    routes: SharedRoutes,
 }
 
 impl Model for AdjRib {
@@ -29,7 +29,7 @@ impl Model for AdjRib {
 
     ghost coded = { map.code coded_prefix attrs.the_row.coded };
 
-    ghost view = { λ rib. rib.routes.contents };
+    ghost view = { λ rib. rib.routes };
 }
 
 impl AdjRib {
@@ -39,7 +39,7 @@ impl AdjRib {
     {
         AdjRib {
             alloc,
-            routes: TrieTable::new(alloc),
+            routes: SharedRoutes::new(alloc),
         }
     }
 
@@ -61,6 +61,7 @@ impl AdjRib {
         )?;
         if let Some(attrs) = &update.attrs {
             announce(
+                self.alloc,
                 &mut self.routes,
                 update.nlri.as_slice(),
                 attrs,
@@ -81,7 +82,7 @@ impl AdjRib {
     pub fn clear(&mut self)
         ensures { self.new ≡ map.empty }
     {
-        self.routes = TrieTable::new(self.alloc);
+        self.routes = SharedRoutes::new(self.alloc);
     }
 
     /// The least prefix that is above another, or the least of all.

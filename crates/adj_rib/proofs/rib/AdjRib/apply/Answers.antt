@@ -13,16 +13,16 @@ returns-clause-routes c =
     let old = c.args.self.now in
     let u = c.args.update.now in
     let listed = c.in_ok-announced.announced in
-    let middle : c.withdraw.new.routes.contents ≡ fold (withdraw_unless listed) old u.withdrawn = c.in_ok-withdraw.ensures.routes
+    let middle : c.withdraw.new.routes ≡ fold (withdraw_unless listed) old u.withdrawn = c.in_ok-withdraw.ensures.routes
     ∙ (ap (λ (r : Routes). fold (withdraw_unless c.as_slice-2.result.now) r c.as_slice.result.now) c.self.view_is
     ∙ (ap (fold (withdraw_unless c.as_slice-2.result.now) old) c.as_slice.ensures
     ∙ ap (λ (ps : List PrefixValue). fold (withdraw_unless ps) old u.withdrawn) c.as_slice-2.ensures)) in
     elim c.match-update.branch [
       | in-Some+in_ok-announce w ↦
-          let end : w.announce.new.routes.contents ≡ fold (announce (Some w.in-Some.attrs)) c.withdraw.new.routes.contents u.nlri = w.in_ok-announce.ensures.routes
-          ∙ ap (fold (announce (Some w.in-Some.attrs)) c.withdraw.new.routes.contents) w.as_slice-in-Some.ensures in
-          w.self-is ∙ applied_some old c.withdraw.new.routes.contents u listed c.in_ok-announced.ensures.given middle w.in-Some.attrs w.in-Some.is w.announce.new.routes.contents end
-      | in_default w ↦ w.self-is ∙ applied_none old c.withdraw.new.routes.contents u listed c.in_ok-announced.ensures.given middle w.in_default.is
+          let end : w.announce.new.routes ≡ fold (announce (Some w.in-Some.attrs)) c.withdraw.new.routes u.nlri = w.in_ok-announce.ensures.routes
+          ∙ ap (fold (announce (Some w.in-Some.attrs)) c.withdraw.new.routes) w.as_slice-in-Some.ensures in
+          w.self-is ∙ applied_some old c.withdraw.new.routes u listed c.in_ok-announced.ensures.given middle w.in-Some.attrs w.in-Some.is w.announce.new.routes end
+      | in_default w ↦ w.self-is ∙ applied_none old c.withdraw.new.routes u listed c.in_ok-announced.ensures.given middle w.in_default.is
     ]
 
 pub returns-clause-changed : goal.returns-clause-changed
@@ -30,8 +30,8 @@ returns-clause-changed c =
     let old = c.args.self.now in
     let u = c.args.update.now in
     let among : (p : PrefixValue) → list_any (same_prefix p) c.as_slice-2.result.now ≡ is_some (given u p) = λ p. ap (list_any (same_prefix p)) c.as_slice-2.ensures ∙ c.in_ok-announced.ensures.given p in
-    let none : Moved (given u) old c.self.inside.routes.contents c.new-changed.result =
-    subst (λ (ps : List PrefixValue). Moved (given u) old c.self.inside.routes.contents ps) (sym c.new-changed.ensures) (subst (λ (r : Routes). Moved (given u) old r []) (sym c.self.view_is) (starts (given u) old)) in
+    let none : Moved (given u) old c.self.inside.routes c.new-changed.result =
+    subst (λ (ps : List PrefixValue). Moved (given u) old c.self.inside.routes ps) (sym c.new-changed.ensures) (subst (λ (r : Routes). Moved (given u) old r []) (sym c.self.view_is) (starts (given u) old)) in
     let withdrawn = c.in_ok-withdraw.ensures.changed old (given u) among none in
     listed (given u) old c.match-update.self c.match-update.changed c.in_order.result
     (elim c.match-update.branch [
@@ -39,9 +39,9 @@ returns-clause-changed c =
           let gives : (p : PrefixValue) → list_any (same_prefix p) w.as_slice-in-Some.result.now ≡ true → given u p ≡ Some w.in-Some.attrs =
           λ p e. given_announced u w.in-Some.attrs w.in-Some.is p (ap (list_any (same_prefix p)) (sym w.as_slice-in-Some.ensures) ∙ e) in
           subst (λ (r : Routes). Moved (given u) old r c.match-update.changed) (sym w.self-is)
-          (subst (λ (ps : List PrefixValue). Moved (given u) old w.announce.new.routes.contents ps) (sym w.changed-is) (w.in_ok-announce.ensures.changed old (given u) gives withdrawn))
+          (subst (λ (ps : List PrefixValue). Moved (given u) old w.announce.new.routes ps) (sym w.changed-is) (w.in_ok-announce.ensures.changed old (given u) gives withdrawn))
       | in_default w ↦
           subst (λ (r : Routes). Moved (given u) old r c.match-update.changed) (sym w.self-is)
-          (subst (λ (ps : List PrefixValue). Moved (given u) old c.withdraw.new.routes.contents ps) (sym w.changed-is) withdrawn)
+          (subst (λ (ps : List PrefixValue). Moved (given u) old c.withdraw.new.routes ps) (sym w.changed-is) withdrawn)
     ])
     c.in_order.ensures.rising c.in_order.ensures.same

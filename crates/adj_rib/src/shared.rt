@@ -1,0 +1,97 @@
+//! Routes by prefix, of which those that were set together share their attributes.
+
+ghost use Rattle.std.specs.Prelude.{◌≡◌, OnOk, IfOk, is_some, option_copied, option_map};
+ghost use Rattle.std.specs.Arc.{arc_value};
+ghost use Rattle.std.specs.FinMap as map;
+ghost use Rattle.bgp_types.specs.Tables.{first_above};
+
+use bgp_types::{Attrs, NoMemory, Prefix, Table};
+use prefix_trie::TrieTable;
+use std::alloc::Global;
+use std::marker::Model;
+use std::sync::Arc;
+
+/// Attributes that several prefixes share.
+pub type SharedAttrs = Arc<Attrs, Global>;
+
+/// A table of routes.
+#[derive(Drop)]
+pub struct SharedRoutes {
+    trie: TrieTable<SharedAttrs>,
+}
+
+impl Model for SharedRoutes {
+    ghost use Rattle.std.specs.Arc.{arc_value};
+    ghost use Rattle.std.specs.FinMap as map;
+    ghost use Rattle.bgp_types.specs.Tables.{coded_prefix};
+    ghost use Rattle.bgp_types.specs.contracts.attrs.Attrs as attrs;
+    ghost use Rattle.bgp_story.specs.Readings.{Routes};
+    ghost use Rattle.adj_rib.specs.Shares.{each_value};
+
+    ghost Value = { Routes };
+
+    ghost coded = { map.code coded_prefix attrs.the_row.coded };
+
+    ghost view = { λ table. each_value arc_value table.trie.contents };
+}
+
+impl SharedRoutes {
+    /// No route.
+    pub fn new(alloc: Global) -> SharedRoutes
+        ensures { result ≡ map.empty }
+    {
+        SharedRoutes {
+            trie: TrieTable::new(alloc),
+        }
+    }
+
+    /// The route of a prefix.
+    pub fn get(&self, prefix: Prefix) -> Option<&Attrs>
+        ensures { option_copied result ≡ map.get self.now prefix }
+    {
+        match self.trie.get(prefix) {
+            Some(shared) => {
+                let attrs: &Attrs = shared;
+                Some(attrs)
+            }
+            None => None,
+        }
+    }
+
+    /// Gives a prefix a route, and answers what it had.
+    pub fn set(
+        &mut self,
+        prefix: Prefix,
+        attrs: &SharedAttrs,
+    ) -> Result<Option<SharedAttrs>, NoMemory>
+        ensures set { OnOk result (self.new ≡ map.insert self.old prefix (arc_value attrs.now)) }
+        ensures had { IfOk result (λ had. option_map arc_value had ≡ map.get self.old prefix) }
+    {
+        match self.trie.set(prefix, Arc::try_clone(attrs)?) {
+            Ok(had) => Ok(had),
+            Err(_) => Err(NoMemory),
+        }
+    }
+
+    /// Takes a prefix out, and answers whether it was there.
+    pub fn remove(&mut self, prefix: Prefix) -> bool
+        ensures there { result ≡ is_some (map.get self.old prefix) }
+        ensures removed { self.new ≡ map.remove self.old prefix }
+    {
+        self.trie.remove(prefix).is_some()
+    }
+
+    /// The least prefix that is above another, or the least of all.
+    pub fn next_after(&self, prefix: Option<Prefix>) -> Option<Prefix>
+        ensures { result ≡ first_above prefix (map.keys self.now) }
+    {
+        self.trie.next_after(prefix)
+    }
+
+    /// How many routes there are.
+    pub fn len(&self) -> usize
+        ensures { result ≡ map.len self.now }
+    {
+        self.trie.len()
+    }
+}
