@@ -1,0 +1,5 @@
+pub mod Nodes
+pub mod Edges
+pub mod Ways
+pub mod Courses
+pub mod Looks
