@@ -39,5 +39,5 @@ pub record Pause (k : ℕ) (a b : Stand) (answer : Bool) : Type 0 where
 -- The way from one stand to another, with the number of rounds of each group that has begun since, the one at work last. A group begins where the world is quiet.
 pub data Way (setup : Setup) (a : Stand) : List ℕ → Stand → Type 0 where
   Here : Way setup a (0 ∷ []) a
-  Rounds : (past : List ℕ) (n : ℕ) (b : Stand) {c : Stand} → Way setup a (past ++ n ∷ []) b → Round b c → Way setup a (past ++ (n + 1) ∷ []) c
-  Groups : (rounds : List ℕ) (b : Stand) {c : Stand} → Way setup a rounds b → QuietAt own carried setup b.view → Pause (routers_in setup + peerings_in setup) b c true → Way setup a (rounds ++ 0 ∷ []) c
+  Rounds : (past : List ℕ) (n : ℕ) {b c : Stand} → Way setup a (past ++ n ∷ []) b → Round b c → Way setup a (past ++ (n + 1) ∷ []) c
+  Groups : (rounds : List ℕ) {b c : Stand} → Way setup a rounds b → QuietAt own carried setup b.view → Pause (routers_in setup + peerings_in setup) b c true → Way setup a (rounds ++ 0 ∷ []) c
