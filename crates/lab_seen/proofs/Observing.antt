@@ -1,5 +1,5 @@
 -- What the passes over a finished net make is what is seen of its world.
-use Rattle.std.proofs.Common.{◌≡◌, ◌<◌, ◌+◌, ℕ, List, [], ◌∷◌, ◌++◌, Option, Some, refl, sym, ap, ◌∙◌, subst}
+use Rattle.std.proofs.Common.{◌≡◌, ◌<◌, ◌+◌, ℕ, List, [], ◌∷◌, ◌++◌, Option, Some, length, refl, sym, ap, ◌∙◌, subst}
 use Rattle.std.specs.Prelude.{slice_get}
 use Rattle.std.specs.List.{flat_map, range_with_len}
 use Rattle.ring_net.specs.declared.parts.Left.{Left}
@@ -20,7 +20,7 @@ use Rattle.lab_seen.specs.Seen.{Observed, SeesSession, view_of}
 use Rattle.lab_seen.specs.declared.found.Found.{Found}
 use Rattle.lab_seen.proofs.Nodes.{tables_are, fars_are, log_is}
 use Rattle.lab_seen.proofs.Phases.{place_in}
-use Rattle.lab_seen.proofs.Ranges.{IsOne, one_of}
+use Rattle.lab_seen.proofs.Ranges.{IsOne, one_of, as_many}
 use Rattle.lab_seen.proofs.Sessions.{Known, known, one, is_found, is_placed}
 
 -- all sessions that are found
@@ -66,6 +66,8 @@ module _ (setup : Setup) (w : World) (actors : List Node) (left : List (Left Mai
   by_setup : (lab : Lab) → IsMade setup actors left (routers_in setup) (peerings_in setup) lab.log lab.far lab.tables lab.placement lab.sessions → Observed setup w lab
   by_setup lab made = record {
     log = made.log_is ∙ log_is setup w actors left done;
+    placed = ap (λ (xs : List Place). length xs) made.placement_is ∙ as_many (λ p. places_in (first_on found p)) (peerings_in setup) one_place;
+    viewed = ap (λ (xs : List SessionView). length xs) made.sessions_is ∙ as_many (λ p. views_in (first_on found p)) (peerings_in setup) one_view;
     sessions = sees lab made.placement_is made.sessions_is;
     far = made.far_is ∙ fars_are setup w actors left done;
     tables = made.tables_is ∙ tables_are setup w actors left done;
