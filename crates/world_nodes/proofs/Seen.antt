@@ -127,10 +127,18 @@ module _ {A C : Type 0} (own : A → OwnPart) (session : C → SessionValue) (se
         by_test false e = absurd (some (silent w itself (actor_at setup a) (actor_at setup b) (sym (each a b) ∙ e)))
         by_test true e =
             let found = Any-from_list_any (λ (x : ℕ × ℕ). x.0 == a && x.1 == b) edges e in
-            let same = pair found.1.0 found.1.1 found.4 in
-            (found.0, found.1, found.2, found.3, (rw (same.0, same.1) refl, λ none.
-                let empty : v.channel a b ≡ [] = ap (λ n. v.channel n b) (sym same.0) ∙ ap (λ n. v.channel found.1.0 n) (sym same.1) ∙ none in
-                some (sym (things a b e) ∙ ap (λ xs. map (thing_of session setup) (map (λ (z : Stamped (Item C)). z.item) xs)) empty)))
+            let same = pair found.1.0 found.1.1 found.4 in (
+              found.0,
+              found.1,
+              found.2,
+              found.3,
+              (
+                rw (same.0, same.1) refl,
+                λ none.
+                    let empty : v.channel a b ≡ [] = ap (λ n. v.channel n b) (sym same.0) ∙ ap (λ n. v.channel found.1.0 n) (sym same.1) ∙ none in
+                    some (sym (things a b e) ∙ ap (λ xs. map (thing_of session setup) (map (λ (z : Stamped (Item C)). z.item) xs)) empty),
+              ),
+            )
           where
             pair : (x y : ℕ) → (x == a && y == b) ≡ true → (x ≡ a) × (y ≡ b)
             pair x y e = elim (eqb_tells x a) [
