@@ -1,5 +1,5 @@
 -- A net that goes on, from one level to the next, is a run of the world.
-use Rattle.std.proofs.Common.{◌≡◌, ◌≢◌, ◌∙◌, ◌≤◌, ◌<◌, ℕ, Bool, List, [], ◌∷◌, ◌++◌, length, get_or, map, refl, ap, sym, subst, arith, inl, inr}
+use Rattle.std.proofs.Common.{◌≡◌, ◌∙◌, ◌≤◌, ◌<◌, ℕ, Bool, List, [], ◌∷◌, ◌++◌, length, get_or, map, refl, ap, sym, subst, arith, inl, inr}
 use Rattle.std.specs.Prelude.{◌⊎◌}
 use Rattle.std.specs.List.{AllByRecursion}
 use Rattle.std.proofs.lemmas.List.{append-nil, map-append}
@@ -8,8 +8,8 @@ use Rattle.ring_net.specs.Turns.{ActorDid}
 use Rattle.ring_net.specs.Phases.{View, IsNew, InOrder, AllAt, Levelled, Phase, Between}
 use Rattle.ring_net.proofs.Replays.{all-append}
 use Rattle.ring_net.proofs.Order.{order_new, order_level, order_phase, order_between}
-use Rattle.journal_merge.specs.Growth.{Grew, IsWorldOf}
-use Rattle.journal_merge.specs.Laws.{GrowsOn, LevelGrows, PhaseGrows, BetweenGrows, at_mark}
+use Rattle.journal_merge.specs.Growth.{Grew}
+use Rattle.journal_merge.specs.Laws.{GrowsOn, LevelGrows, PhaseGrows, BetweenGrows}
 use Rattle.graft_steps.specs.declared.item.Item.{Item}
 use Rattle.session_value.specs.Sessions.{SessionValue}
 use Rattle.graft_model.specs.Setups.{Setup, IsSetup}

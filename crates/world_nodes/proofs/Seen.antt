@@ -1,5 +1,5 @@
 -- What the actors and channels of a net tell of the world that it is.
-use Rattle.std.proofs.Common.{◌≡◌, ◌≢◌, ◌≤◌, ◌<◌, ◌+◌, ◌-◌, ◌∙◌, ℕ, zero, suc, Bool, true, false, List, [], ◌∷◌, length, get_or, map, Option, Some, None, refl, ap, sym, subst, arith, inl, inr}
+use Rattle.std.proofs.Common.{◌≡◌, ◌≤◌, ◌<◌, ◌+◌, ◌-◌, ◌∙◌, ℕ, zero, suc, Bool, true, false, List, [], ◌∷◌, length, get_or, map, Option, Some, None, refl, ap, sym, subst, arith, inl, inr}
 use Rattle.std.specs.Prelude.{◌⊎◌, ◌==◌, ◌&&◌}
 use Rattle.std.specs.List.{Any}
 use Rattle.std.proofs.lemmas.Bool.Decides.{eqb_tells, nat_tests}
@@ -13,7 +13,7 @@ use Rattle.graft_steps.specs.declared.rest.Pending.TheVariants.{Script, Graft, C
 use Rattle.session_value.specs.Sessions.{SessionValue}
 use Rattle.graft_model.specs.Setups.{Setup, routers_in, peerings_in}
 use Rattle.graft_model.specs.Parts.{World}
-use Rattle.graft_runs.specs.Actors.{ActorPart, ActorName, Router, FarSide, Operator, Thing, MeshItem, IsActor, number_in, actor_at}
+use Rattle.graft_runs.specs.Actors.{ActorPart, ActorName, Router, FarSide, Operator, MeshItem, IsActor, number_in, actor_at}
 use Rattle.graft_runs.specs.Seen.{part_of, channel_of}
 use Rattle.graft_runs.proofs.Numbers.{there, of_number, at_operator}
 use Rattle.graft_actors.specs.Items.{thing_of}
