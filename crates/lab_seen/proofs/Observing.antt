@@ -77,4 +77,4 @@ module _ (setup : Setup) (w : World) (actors : List Node) (left : List (Left Mai
   pub observed : (lab : Lab) (routers peerings : ℕ) → routers_in setup ≡ routers → peerings_in setup ≡ peerings → IsMade setup actors left routers peerings lab.log lab.far lab.tables lab.placement lab.sessions → Observed setup w lab
   observed lab routers peerings many_routers many_peerings made = by_setup lab
       (subst (λ n. IsMade setup actors left n (peerings_in setup) lab.log lab.far lab.tables lab.placement lab.sessions) (sym many_routers)
-        (subst (λ n. IsMade setup actors left routers n lab.log lab.far lab.tables lab.placement lab.sessions) (sym many_peerings) made))
+      (subst (λ n. IsMade setup actors left routers n lab.log lab.far lab.tables lab.placement lab.sessions) (sym many_peerings) made))

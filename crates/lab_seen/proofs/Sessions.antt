@@ -173,9 +173,9 @@ module _ (setup : Setup) (w : World) (actors : List Node) (left : List (Left Mai
     moving_only =
         let channel : ℕ → ℕ → List Mail = λ a b. map (λ (x : Stamped Mail). x.item) (done.stand.view.channel a b) in
         all_joined IsOnly carried_in left (subst (λ (xs : List (Left Mail)). AllByRecursion (λ x. AllByRecursion IsOnly (carried_in x)) xs) (sym done.left_is)
-          (all_mapped (λ (e : ℕ × ℕ). record { from = e.0; to = e.1; items = channel e.0 e.1 }) (λ e. AllByRecursion IsOnly (flat_map carried_by (channel e.0 e.1))) (λ (x : Left Mail). AllByRecursion IsOnly (carried_in x)) (λ e all. all) done.edges
-            (all_edges (λ a b. AllByRecursion IsOnly (flat_map carried_by (channel a b))) done.edges (λ a b e. things_to_found IsOnly setup (channel a b)
-              (subst (λ (xs : List Thing). AllByRecursion (OnThing IsOnly) xs) (sym (things a b e)) (on_channels IsOnly w mesh_only (actor_at setup a) (actor_at setup b)))))))
+        (all_mapped (λ (e : ℕ × ℕ). record { from = e.0; to = e.1; items = channel e.0 e.1 }) (λ e. AllByRecursion IsOnly (flat_map carried_by (channel e.0 e.1))) (λ (x : Left Mail). AllByRecursion IsOnly (carried_in x)) (λ e all. all) done.edges
+        (all_edges (λ a b. AllByRecursion IsOnly (flat_map carried_by (channel a b))) done.edges (λ a b e. things_to_found IsOnly setup (channel a b)
+        (subst (λ (xs : List Thing). AllByRecursion (OnThing IsOnly) xs) (sym (things a b e)) (on_channels IsOnly w mesh_only (actor_at setup a) (actor_at setup b)))))))
 
     only_one : AllByRecursion IsOnly all_found
     only_one = all_append IsOnly (flat_map (λ r. held_by r (slice_get actors r)) (range_with_len 0 (routers_in setup))) (flat_map carried_in left)

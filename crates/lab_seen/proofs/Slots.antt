@@ -71,9 +71,9 @@ module _ (found : List Found) (one : Found) where
             let right = get_or-map-range_with_len (first_on (found ++ one ∷ [])) 0 n k k d l place in
             elim (eqb_tells p k) [
               | inl e ↦ (let p_in : p < length slots = omega (arith, below, slots_in found slots n is) in
-                    ap (λ j. get_or (set slots p (Some one)) j d) (sym e.1) ∙ get_or-set_same slots p (Some one) d p_in ∙ sym (is_new k e.1) ∙ sym right)
+                  ap (λ j. get_or (set slots p (Some one)) j d) (sym e.1) ∙ get_or-set_same slots p (Some one) d p_in ∙ sym (is_new k e.1) ∙ sym right)
               | inr ne ↦ (let back : k ≢ p = λ e. ne.1 (sym e) in
-                    get_or-set_other slots p k (Some one) d back ∙ slot_is found slots n k d is l ∙ sym (others k (λ e. ne.1 (same ∙ e))) ∙ sym right)
+                  get_or-set_other slots p k (Some one) d back ∙ slot_is found slots n k d is l ∙ sym (others k (λ e. ne.1 (same ∙ e))) ∙ sym right)
             ]
 
     -- or it is left out
@@ -95,6 +95,6 @@ module _ (found : List Found) (one : Found) where
             let right = get_or-map-range_with_len (first_on (found ++ one ∷ [])) 0 n k k d l place in
             elim (eqb_tells one.peering.0 k) [
               | inl e ↦ (let below : one.peering.0 < n = omega (arith, l, e.1) in
-                    slot_is found slots n k d is l ∙ ap (first_on found) (sym e.1) ∙ sym (kept below (first_on found one.peering.0) refl) ∙ ap (first_on (found ++ one ∷ [])) e.1 ∙ sym right)
+                  slot_is found slots n k d is l ∙ ap (first_on found) (sym e.1) ∙ sym (kept below (first_on found one.peering.0) refl) ∙ ap (first_on (found ++ one ∷ [])) e.1 ∙ sym right)
               | inr ne ↦ slot_is found slots n k d is l ∙ sym (others k ne.1) ∙ sym right
             ]

@@ -22,8 +22,8 @@ loop-number-preserved c =
     (λ none. sym at.invariant.0 ∙ nil_from_length (into_iter_items at.nodes) (sym at.nodes.rest.ok.0 ∙ (MatchOption-at_none _ _ none c.next.ensures.cases).0)) in (
       next.left,
       c.in_ok-add_held.ensures
-      ∙ ap (λ (xs : List Found). xs ++ map (found_at (Held (record { 0 = at.number }))) c.in_ok-sessions.sessions) at.invariant.1
-      ∙ ap (λ xs. flat_map held (range_with_len 0 at.number) ++ map (found_at (Held (record { 0 = at.number }))) xs) c.in_ok-sessions.ensures
-      ∙ ap (λ (o : Option Node). flat_map held (range_with_len 0 at.number) ++ held_by at.number o) next.element
-      ∙ sym (one_number_more held at.number),
+          ∙ ap (λ (xs : List Found). xs ++ map (found_at (Held (record { 0 = at.number }))) c.in_ok-sessions.sessions) at.invariant.1
+          ∙ ap (λ xs. flat_map held (range_with_len 0 at.number) ++ map (found_at (Held (record { 0 = at.number }))) xs) c.in_ok-sessions.ensures
+          ∙ ap (λ (o : Option Node). flat_map held (range_with_len 0 at.number) ++ held_by at.number o) next.element
+          ∙ sym (one_number_more held at.number),
     )

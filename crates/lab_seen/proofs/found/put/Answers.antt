@@ -13,6 +13,6 @@ pub returns-else-p-slots : goal.returns-else-p-slots
 returns-else-p-slots c found is =
     let slots = c.args.slots.now in
     left_out found c.args.one slots (length slots) is c.from-p.result c.from-p.ensures (λ below. elim c.else-p-slots.branch [
-        | else-p-slots-via-then-p-slots+else-is_none w ↦ record { x = w.index-slots-p.result; some = w.is_none.ensures ∙ ap not w.if-is_none.false }
-        | else-p-slots-via-else-p-slots w ↦ absurd (omega (arith, below, w.if-p-slots.false))
+      | else-p-slots-via-then-p-slots+else-is_none w ↦ record { x = w.index-slots-p.result; some = w.is_none.ensures ∙ ap not w.if-is_none.false }
+      | else-p-slots-via-else-p-slots w ↦ absurd (omega (arith, below, w.if-p-slots.false))
     ])
