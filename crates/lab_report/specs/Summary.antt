@@ -27,13 +27,19 @@ announced_by step = []
 abbrev pub prefixes_in : LabInput → List PrefixValue
 prefixes_in input = once_after [] (flat_map announced_by input.steps)
 
+abbrev pub is_accepted : GraftStage → Bool
+is_accepted (Ended Accepted) = true
+is_accepted stage = false
+
+abbrev pub is_refused : GraftStage → Bool
+is_refused (Ended (Refused refusal)) = true
+is_refused stage = false
+
 abbrev pub was_accepted : GraftEntry → Bool
-was_accepted (record { stage = Ended Accepted }) = true
-was_accepted entry = false
+was_accepted entry = is_accepted entry.stage
 
 abbrev pub was_refused : GraftEntry → Bool
-was_refused (record { stage = Ended (Refused refusal) }) = true
-was_refused entry = false
+was_refused entry = is_refused entry.stage
 
 abbrev pub counts_line : Lab → List ℕ
 counts_line lab = codes "routers " ++ decimal (length lab.input.routers) ++ codes " peerings " ++ decimal (length lab.input.peerings)

@@ -1,6 +1,6 @@
 //! The journal of a run.
 
-ghost use Rattle.std.specs.Prelude.{◌≡◌, ◌++◌, IfOk, OnOk, string_bytes};
+ghost use Rattle.std.specs.Prelude.{◌≡◌, ◌++◌, IfOk, OnOk, string_bytes, decimal};
 ghost use Rattle.std.specs.List.{flat_map};
 ghost use Rattle.lab_report.specs.Journals.{entry_line, journal_text};
 
@@ -9,18 +9,25 @@ use ring_net::JournalEntry;
 use std::alloc::Global;
 use std::fmt::Write;
 
+/// A number and what stands behind it.
+fn push_number(text: &mut String, number: u64, behind: &str) -> Result<(), NoMemory>
+    ensures { OnOk result (string_bytes text.new ≡ string_bytes text.old ++ (decimal number ++ behind.now)) }
+{
+    write!(text, "{number}")?;
+    text.push_str(behind)?;
+    Ok(())
+}
+
 /// The line of an entry.
 fn push_entry(text: &mut String, entry: &JournalEntry) -> Result<(), NoMemory>
     ensures { OnOk result (string_bytes text.new ≡ string_bytes text.old ++ entry_line entry.now) }
 {
-    let clock = entry.clock;
-    let actor = entry.actor;
-    let kind = entry.kind;
-    let a = entry.a;
-    let b = entry.b;
-    let c = entry.c;
-    write!(text, "{clock} {actor} {kind} {a} {b} {c}\n")?;
-    Ok(())
+    push_number(text, entry.clock, " ")?;
+    push_number(text, u64::from(entry.actor), " ")?;
+    push_number(text, u64::from(entry.kind), " ")?;
+    push_number(text, u64::from(entry.a), " ")?;
+    push_number(text, u64::from(entry.b), " ")?;
+    push_number(text, u64::from(entry.c), "\n")
 }
 
 /// Adds the line of an entry. The text only lends its room.

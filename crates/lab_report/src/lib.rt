@@ -1,4 +1,4 @@
-//! What is said of an input and of a run: the line of an input that is accepted, that of one that is refused, the report of a run, its summary, and its journal.
+//! What is said of an input, accepted or refused, and of a run: its report, its summary and its journal as texts.
 #![tactic(auto)]
 
 mod accepted;

@@ -1,6 +1,6 @@
 //! The summary of a run.
 
-ghost use Rattle.std.specs.Prelude.{◌≡◌, ◌++◌, IfOk, OnOk, string_bytes, length, count_by, option_copied, slice_get};
+ghost use Rattle.std.specs.Prelude.{◌≡◌, ◌++◌, IfOk, OnOk, string_bytes, length, count_by, slice_get};
 ghost use Rattle.std.specs.List.{flat_map, enumerate_from};
 ghost use Rattle.lab_report.specs.Report.{place_words, place_text};
 ghost use Rattle.lab_report.specs.Summary.{announced_by, prefixes_in, was_accepted, was_refused, counts_line, outcomes_line, sizes_words, short_peering_line, best_count, short_router_line, summary_text};
