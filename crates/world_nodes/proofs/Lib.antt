@@ -1,0 +1,15 @@
+pub mod EdgeLists
+pub mod EdgeSteps
+pub mod NoGo
+pub mod Going
+pub mod Firsts
+pub mod Seen
+pub mod NodeCalls
+pub mod WayRuns
+pub mod CourseSteps
+pub mod SendValues
+pub mod SendSessions
+pub mod SendRouters
+pub mod SendFars
+pub mod SendOperators
+pub mod Sends
