@@ -9,7 +9,7 @@ use Rattle.world_nodes.specs.declared.node.Node.{Node}
 use Rattle.lab_report.specs.declared.lab.Place.TheVariants.{Held}
 use Rattle.lab_seen.specs.Found.{found_at, held_by}
 use Rattle.lab_seen.proofs.Ranges.{one_number_more}
-use Rattle.lab_seen.proofs.Walks.{IsNext, walked}
+use Rattle.lab_seen.proofs.Fronts.{IsNext, walked}
 use Rattle.lab_seen.proofs.found.held.Goals as goal
 
 -- one router more, where the next actor is that of its number

@@ -3,7 +3,7 @@ use Rattle.std.specs.List.{range_with_len}
 use Rattle.std.specs.Vec.Iter.{into_iter_items}
 use Rattle.std.proofs.lemmas.List.FromFn.{length-map-range_with_len}
 use Rattle.lab_seen.specs.Found.{first_on}
-use Rattle.lab_seen.proofs.Walks.{written}
+use Rattle.lab_seen.proofs.Fronts.{written}
 use Rattle.lab_seen.proofs.found.slots_of.Goals as goal
 
 pub loop-one-preserved : goal.loop-one-preserved
