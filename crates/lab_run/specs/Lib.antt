@@ -1,0 +1,4 @@
+pub mod Ends
+pub mod Stories
+pub mod Seen
+pub mod Runs
