@@ -165,12 +165,17 @@ alike (Some a) nlri r s p same =
 applied : (old : Routes) (u : Update) (announced : List PrefixValue) → ((p : PrefixValue) → list_any (same_prefix p) announced ≡ is_some (given u p)) → fold (announce u.attrs) (fold (withdraw_unless announced) old u.withdrawn) u.nlri ≡ apply old u
 applied old u announced among = map.same_map prefix_total exact_prefixes _ _ (λ p. alike u.attrs u.nlri _ _ p (λ none. all_withdrawn announced p (among p ∙ none) u.withdrawn old old refl))
 
-module _ (old middle : Routes) (u : Update) (announced : List PrefixValue) (among : (p : PrefixValue) → list_any (same_prefix p) announced ≡ is_some (given u p)) (m : middle ≡ fold (withdraw_unless announced) old u.withdrawn) where
+-- withdrawals that leave what is announced leave the announcements to be made, and so do none
+pub all_but_announced : (old middle : Routes) (u : Update) (announced : List PrefixValue) → ((p : PrefixValue) → list_any (same_prefix p) announced ≡ is_some (given u p)) → middle ≡ fold (withdraw_unless announced) old u.withdrawn
+    → fold (announce u.attrs) middle u.nlri ≡ apply old u
+all_but_announced old middle u announced among m = ap (λ (r : Routes). fold (announce u.attrs) r u.nlri) m ∙ applied old u announced among
+
+pub none_withdrawn : (old : Routes) (u : Update) → u.withdrawn ≡ [] → fold (announce u.attrs) old u.nlri ≡ apply old u
+none_withdrawn old u none = ap (λ (ps : List PrefixValue). fold (announce u.attrs) (fold map.remove old ps) u.nlri) (sym none)
+
+module _ (old middle : Routes) (u : Update) (left : fold (announce u.attrs) middle u.nlri ≡ apply old u) where
   then_announced : (attrs : Option Attrs) → u.attrs ≡ attrs → fold (announce attrs) middle u.nlri ≡ apply old u
-  then_announced attrs is =
-      ap (λ (o : Option Attrs). fold (announce o) middle u.nlri) (sym is)
-      ∙ (ap (λ (r : Routes). fold (announce u.attrs) r u.nlri) m
-      ∙ applied old u announced among)
+  then_announced attrs is = ap (λ (o : Option Attrs). fold (announce o) middle u.nlri) (sym is) ∙ left
 
   pub applied_some : (a : Attrs) → u.attrs ≡ Some a → (end : Routes) → end ≡ fold (announce (Some a)) middle u.nlri → end ≡ apply old u
   applied_some a is end e = e ∙ then_announced (Some a) is

@@ -1,6 +1,6 @@
 //! What an UPDATE does to routes, with a list of the prefixes that have another route then.
 
-ghost use Rattle.std.specs.Prelude.{◌≡◌, ◌≢◌, Option, None, Some, true, MatchBool, fold, is_some, option_map, IfOk, OnOk};
+ghost use Rattle.std.specs.Prelude.{◌≡◌, ◌≢◌, [], Option, None, Some, true, MatchBool, fold, is_some, option_map, IfOk, OnOk};
 ghost use Rattle.std.specs.Arc.{arc_value};
 ghost use Rattle.std.specs.FinMap as map;
 ghost use Rattle.std.specs.List.{list_any};
@@ -8,13 +8,20 @@ ghost use Rattle.std.specs.List.Sorted.{IsStrictlySortedBy};
 ghost use Rattle.bgp_types.specs.declared.attrs.Attrs.{Attrs};
 ghost use Rattle.bgp_types.specs.Prefixes.{PrefixValue, same_prefix};
 ghost use Rattle.bgp_types.specs.Tables.{prefix_cmp};
-ghost use Rattle.bgp_story.specs.Readings.{Routes, announce as announced};
+ghost use Rattle.bgp_story.specs.Readings.{Routes, apply, announce as announced};
 ghost use Rattle.adj_rib.specs.Changes.{Moved, given, withdraw_unless};
 
 use crate::shared::{SharedAttrs, SharedRoutes};
 use bgp_types::{Attrs, Items, NoMemory, Prefix, PrefixList, TryCopy, Update};
 use std::alloc::Global;
 use std::sync::Arc;
+
+/// An empty list with room for so many prefixes.
+pub fn with_room(alloc: Global, count: usize) -> Result<PrefixList, NoMemory>
+    ensures { IfOk result (λ prefixes. prefixes ≡ []) }
+{
+    Ok(Items::from_vec(Vec::with_capacity(alloc, count)?))
+}
 
 /// The same prefixes, each once, in rising order.
 pub fn in_order(prefixes: PrefixList) -> PrefixList
@@ -36,7 +43,7 @@ fn is_among(prefix: Prefix, prefixes: &[Prefix]) -> bool
 }
 
 /// The prefixes that an UPDATE announces, each once, in rising order.
-pub fn list_announced(alloc: Global, update: &Update) -> Result<PrefixList, NoMemory>
+fn list_announced(alloc: Global, update: &Update) -> Result<PrefixList, NoMemory>
     ensures rising { IfOk result (λ prefixes. IsStrictlySortedBy prefix_cmp prefixes) }
     ensures given { IfOk result (λ prefixes. (p : PrefixValue) → list_any (same_prefix p) prefixes ≡ is_some (given update.now p)) }
 {
@@ -68,7 +75,7 @@ fn withdraw_one(
 }
 
 /// Takes the prefixes out that aren't announced, and lists those that were there. `announced` is in rising order.
-pub fn withdraw(
+fn withdraw(
     routes: &mut SharedRoutes,
     prefixes: &[Prefix],
     announced: &[Prefix],
@@ -82,6 +89,30 @@ pub fn withdraw(
     for prefix in prefixes {
         withdraw_one(routes, *prefix, announced, changed)?;
     }
+    Ok(())
+}
+
+/// Takes out what an UPDATE withdraws and doesn't announce, and lists what was there. What it announces is put
+/// in order for that, so an UPDATE that withdraws nothing costs nothing here.
+pub fn withdraw_all(
+    alloc: Global,
+    routes: &mut SharedRoutes,
+    update: &Update,
+    changed: &mut PrefixList,
+) -> Result<(), NoMemory>
+    ensures routes { OnOk result (fold (announced update.now.attrs) routes.new update.now.nlri ≡ apply routes.old update.now) }
+    ensures changed { OnOk result ((before : Routes) → Moved (given update.now) before routes.old changed.old → Moved (given update.now) before routes.new changed.new) }
+{
+    if update.withdrawn.is_empty() {
+        return Ok(());
+    }
+    let announced = list_announced(alloc, update)?;
+    withdraw(
+        routes,
+        update.withdrawn.as_slice(),
+        announced.as_slice(),
+        changed,
+    )?;
     Ok(())
 }
 

@@ -6,9 +6,9 @@ ghost use Rattle.bgp_types.specs.Tables.{first_above};
 ghost use Rattle.bgp_story.specs.Readings.{apply};
 ghost use Rattle.adj_rib.specs.Changes.{Changed};
 
-use crate::changes::{announce, in_order, list_announced, withdraw};
+use crate::changes::{announce, in_order, with_room, withdraw_all};
 use crate::shared::SharedRoutes;
-use bgp_types::{Attrs, Items, NoMemory, Prefix, PrefixList, Update};
+use bgp_types::{Attrs, NoMemory, Prefix, PrefixList, Update};
 use std::alloc::Global;
 use std::marker::Model;
 
@@ -51,14 +51,8 @@ impl AdjRib {
         ensures routes { OnOk result (self.new ≡ apply self.old update.now) }
         ensures changed { IfOk result (λ prefixes. Changed self.old self.new prefixes) }
     {
-        let announced = list_announced(self.alloc, update)?;
-        let mut changed = Items::new(self.alloc);
-        withdraw(
-            &mut self.routes,
-            update.withdrawn.as_slice(),
-            announced.as_slice(),
-            &mut changed,
-        )?;
+        let mut changed = with_room(self.alloc, update.nlri.len())?;
+        withdraw_all(self.alloc, &mut self.routes, update, &mut changed)?;
         if let Some(attrs) = &update.attrs {
             announce(
                 self.alloc,

@@ -1,7 +1,7 @@
 use Rattle.std.proofs.Common.{◌++◌, ap, sym, ◌∙◌, append_assoc, string_bytes, take, length, ◌<◌, arith}
 use Rattle.std.specs.List.{flat_map, enumerate_from}
+use Rattle.lab_input.proofs.Numbered.{flat_map_numbered}
 use Rattle.lab_report.specs.Report.{peering_line}
-use Rattle.lab_report.proofs.Numbered.{flat_map_numbered}
 use Rattle.lab_report.proofs.texts.push_peerings.Goals as goal
 
 -- the lines so far, and behind them those of one peering more

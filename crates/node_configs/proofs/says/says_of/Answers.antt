@@ -1,9 +1,9 @@
 use Rattle.std.proofs.Common.{◌<◌, ◌++◌, length, take, ap, sym, ◌∙◌, arith, ℕ, List}
 use Rattle.std.specs.Prelude.{Option}
 use Rattle.lab_tables.specs.declared.input.Step.{Step}
+use Rattle.lab_input.proofs.Numbered.{flat_map_numbered}
 use Rattle.far_side.specs.declared.says.Say.{Say}
 use Rattle.node_configs.specs.Says.{said_by, say_if, says_of}
-use Rattle.node_configs.proofs.Lists.{flat_map_numbered}
 use Rattle.node_configs.proofs.says.says_of.Goals as goal
 
 -- what one step more says

@@ -1,9 +1,9 @@
 use Rattle.std.proofs.Common.{◌≡◌, ◌<◌, ◌++◌, length, ap, sym, ◌∙◌, arith, List}
 use Rattle.std.specs.Prelude.{slice_index_or}
 use Rattle.lab_tables.specs.declared.input.PeeringInput.{PeeringInput}
+use Rattle.lab_input.proofs.Numbered.{flat_map_numbered}
 use Rattle.session_value.specs.declared.config.SessionConfig.{SessionConfig}
 use Rattle.node_configs.specs.Tables.{session_if}
-use Rattle.node_configs.proofs.Lists.{flat_map_numbered}
 use Rattle.node_configs.proofs.sessions.sessions_at.Goals as goal
 
 -- the session of one peering more

@@ -1,9 +1,9 @@
 use Rattle.std.proofs.Common.{◌≡◌, true, List, [], Some, sym, ap, ◌∙◌, subst}
-use Rattle.std.specs.Prelude.{fold, is_some}
+use Rattle.std.specs.Prelude.{fold}
 use Rattle.std.specs.List.{list_any}
 use Rattle.bgp_types.specs.Prefixes.{PrefixValue, same_prefix}
-use Rattle.bgp_story.specs.Readings.{Routes, announce}
-use Rattle.adj_rib.specs.Changes.{Moved, given, withdraw_unless}
+use Rattle.bgp_story.specs.Readings.{Routes, announce, apply}
+use Rattle.adj_rib.specs.Changes.{Moved, given}
 use Rattle.adj_rib.proofs.Moves.{applied_some, applied_none, given_announced, starts, listed}
 use Rattle.adj_rib.proofs.rib.AdjRib.apply.Goals as goal
 use Rattle.adj_rib.proofs.rib.AdjRib.apply.Goals.{in-Some+in_ok-announce, in_default}
@@ -12,36 +12,31 @@ pub returns-clause-routes : goal.returns-clause-routes
 returns-clause-routes c =
     let old = c.args.self.now in
     let u = c.args.update.now in
-    let listed = c.in_ok-announced.announced in
-    let middle : c.withdraw.new.routes ≡ fold (withdraw_unless listed) old u.withdrawn = c.in_ok-withdraw.ensures.routes
-    ∙ (ap (λ (r : Routes). fold (withdraw_unless c.as_slice-2.result.now) r c.as_slice.result.now) c.self.view_is
-    ∙ (ap (fold (withdraw_unless c.as_slice-2.result.now) old) c.as_slice.ensures
-    ∙ ap (λ (ps : List PrefixValue). fold (withdraw_unless ps) old u.withdrawn) c.as_slice-2.ensures)) in
+    let left : fold (announce u.attrs) c.withdraw_all.new.routes u.nlri ≡ apply old u = c.in_ok-withdraw_all.ensures.routes ∙ ap (λ (r : Routes). apply r u) c.self.view_is in
     elim c.match-update.branch [
       | in-Some+in_ok-announce w ↦
-          let end : w.announce.new.routes ≡ fold (announce (Some w.in-Some.attrs)) c.withdraw.new.routes u.nlri = w.in_ok-announce.ensures.routes
-          ∙ ap (fold (announce (Some w.in-Some.attrs)) c.withdraw.new.routes) w.as_slice-in-Some.ensures in
-          w.self-is ∙ applied_some old c.withdraw.new.routes u listed c.in_ok-announced.ensures.given middle w.in-Some.attrs w.in-Some.is w.announce.new.routes end
-      | in_default w ↦ w.self-is ∙ applied_none old c.withdraw.new.routes u listed c.in_ok-announced.ensures.given middle w.in_default.is
+          let end : w.announce.new.routes ≡ fold (announce (Some w.in-Some.attrs)) c.withdraw_all.new.routes u.nlri = w.in_ok-announce.ensures.routes
+          ∙ ap (fold (announce (Some w.in-Some.attrs)) c.withdraw_all.new.routes) w.as_slice.ensures in
+          w.self-is ∙ applied_some old c.withdraw_all.new.routes u left w.in-Some.attrs w.in-Some.is w.announce.new.routes end
+      | in_default w ↦ w.self-is ∙ applied_none old c.withdraw_all.new.routes u left w.in_default.is
     ]
 
 pub returns-clause-changed : goal.returns-clause-changed
 returns-clause-changed c =
     let old = c.args.self.now in
     let u = c.args.update.now in
-    let among : (p : PrefixValue) → list_any (same_prefix p) c.as_slice-2.result.now ≡ is_some (given u p) = λ p. ap (list_any (same_prefix p)) c.as_slice-2.ensures ∙ c.in_ok-announced.ensures.given p in
-    let none : Moved (given u) old c.self.inside.routes c.new-changed.result =
-    subst (λ (ps : List PrefixValue). Moved (given u) old c.self.inside.routes ps) (sym c.new-changed.ensures) (subst (λ (r : Routes). Moved (given u) old r []) (sym c.self.view_is) (starts (given u) old)) in
-    let withdrawn = c.in_ok-withdraw.ensures.changed old (given u) among none in
+    let none : Moved (given u) old c.self.inside.routes c.in_ok-changed.changed =
+    subst (λ (ps : List PrefixValue). Moved (given u) old c.self.inside.routes ps) (sym c.in_ok-changed.ensures) (subst (λ (r : Routes). Moved (given u) old r []) (sym c.self.view_is) (starts (given u) old)) in
+    let withdrawn = c.in_ok-withdraw_all.ensures.changed old none in
     listed (given u) old c.match-update.self c.match-update.changed c.in_order.result
     (elim c.match-update.branch [
       | in-Some+in_ok-announce w ↦
-          let gives : (p : PrefixValue) → list_any (same_prefix p) w.as_slice-in-Some.result.now ≡ true → given u p ≡ Some w.in-Some.attrs =
-          λ p e. given_announced u w.in-Some.attrs w.in-Some.is p (ap (list_any (same_prefix p)) (sym w.as_slice-in-Some.ensures) ∙ e) in
+          let gives : (p : PrefixValue) → list_any (same_prefix p) w.as_slice.result.now ≡ true → given u p ≡ Some w.in-Some.attrs =
+          λ p e. given_announced u w.in-Some.attrs w.in-Some.is p (ap (list_any (same_prefix p)) (sym w.as_slice.ensures) ∙ e) in
           subst (λ (r : Routes). Moved (given u) old r c.match-update.changed) (sym w.self-is)
           (subst (λ (ps : List PrefixValue). Moved (given u) old w.announce.new.routes ps) (sym w.changed-is) (w.in_ok-announce.ensures.changed old (given u) gives withdrawn))
       | in_default w ↦
           subst (λ (r : Routes). Moved (given u) old r c.match-update.changed) (sym w.self-is)
-          (subst (λ (ps : List PrefixValue). Moved (given u) old c.withdraw.new.routes ps) (sym w.changed-is) withdrawn)
+          (subst (λ (ps : List PrefixValue). Moved (given u) old c.withdraw_all.new.routes ps) (sym w.changed-is) withdrawn)
     ])
     c.in_order.ensures.rising c.in_order.ensures.same
