@@ -1,4 +1,3 @@
 pub mod Ends
 pub mod Stories
-pub mod Seen
 pub mod Runs

@@ -2,11 +2,9 @@
 //! the run.
 #![tactic(auto)]
 
-mod actors;
 mod end;
 mod lab;
+mod laws;
 mod run;
-mod seen;
-mod views;
 
 pub use lab::run_lab;
