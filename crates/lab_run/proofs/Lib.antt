@@ -3,3 +3,4 @@ mod Behind
 mod Stories
 mod Counts
 mod Loops
+mod Labs
