@@ -9,11 +9,12 @@
 //! - `*n text` stands for the text n times, in place of `+` or `>`: `\n` in it ends a line, and in the copy
 //!   with the number k, from 0, `@0` is k modulo 256, `@1` is k divided by 256, and `@n` is k + 1;
 //! - `!crlf` ends lines by CR and LF, `!bom` puts a byte order mark in front, `!pad n` adds a comment up to n
-//!   bytes, and `!byte n` puts a byte in place of all.
+//!   bytes, and `!byte n` puts a byte in place of all;
+//! - `!show` asks for the whole of an input that is accepted; without it a line says that it is one.
 #![tactic(auto)]
 
 use bgp_types::{Address, PrefixList};
-use lab_input::{LabInput, PeeringInput, RouterInput, Step, is_built, read_lab};
+use lab_input::{LabInput, PeeringInput, RouterInput, Step, read_lab};
 use std::alloc::{AllocError, Global};
 use std::fmt::Write;
 use std::io;
@@ -217,17 +218,14 @@ fn print_input(rt: &HostRuntime, input: &LabInput) -> io::Result<()> {
     Ok(())
 }
 
-/// Prints what bytes are read as.
-fn print_read(rt: &HostRuntime, shows: &str, bytes: &[u8]) -> io::Result<()> {
+/// Prints what bytes are read as: an input whole, where it is to be shown.
+fn print_read(rt: &HostRuntime, shows: &str, bytes: &[u8], is_shown: bool) -> io::Result<()> {
     match read_lab(rt.alloc(), bytes) {
-        Ok(input) => match is_built(rt.alloc(), &input) {
-            Ok(true) => {
-                println!(rt; "{shows}")?;
-                print_input(rt, &input)
-            }
-            Ok(false) => println!(rt; "{shows}: bad input: not built"),
-            Err(_) => println!(rt; "{shows}: no memory"),
-        },
+        Ok(input) if is_shown => {
+            println!(rt; "{shows}")?;
+            print_input(rt, &input)
+        }
+        Ok(_) => println!(rt; "{shows}: an input"),
         Err(stop) => println!(rt; "{shows}: {stop}"),
     }
 }
@@ -236,10 +234,11 @@ fn print_read(rt: &HostRuntime, shows: &str, bytes: &[u8]) -> io::Result<()> {
 fn print_case(rt: &HostRuntime, base: &str, case: &str) -> io::Result<()> {
     let (shows, changes) = case.split_once("\n").unwrap_or((case, ""));
     if let Some(byte) = byte_of(changes) {
-        return print_read(rt, shows, &[byte]);
+        return print_read(rt, shows, &[byte], false);
     }
     let text = input_of(rt.alloc(), base, changes)?;
-    print_read(rt, shows, text.as_bytes())
+    let is_shown = changes.lines().any(|change| change == "!show");
+    print_read(rt, shows, text.as_bytes(), is_shown)
 }
 
 fn main(rt: HostRuntime) -> io::Result<()> {

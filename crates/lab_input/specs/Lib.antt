@@ -2,5 +2,4 @@ pub mod Bytes
 pub mod Said
 pub mod Names
 pub mod Counts
-pub mod Built
 pub mod Labs

@@ -1,12 +1,6 @@
--- What the steps of an input say, and what an input that the program can run is ready for.
-use Rattle.std.specs.Prelude.{◌≡◌, ◌^◌, ◌<◌, ◌≤◌, [], ◌∷◌, length, Some, None, All, false}
-use Rattle.bgp_types.specs.declared.message.Message.TheVariants.{UpdateMsg}
+-- What the steps of an input say.
+use Rattle.std.specs.Prelude.{[], Some, None}
 use Rattle.bgp_types.specs.declared.message.Update.{Update}
-use Rattle.bgp_types.specs.Values.{is_no_host}
-use Rattle.bgp_types.specs.Writable.{IsWritable}
-use Rattle.lab_tables.specs.declared.input.LabInput.{LabInput}
-use Rattle.lab_tables.specs.declared.input.PeeringInput.{PeeringInput}
-use Rattle.lab_tables.specs.declared.input.RouterInput.{RouterInput}
 use Rattle.lab_tables.specs.declared.input.Step.{Step}
 use Rattle.lab_tables.specs.declared.input.Step.TheVariants.{Announce, Withdraw}
 
@@ -15,19 +9,3 @@ abbrev pub update_of : Step → Update
 update_of (Announce peering prefixes a) = record { withdrawn = []; attrs = Some a; nlri = prefixes }
 update_of (Withdraw peering prefixes) = record { withdrawn = prefixes; attrs = None; nlri = [] }
 update_of _ = record { withdrawn = []; attrs = None; nlri = [] }
-
--- One router, one peering at it, and steps whose UPDATEs can be written with AS numbers of two octets.
-pub record IsReady (input : LabInput) : Type 0 where
-  pub router : RouterInput
-  pub peering : PeeringInput
-  pub routers : input.routers ≡ router ∷ []
-  pub peerings : input.peerings ≡ peering ∷ []
-  pub some_home : 1 ≤ input.home_as
-  pub home_as : input.home_as < 2 ^ 16
-  pub host : is_no_host router.id ≡ false
-  pub at : peering.at.0 ≡ 0
-  pub some_remote : 1 ≤ peering.remote_as
-  pub remote_as : peering.remote_as < 2 ^ 16
-  pub remote_host : is_no_host peering.remote_address ≡ false
-  pub few : length input.steps ≤ 4096
-  pub steps : All (λ step. IsWritable (UpdateMsg (update_of step)) false) input.steps

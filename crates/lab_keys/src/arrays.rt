@@ -41,7 +41,7 @@ fn prefix_of(value: &Value) -> Option<Prefix>
 fn prefixes_of(alloc: Global, values: &[Value]) -> Result<PrefixList, NoMemory>
     ensures { IfOk result (λ prefixes. prefixes ≡ filter_map prefix_of_data (map view values.now)) }
 {
-    let mut prefixes = PrefixList::new(alloc);
+    let mut prefixes = Items::from_vec(Vec::with_capacity(alloc, values.len())?);
     for value in values {
         push_some(&mut prefixes, prefix_of(value))?;
     }
@@ -68,7 +68,7 @@ fn address_of(value: &Value) -> Option<u32>
 fn addresses_of(alloc: Global, values: &[Value]) -> Result<Items<u32>, NoMemory>
     ensures { IfOk result (λ addresses. addresses ≡ filter_map address_of_data (map view values.now)) }
 {
-    let mut addresses = Items::new(alloc);
+    let mut addresses = Items::from_vec(Vec::with_capacity(alloc, values.len())?);
     for value in values {
         push_some(&mut addresses, address_of(value))?;
     }
@@ -89,7 +89,7 @@ pub fn addresses_at(alloc: Global, key: &str, table: &Table) -> Result<Items<u32
 fn numbers_of(alloc: Global, values: &[Value]) -> Result<Items<u32>, NoMemory>
     ensures { IfOk result (λ numbers. numbers ≡ filter_map (number_in_lem 32) (map view values.now)) }
 {
-    let mut numbers = Items::new(alloc);
+    let mut numbers = Items::from_vec(Vec::with_capacity(alloc, values.len())?);
     for value in values {
         push_some(&mut numbers, number_in(value))?;
     }

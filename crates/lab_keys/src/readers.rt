@@ -43,7 +43,7 @@ fn values_of<V: Drop, R: TableReader<V>>(
 ) -> Result<Items<V>, NoMemory>
     ensures { IfOk result (λ values. values ≡ map (R.value_of reader.now) (filter_map as_table (map view items.now))) }
 {
-    let mut values = Items::new(alloc);
+    let mut values = Items::from_vec(Vec::with_capacity(alloc, items.len())?);
     for item in items {
         push_some(&mut values, value_of(reader, alloc, item)?)?;
     }
@@ -69,7 +69,7 @@ pub fn values_at<V: Drop, R: TableReader<V>>(
 fn tables_of<'a>(alloc: Global, items: &'a [Value]) -> Result<Items<&'a Table>, NoMemory>
     ensures { IfOk result (λ tables. map (λ t. table_view t.now) tables ≡ filter_map as_table (map view items.now)) }
 {
-    let mut tables = Items::new(alloc);
+    let mut tables = Items::from_vec(Vec::with_capacity(alloc, items.len())?);
     for item in items {
         push_some(&mut tables, item.as_table())?;
     }

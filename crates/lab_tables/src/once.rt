@@ -3,7 +3,7 @@
 ghost use Rattle.std.specs.Prelude.{◌≡◌, ◌++◌, ◌∷◌, [], IfOk, OnOk, if◌then◌else◌};
 ghost use Rattle.bgp_types.specs.Prefixes.{once_after};
 
-use bgp_types::{NoMemory, Prefix, PrefixList};
+use bgp_types::{Items, NoMemory, Prefix, PrefixList};
 use std::alloc::Global;
 use std::collections::HashSet;
 
@@ -21,8 +21,8 @@ fn push_if(list: &mut PrefixList, test: bool, prefix: Prefix) -> Result<(), NoMe
 pub fn each_once(alloc: Global, prefixes: &[Prefix]) -> Result<PrefixList, NoMemory>
     ensures { IfOk result (λ once. once ≡ once_after [] prefixes.now) }
 {
-    let mut once = PrefixList::new(alloc);
-    let mut seen = HashSet::new(alloc);
+    let mut once = Items::from_vec(Vec::with_capacity(alloc, prefixes.len())?);
+    let mut seen = HashSet::with_capacity(alloc, prefixes.len())?;
     for prefix in prefixes {
         let is_new = seen.insert(*prefix)?;
         push_if(&mut once, is_new, *prefix)?;

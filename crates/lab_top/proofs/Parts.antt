@@ -4,7 +4,7 @@ use Rattle.std.specs.Prelude.{◌⊎◌, false, Option, None, Result, Ok, Err}
 use Rattle.graft_edge.specs.declared.memory.NoMemory.{NoMemory}
 use Rattle.lab_tables.specs.declared.input.LabInput.{LabInput}
 use Rattle.lab_input.specs.declared.bad.BadInput.{BadInput}
-use Rattle.lab_input.specs.Built.{is_built}
+use Rattle.pipe_lab.specs.Built.{is_built}
 use Rattle.lab_words.specs.declared.job.Job.TheVariants.{Check, Make}
 use Rattle.lab_words.specs.Asked.{Asks}
 use Rattle.lab_make.specs.Made.{made}

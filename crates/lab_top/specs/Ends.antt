@@ -3,7 +3,7 @@ use Rattle.std.specs.Prelude.{◌≡◌, ◌⊎◌, ℕ, ◌<◌, false, List, [
 use Rattle.graft_edge.specs.Outside.{FaultRose, Took, IsAtEnd, Appended, AppendedFront}
 use Rattle.lab_tables.specs.declared.input.LabInput.{LabInput}
 use Rattle.lab_input.specs.declared.bad.BadInput.{BadInput}
-use Rattle.lab_input.specs.Built.{is_built}
+use Rattle.pipe_lab.specs.Built.{is_built}
 use Rattle.lab_input.specs.Labs.{input_of, InputOf, too_long}
 use Rattle.lab_words.specs.declared.job.Job.{Job}
 use Rattle.lab_words.specs.declared.job.Job.TheVariants.{Run, Make}

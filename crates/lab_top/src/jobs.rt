@@ -6,15 +6,15 @@ ghost use Rattle.lab_words.specs.Asked.{Asks};
 ghost use Rattle.lab_make.specs.Made.{made};
 ghost use Rattle.lab_input.specs.Labs.{too_long as too_long_bad};
 ghost use Rattle.lab_top.specs.Ends.{AskToRun};
-ghost use Rattle.lab_input.specs.Said.{IsReady};
+ghost use Rattle.pipe_lab.specs.Ready.{IsReady};
 ghost use Rattle.lab_top.specs.Cases.{outside, ReadsOrStops, WritesOr, RunsOr, StopsFor, EndsOr};
 
 use crate::finish::{BAD_INPUT, DONE, Finish, InputStop, READ_FAILED, end_with, without_run};
 use graft_edge::{Gate, NoMemory, ReadStop, Sink, Source, read_all};
-use lab_input::{LabInput, LabStop, MOST_BYTES, accepted_is_ready, is_built, read_lab, too_long};
+use lab_input::{LabInput, LabStop, MOST_BYTES, read_lab, too_long};
 use lab_make::make_lab;
 use lab_report::{bad_text, check_text};
-use pipe_lab::{report, run_lab};
+use pipe_lab::{accepted_is_ready, is_built, report, run_lab};
 use std::alloc::Global;
 
 const NOT_BUILT_TEXT: &str = "bad input: not built\n";

@@ -1,2 +1,4 @@
+pub mod Built
+pub mod Ready
 pub mod Report
 pub mod Seen

@@ -4,8 +4,9 @@ ghost use Rattle.std.specs.Prelude.{◌≡◌, false, All, IfOk, map};
 ghost use Rattle.bgp_types.specs.declared.message.Message.TheVariants as messages;
 ghost use Rattle.bgp_types.specs.Spelling.{spell};
 ghost use Rattle.bgp_types.specs.Writable.{IsWritable};
-ghost use Rattle.lab_input.specs.Said.{update_of, IsReady};
+ghost use Rattle.lab_input.specs.Said.{update_of};
 ghost use Rattle.pipe_model.specs.Pipes.{IsSound};
+ghost use Rattle.pipe_lab.specs.Ready.{IsReady};
 ghost use Rattle.pipe_lab.specs.Seen.{PipeOf, said_by};
 
 use bgp_types::{Items, Message, NoMemory, Octets};

@@ -2,7 +2,7 @@
 
 ghost use Rattle.std.specs.Prelude.{◌≡◌, [], IfOk, map};
 ghost use Rattle.std.specs.FinMap as table;
-ghost use Rattle.lab_input.specs.Said.{IsReady};
+ghost use Rattle.pipe_lab.specs.Ready.{IsReady};
 ghost use Rattle.pipe_world.specs.Views.{Stands, world_of};
 ghost use Rattle.pipe_lab.specs.Seen.{Observed, Headline, best_entry};
 

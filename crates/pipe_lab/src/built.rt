@@ -1,10 +1,10 @@
-//! What the program can run.
+//! Which inputs this crate can run.
 
 ghost use Rattle.std.specs.Prelude.{◌≡◌, IfOk};
 ghost use Rattle.std.specs.List.{list_all};
 ghost use Rattle.std.specs.Str.{bytes_eq};
 ghost use Rattle.lab_tables.specs.Peerings.{default_opening as default_opening_lem};
-ghost use Rattle.lab_input.specs.Built.{is_plain_router as is_plain_router_lem, has_defaults as has_defaults_lem, opens_plainly as opens_plainly_lem, is_plain_peering as is_plain_peering_lem, is_plain_step as is_plain_step_lem, is_small as is_small_lem, are_plain as are_plain_lem, is_built as is_built_lem};
+ghost use Rattle.pipe_lab.specs.Built.{is_plain_router as is_plain_router_lem, has_defaults as has_defaults_lem, opens_plainly as opens_plainly_lem, is_plain_peering as is_plain_peering_lem, is_plain_step as is_plain_step_lem, is_small as is_small_lem, are_plain as are_plain_lem, is_built as is_built_lem};
 
 use bgp_types::{NoMemory, has_long_as, is_long_as};
 use lab_tables::{LabInput, PeeringInput, RouterInput, Step, default_opening};
