@@ -4,3 +4,4 @@ mod Stories
 mod Counts
 mod Loops
 mod Labs
+mod Told
