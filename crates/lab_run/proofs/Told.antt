@@ -63,18 +63,18 @@ module _ (tell : LabsTellOfRuns) (input : LabInput) (accepted : IsAccepted input
       → ((w : World) → IsFinished (setup_of input) w actors left → Observed (setup_of input) w lab) → RanLab lab
   ran_as_told lab input_is end_is marks_is rounds_are merge seen = tell lab a z told.setup told.count
       (record { begins = told.begins; goes = told.goes; marks = marks_is ∙ marks_are; merged = merge_of z journals lab.journal journals_are merge; observed = told.observed }) where
-    here : IsTold input lab a z
-    here = record {
-      setup = is_setup input accepted;
-      count = each_has_one input moves;
-      begins = begins;
-      goes = subst (λ (e : RunEnd). RunGoes (setup_of input) a (budgets_in input) lab.rounds e z) (sym end_is)
-          (subst (λ (ns : List ℕ). RunGoes (setup_of input) a (budgets_in input) ns end z) (sym rounds_are) (subst (λ (bs : List Budget). RunGoes (setup_of input) a bs rounds end z) budgets_are goes));
-      observed = λ w net. seen w (finished (setup_of input) z w actors left edges net actors_are edges_are left_is);
-    }
+        here : IsTold input lab a z
+        here = record {
+          setup = is_setup input accepted;
+          count = each_has_one input moves;
+          begins = begins;
+          goes = subst (λ (e : RunEnd). RunGoes (setup_of input) a (budgets_in input) lab.rounds e z) (sym end_is)
+              (subst (λ (ns : List ℕ). RunGoes (setup_of input) a (budgets_in input) ns end z) (sym rounds_are) (subst (λ (bs : List Budget). RunGoes (setup_of input) a bs rounds end z) budgets_are goes));
+          observed = λ w net. seen w (finished (setup_of input) z w actors left edges net actors_are edges_are left_is);
+        }
 
-    told : IsTold lab.input lab a z
-    told = subst (λ (i : LabInput). IsTold i lab a z) (sym input_is) here
+        told : IsTold lab.input lab a z
+        told = subst (λ (i : LabInput). IsTold i lab a z) (sym input_is) here
 
   -- the same of a lab that there may be
   pub all_told : (result : Result Lab NoMemory) → IfOk result (λ lab. lab.input ≡ input) → IfOk result (λ lab. lab.end ≡ end) → IfOk result (λ lab. lab.marks ≡ marks) → IfOk result (λ lab. lab.rounds ≡ rounds)
