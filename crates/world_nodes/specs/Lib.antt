@@ -3,3 +3,4 @@ pub mod Edges
 pub mod Ways
 pub mod Courses
 pub mod Looks
+pub mod Fresh
