@@ -1,9 +1,10 @@
 //! The sessions of a net that has finished: at which routers they are held, and which are on their way.
 
-ghost use Rattle.std.specs.Prelude.{◌≡◌, ◌≤◌, ◌++◌, [], length, map, slice_get, slice_set, IfOk, OnOk};
+ghost use Rattle.std.specs.Prelude.{◌≡◌, ◌≤◌, ◌++◌, List, [], ◌∷◌, length, map, slice_get, IfOk, OnOk};
 ghost use Rattle.std.specs.List.{flat_map, range_with_len};
 ghost use Rattle.lab_report.specs.declared.lab.Place.TheVariants.{Held};
-ghost use Rattle.lab_seen.specs.Found.{found_at as found_at_lem, held_by, carried_by, carried_in, first_on, places_in, views_in};
+ghost use Rattle.lab_seen.specs.declared.found.Found.{Found};
+ghost use Rattle.lab_seen.specs.Found.{found_at as found_at_lem, router_in, sessions_of as sessions_of_lem, held_by, carried_by, carried_in, first_on, places_in, views_in};
 
 use crate::views::view_of;
 use bgp_session::{Capsule, Session};
@@ -33,6 +34,16 @@ fn found_at(place: Place, session: Session) -> Found
     }
 }
 
+/// The sessions that an actor holds, if it is a router.
+fn sessions_at(alloc: Global, node: Option<Node>) -> Result<Items<Session>, NoMemory>
+    ensures { IfOk result (λ sessions. sessions ≡ sessions_of_lem (router_in node)) }
+{
+    match node {
+        Some(Node::Router(router)) => router.into_sessions(alloc),
+        _ => Ok(Items::new(alloc)),
+    }
+}
+
 /// Adds the sessions that a router holds.
 fn add_held(
     found: &mut Items<Found>,
@@ -55,10 +66,8 @@ fn held(alloc: Global, actors: Actors<Node>, routers: usize) -> Result<Items<Fou
     let mut found = Items::new(alloc);
     let mut nodes = actors.into_vec().into_iter();
     for number in 0..routers {
-        if let Some(Node::Router(router)) = nodes.next() {
-            let sessions = router.into_sessions(alloc)?;
-            add_held(&mut found, RouterId(number as u8), sessions)?;
-        }
+        let sessions = sessions_at(alloc, nodes.next())?;
+        add_held(&mut found, RouterId(number as u8), sessions)?;
     }
     Ok(found)
 }

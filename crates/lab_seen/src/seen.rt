@@ -1,36 +1,58 @@
 //! What is seen of a laboratory whose net has finished.
 
-ghost use Rattle.std.specs.Prelude.{◌≡◌, ◌≤◌, ◌+◌, [], slice_get, slice_index_or, IfOk};
+ghost use Rattle.std.specs.Prelude.{◌≡◌, ◌≤◌, ◌+◌, [], option_copied, slice_get, slice_index_or, IfOk};
 ghost use Rattle.std.specs.List.{flat_map, range_with_len};
-ghost use Rattle.graft_model.specs.Setups.{Setup, routers_in, router_numbers};
+ghost use Rattle.graft_model.specs.Setups.{Setup, routers_in};
 ghost use Rattle.graft_model.specs.Parts.{World};
 ghost use Rattle.journal_merge.specs.Merges.{Interleaves};
 ghost use Rattle.lab_setup.specs.Setups.{setup_of};
 ghost use Rattle.node_configs.specs.Accepted.{IsAccepted};
 ghost use Rattle.lab_seen.specs.Finished.{IsFinished};
-ghost use Rattle.lab_seen.specs.Found.{tables_at, fars_at, log_at as log_at_lem};
+ghost use Rattle.lab_seen.specs.Found.{router_in, far_in, operator_in, tables_of as tables_of_lem, fars_of as fars_of_lem, log_in};
 ghost use Rattle.lab_seen.specs.Seen.{Observed};
 
 use crate::found::{by_peering, sessions_of};
 use crate::tables::table_of;
 use crate::views::far_view;
+use far_side::Far;
 use graft_edge::{Items, NoMemory, TryCopy};
 use graft_steps::GraftLog;
 use journal_merge::merge;
 use lab_report::{FarView, Lab, RouterTable, RunEnd};
 use lab_tables::LabInput;
 use ring_net::Parts;
+use router_core::Router;
 use std::alloc::Global;
 use world_nodes::Node;
+
+/// The router of this number, if the actor is one.
+fn router_at(actors: &[Node], number: usize) -> Option<&Router>
+    ensures { option_copied result ≡ router_in (slice_get actors.now number) }
+{
+    match actors.get(number) {
+        Some(Node::Router(router)) => Some(router),
+        _ => None,
+    }
+}
+
+/// The far side of this number, if the actor is one.
+fn far_at(actors: &[Node], number: usize) -> Option<&Far>
+    ensures { option_copied result ≡ far_in (slice_get actors.now number) }
+{
+    match actors.get(number) {
+        Some(Node::Far(far)) => Some(far),
+        _ => None,
+    }
+}
 
 /// The tables of the routers, which are the first actors.
 fn tables_of(alloc: Global, actors: &[Node], routers: usize) -> Result<Items<RouterTable>, NoMemory>
     requires { routers ≤ 256 }
-    ensures { IfOk result (λ tables. (setup : Setup) → routers_in setup ≡ routers → tables ≡ flat_map (λ r. tables_at setup (slice_get actors.now r)) (router_numbers setup)) }
+    ensures { IfOk result (λ tables. (setup : Setup) → routers_in setup ≡ routers → tables ≡ flat_map (λ r. tables_of_lem setup (router_in (slice_get actors.now r))) (range_with_len 0 routers)) }
 {
     let mut tables = Items::new(alloc);
     for number in 0..routers {
-        if let Some(Node::Router(router)) = actors.get(number) {
+        if let Some(router) = router_at(actors, number) {
             tables.push(table_of(alloc, router.rib(), routers)?)?;
         }
     }
@@ -45,11 +67,11 @@ fn fars_of(
     peerings: usize,
 ) -> Result<Items<FarView>, NoMemory>
     requires few { (routers ≤ 256) × (peerings ≤ 256) }
-    ensures { IfOk result (λ far. far ≡ flat_map (λ p. fars_at (slice_get actors.now (routers + p))) (range_with_len 0 peerings)) }
+    ensures { IfOk result (λ fars. fars ≡ flat_map (λ p. fars_of_lem (far_in (slice_get actors.now (routers + p)))) (range_with_len 0 peerings)) }
 {
     let mut fars = Items::new(alloc);
     for number in 0..peerings {
-        if let Some(Node::Far(far)) = actors.get(routers + number) {
+        if let Some(far) = far_at(actors, routers + number) {
             fars.push(far_view(alloc, far)?)?;
         }
     }
@@ -58,7 +80,7 @@ fn fars_of(
 
 /// The log of the operator, which is the actor of this number.
 fn log_at(alloc: Global, actors: &[Node], number: usize) -> Result<GraftLog, NoMemory>
-    ensures { IfOk result (λ log. log ≡ log_at_lem (slice_get actors.now number)) }
+    ensures { IfOk result (λ log. log ≡ log_in (operator_in (slice_get actors.now number))) }
 {
     match actors.get(number) {
         Some(Node::Operator(operator)) => operator.log().copy(),
@@ -96,6 +118,7 @@ pub fn lab_of(
     let tables = tables_of(alloc, actors.as_slice(), routers)?;
     let found = sessions_of(alloc, actors, left, routers)?;
     let (placement, sessions) = by_peering(alloc, found, peerings)?;
+    let journal = merge(alloc, journals)?;
     Ok(Lab {
         input,
         end,
@@ -104,7 +127,7 @@ pub fn lab_of(
         sessions,
         far,
         tables,
-        journal: merge(alloc, journals)?,
+        journal,
         marks,
         rounds,
     })
