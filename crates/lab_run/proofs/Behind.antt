@@ -1,13 +1,11 @@
 -- What the marks name that stand behind a moment of a run.
-use Rattle.std.proofs.Common.{◌≡◌, ℕ, ◌+◌, true, false, List, [], ◌∷◌, ◌++◌, length, map, filter, Option, Some, None, refl, sym, ap, ◌∙◌, subst, inl, inr, arith, append_assoc, append-nil}
-use Rattle.std.specs.Prelude.{◌⊎◌, sum}
+use Rattle.std.proofs.Common.{◌≡◌, ℕ, ◌+◌, true, List, [], ◌∷◌, ◌++◌, length, map, filter, Some, refl, sym, ap, ◌∙◌, inl, inr, append_assoc, append-nil}
 use Rattle.std.specs.List.{last_or}
 use Rattle.ring_net.specs.declared.entry.JournalEntry.{JournalEntry}
 use Rattle.ring_net.specs.Deeds.{Deed, entries_of}
 use Rattle.journal_merge.specs.Merges.{Interleaves, upto}
 use Rattle.graft_model.specs.Setups.{Setup}
 use Rattle.graft_model.specs.Parts.{World}
-use Rattle.graft_laws.specs.Keeps.{Reached}
 use Rattle.settled_check.specs.Left.{HasUnissued}
 use Rattle.router_core.specs.Parts.{carried}
 use Rattle.world_runs.specs.Runs.{IsSeenAs, Ran}

@@ -1,5 +1,5 @@
 -- What a lab tells of the end of its net.
-use Rattle.std.proofs.Common.{◌≡◌, ℕ, List, length, sym, subst}
+use Rattle.std.proofs.Common.{◌≡◌, ℕ, List, sym, subst}
 use Rattle.graft_model.specs.Setups.{Setup, IsSetup}
 use Rattle.graft_model.specs.Parts.{World}
 use Rattle.graft_model.specs.First.{first_world}
@@ -11,7 +11,6 @@ use Rattle.router_core.specs.Parts.{carried}
 use Rattle.world_runs.specs.Laws.{RunsAreTransparent}
 use Rattle.world_runs.specs.Runs.{RanAs}
 use Rattle.world_nodes.specs.Nodes.{own}
-use Rattle.world_nodes.specs.Ways.{Stand}
 use Rattle.lab_setup.specs.Setups.{setup_of}
 use Rattle.lab_report.specs.declared.lab.RunEnd.{RunEnd}
 use Rattle.lab_report.specs.declared.lab.RunEnd.TheVariants.{Settled}

@@ -1,5 +1,5 @@
 -- What the loops over rounds and groups keep.
-use Rattle.std.proofs.Common.{◌≡◌, ◌≢◌, ℕ, ◌+◌, ◌<◌, ◌≤◌, Bool, true, false, List, [], ◌∷◌, ◌++◌, length, take, drop, get_or, Option, Some, None, refl, sym, ap, ◌∙◌, subst, inl, inr, arith, take-append-drop, length-take-le}
+use Rattle.std.proofs.Common.{◌≡◌, ℕ, ◌+◌, ◌<◌, Bool, false, List, [], ◌∷◌, ◌++◌, length, take, drop, get_or, Option, Some, None, refl, sym, ap, ◌∙◌, subst, inl, inr, arith, take-append-drop, length-take-le}
 use Rattle.std.specs.Prelude.{◌↔◌}
 use Rattle.std.proofs.lemmas.List.{take_more, drop_more, get_or_default}
 use Rattle.graft_model.specs.Setups.{Setup}
@@ -12,7 +12,7 @@ use Rattle.world_nodes.specs.Ways.{Stand, Pause}
 use Rattle.lab_report.specs.declared.lab.RunEnd.{RunEnd}
 use Rattle.lab_budgets.specs.declared.budget.Budget.{Budget}
 use Rattle.lab_run.specs.declared.end.Verdict.{Verdict}
-use Rattle.lab_run.specs.declared.end.Verdict.TheVariants.{GoesOn, IsQuiet, Ends}
+use Rattle.lab_run.specs.declared.end.Verdict.TheVariants.{GoesOn}
 use Rattle.lab_run.specs.Stories.{RoundNames, Goes, OneMore, GroupGoes, Passes, PassAnswers, GroupAnswers, GroupsGo, NextGroup, RunGoes, verdict_of}
 
 -- ---- small facts

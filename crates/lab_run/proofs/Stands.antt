@@ -1,5 +1,5 @@
 -- What stands of a net have of those that come after them.
-use Rattle.std.proofs.Common.{◌≡◌, ◌≢◌, ℕ, ◌<◌, ◌≤◌, ◌+◌, Bool, true, false, List, [], ◌∷◌, ◌++◌, length, get_or, map, filter, Option, Some, None, refl, sym, ap, ◌∙◌, subst, inl, inr, arith, append-nil, append_assoc}
+use Rattle.std.proofs.Common.{◌≡◌, ◌≢◌, ℕ, ◌<◌, ◌≤◌, ◌+◌, Bool, true, false, List, [], ◌∷◌, ◌++◌, length, get_or, map, filter, Option, refl, sym, ap, ◌∙◌, subst, inl, inr, arith, append-nil, append_assoc}
 use Rattle.std.specs.Prelude.{◌↔◌, ◌⊎◌}
 use Rattle.std.specs.List.{AllByRecursion}
 use Rattle.std.proofs.lemmas.Bool.Decides.{nat_tests}
@@ -9,12 +9,12 @@ use Rattle.ring_net.specs.declared.entry.JournalEntry.{JournalEntry}
 use Rattle.ring_net.specs.declared.entry.Stamped.{Stamped}
 use Rattle.ring_net.specs.Deeds.{Deed, Noted, Replay, TakesNone, deeds, entries_of, sent_by}
 use Rattle.ring_net.specs.Phases.{View, Marked}
-use Rattle.journal_merge.specs.Merges.{Interleaves, entries_by}
+use Rattle.journal_merge.specs.Merges.{Interleaves}
 use Rattle.journal_merge.proofs.Orders.{equal_or_not}
-use Rattle.graft_model.specs.Setups.{Setup, routers_in, peerings_in}
+use Rattle.graft_model.specs.Setups.{Setup}
 use Rattle.graft_model.specs.Parts.{World}
 use Rattle.settled_check.specs.Left.{HasUnissued}
-use Rattle.graft_runs.specs.Actors.{ActorPart, OperatorIs, ActorName, Operator, actor_at}
+use Rattle.graft_runs.specs.Actors.{ActorPart, OperatorIs, ActorName, Operator}
 use Rattle.graft_runs.specs.Laws.{IsGo}
 use Rattle.graft_runs.proofs.Numbers.{at_operator}
 use Rattle.graft_actors.specs.Acts.{OwnPart, ActsAs, acts}

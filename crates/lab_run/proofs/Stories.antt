@@ -1,33 +1,28 @@
 -- The marks of a run name how it goes on and ends.
-use Rattle.std.proofs.Common.{◌≡◌, ℕ, zero, suc, ◌+◌, ◌≤◌, ◌<◌, true, false, List, [], ◌∷◌, ◌++◌, length, get_or, map, filter, Option, Some, None, refl, sym, ap, ◌∙◌, subst, inl, inr, arith, append_assoc, append-nil}
-use Rattle.std.specs.Prelude.{◌⊎◌}
+use Rattle.std.proofs.Common.{◌≡◌, ℕ, suc, ◌+◌, ◌≤◌, ◌<◌, true, false, List, [], ◌∷◌, ◌++◌, length, get_or, map, filter, refl, sym, ap, ◌∙◌, subst, inl, inr, arith, append_assoc, append-nil}
 use Rattle.std.specs.List.{AllByRecursion}
 use Rattle.std.proofs.lemmas.List.{length-append}
 use Rattle.ring_net.specs.declared.entry.JournalEntry.{JournalEntry}
-use Rattle.ring_net.specs.declared.entry.Stamped.{Stamped}
-use Rattle.ring_net.specs.Deeds.{Deed, Replay, sent_by}
+use Rattle.ring_net.specs.Deeds.{Deed}
 use Rattle.journal_merge.specs.Merges.{Interleaves}
 use Rattle.journal_merge.proofs.Orders.{equal_or_not}
 use Rattle.graft_model.specs.Setups.{Setup, IsSetup, groups_in}
 use Rattle.graft_model.specs.Parts.{World}
 use Rattle.graft_model.specs.Quiet.{Quiet}
 use Rattle.graft_laws.specs.Keeps.{Reached}
-use Rattle.operator_core.specs.Turns.{IsHeldUp}
-use Rattle.graft_actors.specs.Acts.{acts}
 use Rattle.router_core.specs.Parts.{carried}
 use Rattle.world_runs.specs.Runs.{IsSeenAs, RanAs, Ran}
 use Rattle.run_marks.specs.Marks.{operator_in, is_go}
 use Rattle.run_marks.proofs.Seen.{nothing_open}
 use Rattle.world_nodes.specs.Nodes.{Mail, own}
-use Rattle.world_nodes.specs.declared.node.Node.{Node}
-use Rattle.world_nodes.specs.Ways.{Stand, Begins, Round, Pause, Way, Here, Rounds, Groups}
+use Rattle.world_nodes.specs.Ways.{Stand, Begins, Pause, Way, Here, Rounds, Groups}
 use Rattle.lab_report.specs.declared.lab.RunEnd.{RunEnd}
 use Rattle.lab_report.specs.declared.lab.RunEnd.TheVariants.{Settled}
 use Rattle.lab_budgets.specs.declared.budget.Budget.{Budget}
 use Rattle.lab_run.specs.declared.end.Verdict.{Verdict}
-use Rattle.lab_run.specs.declared.end.Verdict.TheVariants.{GoesOn, IsQuiet, Ends}
+use Rattle.lab_run.specs.declared.end.Verdict.TheVariants.{IsQuiet, Ends}
 use Rattle.lab_run.specs.Ends.{HasMarks}
-use Rattle.lab_run.specs.Stories.{RoundNames, Goes, NoRound, OneMore, GroupGoes, Passes, GroupsGo, NoGroup, NextGroup, RunGoes}
+use Rattle.lab_run.specs.Stories.{Goes, NoRound, OneMore, GroupGoes, Passes, GroupsGo, NoGroup, NextGroup, RunGoes}
 use Rattle.lab_run.proofs.Stands.{GoesOnTo, stays, then_on, round_on, pause_on, pause_journal, pause_others, IsWhole, whole_first, whole_round, whole_pause, groups_at, groups_stay, groups_more, same_back, same_seen, pause_same}
 use Rattle.lab_run.proofs.Behind.{Behind, world_behind, behind_on, behind_round, behind_end, behind_settled, behind_group, quiet_there, groups_behind}
 

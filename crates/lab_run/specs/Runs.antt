@@ -13,7 +13,6 @@ use Rattle.world_runs.specs.Runs.{TransparentThroughout}
 use Rattle.world_nodes.specs.Edges.{has_channel}
 use Rattle.world_nodes.specs.Looks.{IsWorldAt}
 use Rattle.world_nodes.specs.Ways.{Stand, Begins}
-use Rattle.lab_tables.specs.declared.input.LabInput.{LabInput}
 use Rattle.lab_setup.specs.Setups.{setup_of}
 use Rattle.lab_report.specs.declared.lab.Lab.{Lab}
 use Rattle.lab_report.specs.declared.lab.RunEnd.TheVariants.{Settled}

@@ -1,6 +1,5 @@
 use Rattle.std.proofs.Common.{ℕ, ◌≡◌, length, arith, ◌∙◌, subst, sym}
 use Rattle.std.proofs.lemmas.Result.{IfOk-weaker}
-use Rattle.world_nodes.specs.Courses.{counts}
 use Rattle.world_nodes.specs.Edges.{HasCounts}
 use Rattle.lab_setup.specs.Setups.{setup_of}
 use Rattle.lab_setup.proofs.Ready.{as_many_routers, as_many_peerings}

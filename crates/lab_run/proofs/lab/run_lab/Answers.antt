@@ -1,7 +1,6 @@
-use Rattle.std.proofs.Common.{◌≡◌, List, sym, ◌∙◌, subst}
+use Rattle.std.proofs.Common.{List, sym, ◌∙◌, subst}
 use Rattle.std.specs.List.{AllByRecursion}
-use Rattle.world_nodes.specs.Courses.{stand, counts}
-use Rattle.world_nodes.specs.Edges.{HasCounts}
+use Rattle.world_nodes.specs.Courses.{stand}
 use Rattle.lab_setup.specs.Setups.{setup_of}
 use Rattle.lab_budgets.specs.declared.budget.Budget.{Budget}
 use Rattle.lab_budgets.specs.Budgets.{IsSoundBudget}

@@ -1,8 +1,6 @@
-use Rattle.std.proofs.Common.{ℕ, refl, sym, ◌∙◌, subst}
-use Rattle.graft_model.specs.Setups.{Setup}
+use Rattle.std.proofs.Common.{refl, ◌∙◌}
 use Rattle.world_nodes.specs.Courses.{stand}
-use Rattle.world_nodes.specs.Edges.{HasCounts}
-use Rattle.lab_run.specs.declared.end.Verdict.TheVariants.{GoesOn, IsQuiet, Ends}
+use Rattle.lab_run.specs.declared.end.Verdict.TheVariants.{IsQuiet, Ends}
 use Rattle.lab_run.specs.Stories.{NoRound}
 use Rattle.lab_run.proofs.Loops.{round_more, group_ends, counts_back}
 use Rattle.lab_run.proofs.run.run_group.Goals as goal

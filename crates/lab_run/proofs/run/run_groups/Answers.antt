@@ -1,5 +1,4 @@
-use Rattle.std.proofs.Common.{ℕ, List, [], Option, Some, None, length, refl, sym, ◌∙◌, ap, subst, ◌≡◌, arith}
-use Rattle.graft_model.specs.Setups.{Setup}
+use Rattle.std.proofs.Common.{ℕ, List, [], refl, sym, ◌∙◌, subst, arith}
 use Rattle.world_nodes.specs.Courses.{stand}
 use Rattle.lab_run.specs.Stories.{GroupsGo, NoGroup}
 use Rattle.lab_run.proofs.Loops.{groups_more, run_ends, counts_back, none_found}

@@ -1,4 +1,3 @@
-use Rattle.std.proofs.Common.{ℕ, Some, None, refl, sym, subst}
 use Rattle.std.proofs.lemmas.Result.{IfOk-weaker}
 use Rattle.world_nodes.specs.Courses.{stand}
 use Rattle.lab_run.proofs.Loops.{limit_answers, pass_answers, counts_back}
