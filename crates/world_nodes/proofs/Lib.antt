@@ -1,0 +1,9 @@
+pub mod EdgeLists
+pub mod EdgeSteps
+pub mod NoGo
+pub mod Going
+pub mod Firsts
+pub mod Seen
+pub mod NodeCalls
+pub mod WayRuns
+pub mod CourseSteps

@@ -1,0 +1,19 @@
+-- What contracts see of a laboratory that runs.
+use Rattle.std.specs.Prelude.{ℕ, ◌≡◌, ◌+◌, length}
+use Rattle.std.specs.List.{AllByRecursion}
+use Rattle.ring_net.specs.Shown.{view, marks}
+use Rattle.world_nodes.specs.Nodes.{Works}
+use Rattle.world_nodes.specs.Ways.{Stand}
+use Rattle.world_nodes.specs.declared.course.Course.{Course}
+
+abbrev pub stand : Course → Stand
+stand c = record { view = view c.net; marks = marks c.net }
+
+-- how many routers and peerings there are
+abbrev pub counts : Course → ℕ × ℕ
+counts c = (c.routers, c.peerings)
+
+-- Every actor is there, and works.
+pub record AllWork (c : Course) : Type 0 where
+  pub size : length (stand c).view.actors ≡ (counts c).0 + (counts c).1 + 1
+  pub each : AllByRecursion Works (stand c).view.actors

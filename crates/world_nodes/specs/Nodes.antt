@@ -1,0 +1,59 @@
+-- The actors of a laboratory as one type: what each is in the world, and what is said of its calls.
+use Rattle.std.specs.Prelude.{ℕ, ◌≡◌, List, []}
+use Rattle.ring_net.specs.Deeds.{Deed, Replay, TakesFirst}
+use Rattle.graft_steps.specs.declared.item.Item.{Item}
+use Rattle.bgp_session.specs.Running.{RunningSession}
+use Rattle.graft_actors.specs.Acts.{OwnPart, acts}
+use Rattle.router_core.specs.Parts.{carried}
+use Rattle.router_core.specs.Routers as routers
+use Rattle.far_side.specs.Fars as fars
+use Rattle.operator_core.specs.Operators as operators
+use Rattle.world_nodes.specs.declared.node.Node.{Node}
+use Rattle.world_nodes.specs.declared.node.Node.TheVariants.{Router, Far, Operator}
+
+-- what actors hand to one another, in contracts: a capsule is the session that runs in it
+abbrev pub Mail : Type 0
+Mail = Item RunningSession
+
+abbrev pub own : Node → OwnPart
+own (Router router) = routers.own router
+own (Far far) = fars.own far
+own (Operator operator) = operators.own_part operator
+
+-- ---- calls
+
+-- the events lead from what an actor was to what it is
+abbrev pub Leads : Node → List (Deed Mail) → Node → Type 0
+Leads old deeds new = Replay (acts carried) 0 (own old) deeds (own new)
+
+-- what each kind of actor says of a take, and of a turn
+abbrev pub TookBy : Node → ℕ → Mail → List (Deed Mail) → Node → Type 0
+TookBy (Router old) from item deeds (Router new) = routers.took old from item deeds new
+TookBy (Far old) from item deeds (Far new) = fars.took old from item deeds new
+TookBy (Operator old) from item deeds (Operator new) = operators.took old from item deeds new
+TookBy old from item deeds new = ⊥
+
+abbrev pub TurnedBy : Node → List (Deed Mail) → Node → Type 0
+TurnedBy (Router old) deeds (Router new) = routers.turned old deeds new
+TurnedBy (Far old) deeds (Far new) = fars.turned old deeds new
+TurnedBy (Operator old) deeds (Operator new) = operators.Turned old deeds new
+TurnedBy old deeds new = ⊥
+
+abbrev pub took : Node → ℕ → Mail → List (Deed Mail) → Node → Type 0
+took old from item deeds new = TookBy old from item deeds new × TakesFirst from item deeds × Leads old deeds new
+
+abbrev pub turned : Node → List (Deed Mail) → Node → Type 0
+turned old deeds new = TurnedBy old deeds new × Leads old deeds new
+
+-- routers and far sides do nothing at a mark
+abbrev pub paused : Node → List (Deed Mail) → Node → Type 0
+paused (Router old) deeds (Router new) = (deeds ≡ []) × (new ≡ old)
+paused (Far old) deeds (Far new) = (deeds ≡ []) × (new ≡ old)
+paused (Operator old) deeds (Operator new) = operators.Paused old deeds new
+paused old deeds new = ⊥
+
+-- memory never ran out in a call of it
+abbrev pub Works : Node → Type 0
+Works (Router router) = routers.Works router
+Works (Far far) = Unit {0}
+Works (Operator operator) = Unit {0}

@@ -1,0 +1,153 @@
+//! The net of a laboratory, on its way.
+
+ghost use Rattle.std.specs.Prelude.{◌≡◌, ◌≤◌};
+ghost use Rattle.ring_net.specs.Shown.{edge_list};
+ghost use Rattle.graft_model.specs.Setups.{Setup};
+ghost use Rattle.world_nodes.specs.Edges.{AreEdgesOf, HasCounts};
+
+use crate::edges::edges_of;
+use crate::looks::{left_up_to, on_its_way, stuck_up_to};
+use crate::node::Node;
+use graft_edge::{Gate, NoMemory, PeeringId};
+use graft_steps::Pending;
+use ring_net::{Actors, Net, Parts};
+use settled_check::{first_pending, quiet_is_found};
+use std::alloc::Global;
+use std::thread::Threads;
+use world_runs::worlds_are_on_the_way;
+
+/// A laboratory that runs: its actors in a net, with the mark behind each round.
+#[derive(Drop)]
+pub struct Course {
+    net: Net<Node>,
+    routers: u16,
+    peerings: u16,
+    edges: Vec<(u16, u16)>,
+    ghost few: { (routers ≤ 256) × (peerings ≤ 256) },
+    ghost same: { edge_list net ≡ edges.items },
+    ghost its_own: { (setup : Setup) → HasCounts setup (routers, peerings) → AreEdgesOf setup edges.items },
+}
+
+impl Course {
+    ghost use Rattle.std.specs.Prelude.{ℕ, ◌≡◌, ◌≤◌, ◌+◌, ◌↔◌, List, false, None, length, IfOk, OnOk};
+    ghost use Rattle.std.specs.List.{AllByRecursion};
+    ghost use Rattle.ring_net.specs.Phases.{CountsAll};
+    ghost use Rattle.ring_net.specs.Left.{HasJournals, left_of};
+    ghost use Rattle.graft_model.specs.Setups.{Setup, IsSetup};
+    ghost use Rattle.graft_model.specs.Parts.{World};
+    ghost use Rattle.graft_model.specs.Quiet.{Quiet};
+    ghost use Rattle.operator_core.specs.Turns.{IsHeldUp};
+    ghost use Rattle.world_runs.specs.Labs.{AreFirst};
+    ghost use Rattle.world_nodes.specs.Nodes.{Works, own};
+    ghost use Rattle.world_nodes.specs.Edges.{AreEdgesOf, HasCounts};
+    ghost use Rattle.world_nodes.specs.Ways.{Begins, Round, Pause};
+    ghost use Rattle.world_nodes.specs.Courses.{stand, counts, AllWork};
+    ghost use Rattle.world_nodes.specs.Looks.{IsWorldAt, IsLowest, IsPending, IsStuckIn, numbers};
+
+    /// The laboratory at its beginning, with these actors, of which the first `routers` are routers, the next `peerings` far sides, and the last the operator. There
+    /// are at most 256 routers and at most 256 peerings.
+    pub fn begin(
+        alloc: Global,
+        actors: Actors<Node>,
+        routers: u16,
+        peerings: u16,
+    ) -> Result<Course, NoMemory>
+        requires few { (routers ≤ 256) × (peerings ≤ 256) }
+        requires size { length actors ≡ routers + peerings + 1 }
+        requires works { AllByRecursion Works actors }
+        ensures begins { IfOk result (λ course. (setup : Setup) → HasCounts setup (routers, peerings) → AreFirst own setup actors → Begins setup (stand course)) }
+        ensures works { IfOk result AllWork }
+        ensures counts { IfOk result (λ course. counts course ≡ (routers, peerings)) }
+    {
+        let edges = edges_of(alloc, routers, peerings)?;
+        let net = Net::build(alloc, actors, edges.as_slice())?;
+        Ok(Course {
+            net,
+            routers,
+            peerings,
+            edges,
+        })
+    }
+
+    /// How many actors there are.
+    fn count(&self) -> usize
+        ensures { result ≡ (counts self.now).0 + (counts self.now).1 + 1 }
+    {
+        usize::from(self.routers) + usize::from(self.peerings) + 1
+    }
+
+    /// One round, in 1 to 8 threads: each actor takes what comes to it and makes its turn, and a mark follows. If memory runs out, nothing more is said of the actors.
+    pub fn round<R: Threads + Sync, G: Gate>(
+        &mut self,
+        rt: &R,
+        workers: usize,
+        gate: &G,
+    ) -> Result<(), NoMemory>
+        requires workers { (1 ≤ workers) × (workers ≤ 8) }
+        requires works { AllWork self.old }
+        ensures round { OnOk result (Round (stand self.old) (stand self.new)) }
+        ensures works { OnOk result (AllWork self.new) }
+        ensures counts { counts self.new ≡ counts self.old }
+    {
+        self.net.phase(rt, workers, gate)?;
+        self.net.mark()
+    }
+
+    /// Begins the next group of the script. The world has to be quiet. It answers false, and no actor does anything, exactly where the group at work has a step that
+    /// wasn't issued or a graft without an outcome, or is the last one. If memory runs out, nothing more is said of the actors.
+    pub fn go(&mut self) -> Result<bool, NoMemory>
+        requires works { AllWork self.old }
+        ensures pause { IfOk result (Pause ((counts self.old).0 + (counts self.old).1) (stand self.old) (stand self.new)) }
+        ensures held { IfOk result (λ answer. (setup : Setup) (w : World) → HasCounts setup (counts self.old) → IsWorldAt setup (stand self.old) w
+            → (answer ≡ false) ↔ IsHeldUp setup w.operator) }
+        ensures works { OnOk result (AllWork self.new) }
+        ensures counts { counts self.new ≡ counts self.old }
+    {
+        self.net.level();
+        let last = self.count() - 1;
+        self.net.between(last)
+    }
+
+    /// The lowest peering whose session is stuck, and the length to which its next message would take what was put, above 1,044,480 bytes. None where no session is
+    /// stuck.
+    pub fn stuck(&self) -> Result<Option<(PeeringId, usize)>, NoMemory>
+        requires works { AllWork self.now }
+        ensures lowest { IfOk result (λ answer. (setup : Setup) (w : World) → HasCounts setup (counts self.now) → IsWorldAt setup (stand self.now) w
+            → IsLowest (IsStuckIn setup w) (numbers answer)) }
+    {
+        stuck_up_to(&self.net, self.count())
+    }
+
+    /// The first thing that is left to do. None where the world is quiet.
+    pub fn pending(&self) -> Option<Pending>
+        requires works { AllWork self.now }
+        ensures first { (setup : Setup) (w : World) → HasCounts setup (counts self.now) → IsSetup setup → IsWorldAt setup (stand self.now) w → IsPending setup w result }
+        ensures quiet { (setup : Setup) (w : World) → HasCounts setup (counts self.now) → IsSetup setup → IsWorldAt setup (stand self.now) w
+            → (result ≡ None) ↔ Quiet setup w }
+    {
+        worlds_are_on_the_way();
+        quiet_is_found();
+        first_pending(
+            left_up_to(&self.net, self.count()),
+            on_its_way(&self.net, self.edges.as_slice()),
+        )
+    }
+
+    /// How many events there were. The count stands still at 2^64 - 1.
+    pub fn events(&self) -> u64
+        ensures { CountsAll (stand self.now).view result }
+    {
+        self.net.events()
+    }
+
+    /// The actors, their journals, the marks, and what is left on its way. After a call that failed it answers `NoMemory`. If memory runs out, the laboratory is gone.
+    pub fn finish(self) -> Result<Parts<Node>, NoMemory>
+        ensures actors { IfOk result (λ parts. parts.actors ≡ (stand self).view.actors) }
+        ensures journals { IfOk result (λ parts. HasJournals (stand self).view parts.journals) }
+        ensures marks { IfOk result (λ parts. parts.marks ≡ (stand self).marks) }
+        ensures left { IfOk result (λ parts. (edges : List (ℕ × ℕ)) × (parts.left ≡ left_of (stand self).view edges)
+            × ((setup : Setup) → HasCounts setup (counts self) → AreEdgesOf setup edges)) }
+    {
+        self.net.finish()
+    }
+}

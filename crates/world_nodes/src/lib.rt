@@ -1,0 +1,13 @@
+//! The laboratory as a net of actors: routers, far sides and the operator as one type, the channels between them, the rounds that they make, and what is seen of
+//! them at a mark.
+#![tactic(auto)]
+
+mod course;
+mod edges;
+mod laws;
+mod looks;
+mod node;
+
+pub use course::Course;
+pub use laws::the_way_is_a_run;
+pub use node::Node;
