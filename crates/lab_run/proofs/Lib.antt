@@ -1,0 +1,5 @@
+mod Stands
+mod Behind
+mod Stories
+mod Counts
+mod Loops
