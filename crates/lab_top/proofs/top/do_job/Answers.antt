@@ -2,7 +2,7 @@ use Rattle.std.proofs.Common.{ap, refl, subst}
 use Rattle.std.specs.Prelude.{Err}
 use Rattle.lab_words.specs.Asked.{Asks}
 use Rattle.lab_top.specs.Cases.{usage, wrote}
-use Rattle.lab_top.proofs.Asking.{seed_is_small}
+use Rattle.lab_top.proofs.Asking.{seed_is_small, workers_are_few}
 use Rattle.lab_top.proofs.Parts.{made_ends}
 use Rattle.lab_top.proofs.top.do_job.Goals as goal
 
@@ -19,3 +19,6 @@ returns-in-Ok-Make-clause-ended g c =
 pub returns-in-Err-Usage-clause-ended : goal.returns-in-Err-Usage-clause-ended
 returns-in-Err-Usage-clause-ended g c =
     wrote c.as_bytes.result.now 1 (usage (c.in-Err-Usage.ensures.refused (ap Err c.in-Err-Usage.field-0-is)) c.as_bytes.ensures.value refl c.end_with.ensures.lab) c.end_with.ensures.writes
+
+pub run_job-requires : goal.run_job-requires
+run_job-requires g c = workers_are_few c.args.words.now _ (subst (λ job. Asks c.args.words.now job) c.in-Ok-Run.field-0-is c.in-Ok-Run.ensures.asked)
