@@ -1,5 +1,5 @@
 -- A laboratory that runs: its actors work, and its looks are those of the world.
-use Rattle.std.proofs.Common.{◌≡◌, ◌≢◌, ◌≤◌, ◌<◌, ◌+◌, ◌∙◌, ℕ, zero, suc, Bool, false, List, [], ◌∷◌, length, get_or, map, take, Option, Some, None, Result, Ok, Err, IfOk, OnOk, refl, ap, sym, subst, arith, inl, inr}
+use Rattle.std.proofs.Common.{◌≡◌, ◌<◌, ◌+◌, ◌∙◌, ℕ, zero, suc, Bool, false, List, [], ◌∷◌, length, get_or, map, take, Option, Some, None, Result, Ok, Err, IfOk, OnOk, refl, ap, sym, subst, arith, inl, inr}
 use Rattle.std.specs.Prelude.{◌⊎◌, ◌↔◌, slice_get}
 use Rattle.std.specs.List.{AllByRecursion}
 use Rattle.std.proofs.lemmas.Bool.Decides.{eqb_tells}
@@ -24,7 +24,7 @@ use Rattle.world_runs.specs.Labs.{actors_in}
 use Rattle.world_runs.specs.Runs.{IsSeenAs}
 use Rattle.world_nodes.specs.Nodes.{Mail, own, took, turned, paused, Works}
 use Rattle.world_nodes.specs.Edges.{HasCounts, has_channel}
-use Rattle.world_nodes.specs.Looks.{IsLowest, IsStuckIn, IsStuckBy, IsStuckWith, IsStuckAtOne, IsLeftToOne, IsSentOnOne, IsPending}
+use Rattle.world_nodes.specs.Looks.{IsLowest, IsStuckIn, IsStuckWith, IsStuckAtOne, IsLeftToOne, IsSentOnOne, IsPending}
 use Rattle.world_nodes.specs.declared.node.Node.{Node}
 use Rattle.world_nodes.specs.declared.node.Node.TheVariants.{Router, Far, Operator}
 use Rattle.world_nodes.proofs.Firsts.{first_same, lowest_same}

@@ -1,5 +1,5 @@
 -- A net that goes on, from one level to the next, is a run of the world.
-use Rattle.std.proofs.Common.{◌≡◌, ◌≢◌, ◌∙◌, ◌≤◌, ◌<◌, ℕ, Bool, List, [], ◌∷◌, ◌++◌, length, get_or, map, refl, ap, sym, subst, arith, inl, inr}
+use Rattle.std.proofs.Common.{◌≡◌, ◌∙◌, ◌≤◌, ◌<◌, ℕ, Bool, List, [], ◌∷◌, ◌++◌, length, get_or, map, refl, ap, sym, subst, arith, inl, inr}
 use Rattle.std.specs.Prelude.{◌⊎◌}
 use Rattle.std.specs.List.{AllByRecursion}
 use Rattle.std.proofs.lemmas.List.{append-nil, map-append}
@@ -8,8 +8,8 @@ use Rattle.ring_net.specs.Turns.{ActorDid}
 use Rattle.ring_net.specs.Phases.{View, IsNew, InOrder, AllAt, Levelled, Phase, Between}
 use Rattle.ring_net.proofs.Replays.{all-append}
 use Rattle.ring_net.proofs.Order.{order_new, order_level, order_phase, order_between}
-use Rattle.journal_merge.specs.Growth.{Grew, IsWorldOf}
-use Rattle.journal_merge.specs.Laws.{GrowsOn, LevelGrows, PhaseGrows, BetweenGrows, at_mark}
+use Rattle.journal_merge.specs.Growth.{Grew}
+use Rattle.journal_merge.specs.Laws.{GrowsOn, LevelGrows, PhaseGrows, BetweenGrows}
 use Rattle.graft_steps.specs.declared.item.Item.{Item}
 use Rattle.session_value.specs.Sessions.{SessionValue}
 use Rattle.graft_model.specs.Setups.{Setup, IsSetup}
@@ -127,7 +127,7 @@ module _ {A C : Type 0} (own : A → OwnPart) (session : C → SessionValue) whe
         let l_in : k < length l.actors = subst (λ (xs : List A). k < length xs) (sym levelled.only.actors) k_in in
         let level_order : InOrder l = order_level u l levelled goes.ordered in
         let level_ran : Ran own session setup l = goes_on setup goes.start l (goes.levels ++ level_clock ∷ []) (λ j. goes.notes j ++ []) goes.clock sound goes.size goes.order goes.level
-            (joins goes.start u l goes.levels (level_clock ∷ []) goes.notes (λ j. []) goes.grew (levels u l levelled)) (λ j. no_go_joined (goes.notes j) [] (goes.no_go j) tt) goes.ran in
+        (joins goes.start u l goes.levels (level_clock ∷ []) goes.notes (λ j. []) goes.grew (levels u l levelled)) (λ j. no_go_joined (goes.notes j) [] (goes.no_go j) tt) goes.ran in
         let x = some_of l.actors k l_in in
         starts setup v did.to (did.size ∙ level_size) (order_between own (acts session) paused k l v answer l_in did level_order) did.level
         (go setup k l v (did.from ∷ did.to ∷ []) did.deeds level_clock sound level_size level_order levelled.level (pauses l v k answer l_in did) (few _ _ did.deeds (did.paused x))

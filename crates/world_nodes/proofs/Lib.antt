@@ -7,3 +7,9 @@ pub mod Seen
 pub mod NodeCalls
 pub mod WayRuns
 pub mod CourseSteps
+pub mod SendValues
+pub mod SendSessions
+pub mod SendRouters
+pub mod SendFars
+pub mod SendOperators
+pub mod Sends

@@ -1,6 +1,5 @@
 -- In a round no group begins.
-use Rattle.std.proofs.Common.{◌≡◌, ◌≢◌, ◌∙◌, ◌≤◌, ℕ, List, [], ◌∷◌, ◌++◌, length, map, Option, Some, None, refl, ap, sym, subst, arith, inl, inr}
-use Rattle.std.specs.Prelude.{◌⊎◌}
+use Rattle.std.proofs.Common.{◌≡◌, ◌≢◌, ◌∙◌, ℕ, List, [], ◌∷◌, length, Option, Some, None, refl, ap, sym, arith, inl, inr}
 use Rattle.std.specs.Option.{option_map}
 use Rattle.std.specs.List.{AllByRecursion}
 use Rattle.ring_net.specs.declared.entry.JournalEntry.{JournalEntry}
@@ -15,7 +14,7 @@ use Rattle.graft_model.specs.OperatorRows.{OperatorTaken}
 use Rattle.graft_runs.specs.Actors.{ActorPart, RouterIs, FarIs, OperatorIs, Thing, ActorName, Router, FarSide, Operator}
 use Rattle.graft_runs.specs.Makes.{makes_as, numbered, taken_by_operator}
 use Rattle.graft_runs.specs.Laws.{IsGo}
-use Rattle.graft_actors.specs.Acts.{OwnPart, ActsAs, MakesEvent, DropsItem, acts}
+use Rattle.graft_actors.specs.Acts.{OwnPart, ActsAs, acts}
 use Rattle.world_runs.specs.Laws.{IsNoGo}
 
 -- ---- by their kinds

@@ -1,5 +1,5 @@
 -- What the actors and channels of a net tell of the world that it is.
-use Rattle.std.proofs.Common.{◌≡◌, ◌≢◌, ◌≤◌, ◌<◌, ◌+◌, ◌-◌, ◌∙◌, ℕ, zero, suc, Bool, true, false, List, [], ◌∷◌, length, get_or, map, Option, Some, None, refl, ap, sym, subst, arith, inl, inr}
+use Rattle.std.proofs.Common.{◌≡◌, ◌≤◌, ◌<◌, ◌+◌, ◌-◌, ◌∙◌, ℕ, zero, suc, Bool, true, false, List, [], ◌∷◌, length, get_or, map, Option, Some, None, refl, ap, sym, subst, arith, inl, inr}
 use Rattle.std.specs.Prelude.{◌⊎◌, ◌==◌, ◌&&◌}
 use Rattle.std.specs.List.{Any}
 use Rattle.std.proofs.lemmas.Bool.Decides.{eqb_tells, nat_tests}
@@ -13,7 +13,7 @@ use Rattle.graft_steps.specs.declared.rest.Pending.TheVariants.{Script, Graft, C
 use Rattle.session_value.specs.Sessions.{SessionValue}
 use Rattle.graft_model.specs.Setups.{Setup, routers_in, peerings_in}
 use Rattle.graft_model.specs.Parts.{World}
-use Rattle.graft_runs.specs.Actors.{ActorPart, ActorName, Router, FarSide, Operator, Thing, MeshItem, IsActor, number_in, actor_at}
+use Rattle.graft_runs.specs.Actors.{ActorPart, ActorName, Router, FarSide, Operator, MeshItem, IsActor, number_in, actor_at}
 use Rattle.graft_runs.specs.Seen.{part_of, channel_of}
 use Rattle.graft_runs.proofs.Numbers.{there, of_number, at_operator}
 use Rattle.graft_actors.specs.Items.{thing_of}
@@ -127,10 +127,18 @@ module _ {A C : Type 0} (own : A → OwnPart) (session : C → SessionValue) (se
         by_test false e = absurd (some (silent w itself (actor_at setup a) (actor_at setup b) (sym (each a b) ∙ e)))
         by_test true e =
             let found = Any-from_list_any (λ (x : ℕ × ℕ). x.0 == a && x.1 == b) edges e in
-            let same = pair found.1.0 found.1.1 found.4 in
-            (found.0, found.1, found.2, found.3, (rw (same.0, same.1) refl, λ none.
-                let empty : v.channel a b ≡ [] = ap (λ n. v.channel n b) (sym same.0) ∙ ap (λ n. v.channel found.1.0 n) (sym same.1) ∙ none in
-                some (sym (things a b e) ∙ ap (λ xs. map (thing_of session setup) (map (λ (z : Stamped (Item C)). z.item) xs)) empty)))
+            let same = pair found.1.0 found.1.1 found.4 in (
+              found.0,
+              found.1,
+              found.2,
+              found.3,
+              (
+                rw (same.0, same.1) refl,
+                λ none.
+                    let empty : v.channel a b ≡ [] = ap (λ n. v.channel n b) (sym same.0) ∙ ap (λ n. v.channel found.1.0 n) (sym same.1) ∙ none in
+                    some (sym (things a b e) ∙ ap (λ xs. map (thing_of session setup) (map (λ (z : Stamped (Item C)). z.item) xs)) empty),
+              ),
+            )
           where
             pair : (x y : ℕ) → (x == a && y == b) ≡ true → (x ≡ a) × (y ≡ b)
             pair x y e = elim (eqb_tells x a) [

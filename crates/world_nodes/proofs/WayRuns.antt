@@ -1,5 +1,5 @@
 -- The way of a laboratory's net is a run of the world.
-use Rattle.std.proofs.Common.{◌≡◌, ◌≢◌, ◌≤◌, ◌+◌, ◌∙◌, ℕ, true, List, [], ◌∷◌, ◌++◌, length, refl, ap, sym, subst, arith}
+use Rattle.std.proofs.Common.{◌≢◌, ◌≤◌, ◌+◌, ◌∙◌, ℕ, true, List, [], ◌∷◌, ◌++◌, length, ap, sym, subst, arith}
 use Rattle.std.specs.List.{AllByRecursion}
 use Rattle.std.proofs.lemmas.List.{map-append}
 use Rattle.ring_net.specs.Deeds.{Deed, Noted, deeds}
@@ -11,11 +11,10 @@ use Rattle.graft_model.specs.Setups.{Setup, IsSetup, routers_in, peerings_in}
 use Rattle.graft_runs.specs.Actors as names
 use Rattle.graft_actors.specs.Acts.{acts}
 use Rattle.router_core.specs.Parts.{carried}
-use Rattle.world_runs.specs.Labs.{actors_in}
 use Rattle.world_runs.specs.Runs.{Ran}
 use Rattle.world_runs.specs.Laws.{IsNoGo, NewNetsRan, RunsGoOn, GoesOn}
 use Rattle.world_nodes.specs.Nodes.{Mail, own, took, turned, paused}
-use Rattle.world_nodes.specs.Ways.{Stand, Begins, Round, Pause, Way, Here, Rounds, Groups}
+use Rattle.world_nodes.specs.Ways.{Stand, Begins, Way, Here, Rounds, Groups}
 use Rattle.world_nodes.specs.declared.node.Node.{Node}
 use Rattle.world_nodes.specs.declared.node.Node.TheVariants.{Router, Far, Operator}
 use Rattle.world_nodes.proofs.NoGo.{replay_no_go, take_no_go}

@@ -1,5 +1,5 @@
 -- Which actors have a channel to which.
-use Rattle.std.specs.Prelude.{ℕ, ◌≡◌, ◌≤◌, ◌==◌, ◌&&◌, ◌||◌, Bool, true, false, not, List, Option, Some, None}
+use Rattle.std.specs.Prelude.{ℕ, ◌≡◌, ◌≤◌, ◌==◌, ◌&&◌, ◌||◌, Bool, true, false, not, List, Option, Some}
 use Rattle.ring_net.specs.Phases.{is_edge}
 use Rattle.ring_net.specs.Fresh.{AreEdges}
 use Rattle.graft_model.specs.Setups.{Setup, routers_in, peerings_in}

@@ -11,9 +11,7 @@ use crate::node::Node;
 use graft_edge::{NoMemory, PeeringId};
 use graft_steps::Pending;
 use ring_net::Net;
-use settled_check::{
-    far_rest, first_pending, operator_rest, rests_tell_what_is_left, router_rest,
-};
+use settled_check::{far_rest, first_pending, operator_rest, rests_tell_what_is_left, router_rest};
 
 /// The lowest peering of an actor whose session is stuck, and the length to which its next message would take what was put.
 fn stuck_at(node: &Node) -> Result<Option<(PeeringId, usize)>, NoMemory>

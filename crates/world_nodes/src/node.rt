@@ -28,10 +28,15 @@ impl Actor for Node {
     type Item = Item<Capsule>;
 
     ghost Part = { OwnPart };
+
     ghost part = { own };
+
     ghost makes = { acts carried };
+
     ghost took = { took };
+
     ghost turned = { turned };
+
     ghost paused = { paused };
 
     fn take(

@@ -1,4 +1,4 @@
-use Rattle.std.proofs.Common.{◌≡◌, ◌∙◌, ◌+◌, ◌-◌, Bool, subst, arith}
+use Rattle.std.proofs.Common.{◌≡◌, ◌∙◌, ◌+◌, ◌-◌, subst, arith}
 use Rattle.std.proofs.lemmas.Result.{IfOk-weaker}
 use Rattle.ring_net.specs.Shown.{view}
 use Rattle.ring_net.specs.Phases.{Between}
@@ -23,8 +23,8 @@ pub returns-clause-held : goal.returns-clause-held
 returns-clause-held c =
     let course = c.args.self.now in
     IfOk-weaker c.between.result _ _ (λ answer did setup w counts at.
-        pause_held setup (view course.net) (view c.level.new.self) (view c.between.new.self) w answer (c.count-last.result - 1) at.0 (size_in setup course.routers course.peerings _ counts c.requires.works.size)
-        (omega (arith, c.count-last.ensures, counts.routers, counts.peerings)) c.level.ensures.level did) c.between.ensures.between
+    pause_held setup (view course.net) (view c.level.new.self) (view c.between.new.self) w answer (c.count-last.result - 1) at.0 (size_in setup course.routers course.peerings _ counts c.requires.works.size)
+    (omega (arith, c.count-last.ensures, counts.routers, counts.peerings)) c.level.ensures.level did) c.between.ensures.between
 
 pub returns-clause-works : goal.returns-clause-works
 returns-clause-works c =

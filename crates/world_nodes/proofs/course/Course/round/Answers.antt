@@ -5,14 +5,16 @@ use Rattle.ring_net.specs.Shown.{view}
 use Rattle.ring_net.specs.Phases.{View}
 use Rattle.world_nodes.specs.Nodes.{Mail, Works}
 use Rattle.world_nodes.specs.declared.node.Node.{Node}
+use Rattle.world_nodes.proofs.SendSessions.{item}
+use Rattle.world_nodes.proofs.Sends.{node}
 use Rattle.world_nodes.proofs.CourseSteps.{always_ok, phase_works}
 use Rattle.world_nodes.proofs.course.Course.round.Goals as goal
 
 pub phase-requires-send-A : goal.phase-requires-send-A
-phase-requires-send-A g c κs within = search sendable depth 40 fits 20000
+phase-requires-send-A g c κs within = let n = node in search sendable depth 40
 
 pub phase-requires-send-A-Item : goal.phase-requires-send-A-Item
-phase-requires-send-A-Item g c κs within = search sendable depth 40 fits 20000
+phase-requires-send-A-Item g c κs within = let i = item in search sendable depth 40
 
 pub returns-clause-works : goal.returns-clause-works
 returns-clause-works g c =

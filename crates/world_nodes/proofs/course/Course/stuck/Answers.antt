@@ -8,5 +8,7 @@ use Rattle.world_nodes.proofs.course.Course.stuck.Goals as goal
 pub returns : goal.returns
 returns c =
     let course = c.args.self.now in
-    record { lowest = IfOk-weaker c.stuck_up_to.result _ _ (λ answer low setup w counts at.
-        stuck_world setup (view course.net) w at.0 (size_in setup course.routers course.peerings _ counts c.requires.works.size) c.count.result (c.count.ensures ∙ sym c.requires.works.size) (numbers answer) low) c.stuck_up_to.ensures }
+    record {
+      lowest = IfOk-weaker c.stuck_up_to.result _ _ (λ answer low setup w counts at.
+          stuck_world setup (view course.net) w at.0 (size_in setup course.routers course.peerings _ counts c.requires.works.size) c.count.result (c.count.ensures ∙ sym c.requires.works.size) (numbers answer) low) c.stuck_up_to.ensures;
+    }

@@ -1,0 +1,261 @@
+//! Generated commands for a router's routes, beside the plain model.
+
+use crate::plain::{Held, Plain, best_at, put_in, source, take_out};
+use crate::tables::tables;
+use bgp_types::{Attrs, From, Items, NoMemory, Origin, PathPart, Prefix, Route, TryCopy};
+use rib_stages::{InEntry, Rib};
+use std::alloc::Global;
+
+/// How many commands there are.
+const COMMANDS: u32 = 3_000;
+
+/// A linear congruential generator, of which the upper bits are used (Knuth's MMIX).
+#[derive(Drop)]
+struct Generator {
+    state: u64,
+}
+
+impl Generator {
+    /// The next number below another.
+    fn below(&mut self, limit: u32) -> u32 {
+        self.state = self
+            .state
+            .wrapping_mul(6_364_136_223_846_793_005)
+            .wrapping_add(1_442_695_040_888_963_407);
+        let number = (self.state >> 32) as u32;
+        number.checked_rem(limit).unwrap_or(0)
+    }
+}
+
+/// One of 16 prefixes: 10.0.0.0/8, and 10.1.0.0/16 to 10.15.0.0/16.
+fn prefix(n: u32) -> Option<Prefix> {
+    let place = n % 16;
+    let len = if place == 0 { 8 } else { 16 };
+    Prefix::new(0x0A00_0000 + place * 0x1_0000, len)
+}
+
+/// A route with a path of one or two ASes.
+fn route(
+    alloc: Global,
+    as_number: u32,
+    is_long: bool,
+    med: u32,
+    pref: u32,
+) -> Result<Route, NoMemory> {
+    let mut ases = Items::one(alloc, as_number)?;
+    if is_long {
+        ases.push(65_010)?;
+    }
+    Ok(Route {
+        attrs: Attrs {
+            origin: Origin::Igp,
+            path: Items::one(alloc, PathPart::Sequence(ases))?,
+            next_hop: 1,
+            med: Some(med),
+            atomic: false,
+            aggregator: None,
+            unknown: Items::new(alloc),
+        },
+        pref,
+    })
+}
+
+/// One of few routes, so that many are equal by most rules.
+fn any_route(alloc: Global, numbers: &mut Generator) -> Result<Route, NoMemory> {
+    let neighbour = numbers.below(3);
+    let is_long = numbers.below(2) == 0;
+    let med = numbers.below(3);
+    let raised = numbers.below(2);
+    route(
+        alloc,
+        neighbour.saturating_add(65_001),
+        is_long,
+        med,
+        raised.saturating_add(100),
+    )
+}
+
+/// The network of the router's own. Its route has an empty path.
+fn own(alloc: Global, prefix: Prefix) -> Held {
+    Held {
+        from: From::Own,
+        prefix,
+        route: Route {
+            attrs: Attrs {
+                origin: Origin::Igp,
+                path: Items::new(alloc),
+                next_hop: 0,
+                med: None,
+                atomic: false,
+                aggregator: None,
+                unknown: Items::new(alloc),
+            },
+            pref: 100,
+        },
+        identifier: 0,
+    }
+}
+
+/// Both get a route of a source to a prefix.
+fn set_both(rib: &mut Rib, plain: &mut Plain, held: Held) -> Result<(), NoMemory> {
+    let route = held.route.copy()?;
+    let (from, prefix, identifier) = (held.from, held.prefix, held.identifier);
+    put_in(plain, held)?;
+    rib.set_in(
+        from,
+        InEntry {
+            prefix,
+            route: Some(route),
+            identifier,
+            address: identifier,
+        },
+    )
+}
+
+/// A source has no route to a prefix any more, in both.
+fn lose_both(rib: &mut Rib, plain: &mut Plain, from: From, prefix: Prefix) -> Result<(), NoMemory> {
+    take_out(plain, from, Some(prefix));
+    rib.set_in(
+        from,
+        InEntry {
+            prefix,
+            route: None,
+            identifier: 0,
+            address: 0,
+        },
+    )
+}
+
+/// A command for both: one in a hundred drops a source, and of the others one in four takes a route away.
+fn command(
+    alloc: Global,
+    numbers: &mut Generator,
+    rib: &mut Rib,
+    plain: &mut Plain,
+) -> Result<(), NoMemory> {
+    let from = source(numbers.below(8));
+    let Some(prefix) = prefix(numbers.below(16)) else {
+        return Ok(());
+    };
+    if numbers.below(100) == 0 {
+        take_out(plain, from, None);
+        return rib.drop_from(from);
+    }
+    if numbers.below(4) == 0 {
+        return lose_both(rib, plain, from, prefix);
+    }
+    let identifier = numbers.below(4);
+    let route = any_route(alloc, numbers)?;
+    let held = Held {
+        from,
+        prefix,
+        route,
+        identifier,
+    };
+    set_both(rib, plain, held)
+}
+
+/// Whether the best route to a prefix is the plain model's, or is to be decided again.
+fn is_right(alloc: Global, rib: &Rib, plain: &Plain, prefix: Prefix) -> Result<bool, NoMemory> {
+    if rib.is_dirty(prefix) {
+        return Ok(true);
+    }
+    Ok(match (rib.best(prefix), best_at(alloc, plain, prefix)?) {
+        (None, None) => true,
+        (Some(best), Some(held)) => best.from == held.from && best.route == held.route,
+        _ => false,
+    })
+}
+
+/// Whether the best routes to all prefixes are right.
+fn are_right(alloc: Global, rib: &Rib, plain: &Plain) -> Result<bool, NoMemory> {
+    for n in 0..16u32 {
+        let Some(prefix) = prefix(n) else {
+            return Ok(false);
+        };
+        if !is_right(alloc, rib, plain, prefix)? {
+            return Ok(false);
+        }
+    }
+    Ok(true)
+}
+
+/// Whether a route is the best one to a prefix.
+fn is_best(rib: &Rib, prefix: Prefix, from: From, route: &Route) -> bool {
+    match rib.best(prefix) {
+        Some(best) => best.from == from && best.route == *route,
+        None => false,
+    }
+}
+
+/// Decides a prefix that had a best route. Whether it answers exactly whether there is another.
+fn decides_another(
+    rib: &mut Rib,
+    prefix: Prefix,
+    from: From,
+    route: &Route,
+) -> Result<bool, NoMemory> {
+    let changed = rib.decide(prefix)?;
+    Ok(changed != is_best(rib, prefix, from, route))
+}
+
+/// Decides a prefix. Whether it answers exactly whether the best route is another than before.
+fn decides_rightly(rib: &mut Rib, prefix: Prefix) -> Result<bool, NoMemory> {
+    match rib.best(prefix) {
+        Some(best) => {
+            let (from, route) = (best.from, best.route.copy()?);
+            decides_another(rib, prefix, from, &route)
+        }
+        None => {
+            let changed = rib.decide(prefix)?;
+            Ok(changed == rib.best(prefix).is_some())
+        }
+    }
+}
+
+/// Decides up to so many dirty prefixes. Whether each answer was right.
+fn decide_some(rib: &mut Rib, count: u32) -> Result<bool, NoMemory> {
+    let mut right = true;
+    for _n in 0..count {
+        let Some(prefix) = rib.next_dirty() else {
+            return Ok(right);
+        };
+        right = decides_rightly(rib, prefix)? && right;
+    }
+    Ok(right)
+}
+
+/// One command, up to two decisions, and whether all is right then.
+fn step(
+    alloc: Global,
+    numbers: &mut Generator,
+    rib: &mut Rib,
+    plain: &mut Plain,
+) -> Result<bool, NoMemory> {
+    command(alloc, numbers, rib, plain)?;
+    let decided = decide_some(rib, numbers.below(3))?;
+    Ok(are_right(alloc, rib, plain)? && decided)
+}
+
+/// How many steps went wrong.
+fn steps_that_differ(alloc: Global, rib: &mut Rib, plain: &mut Plain) -> Result<u32, NoMemory> {
+    let mut numbers = Generator { state: 20 };
+    let mut differ = 0u32;
+    for _n in 0..COMMANDS {
+        if !step(alloc, &mut numbers, rib, plain)? {
+            differ = differ.saturating_add(1);
+        }
+    }
+    Ok(differ)
+}
+
+/// After how many commands the routes aren't those of the plain model.
+pub fn commands_that_differ(alloc: Global) -> Result<u32, NoMemory> {
+    let Some(network) = prefix(1) else {
+        return Ok(COMMANDS);
+    };
+    let mut rib = tables(alloc, &[network])?;
+    let mut plain = Vec::new(alloc);
+    plain.push(own(alloc, network))?;
+    steps_that_differ(alloc, &mut rib, &mut plain)
+}

@@ -1,0 +1,76 @@
+//! What is planned on a session.
+
+use adj_rib::AdjRib;
+use anyhow::Result;
+use bgp_types::{Message, NoMemory, Octets, PeeringId, Prefix, Table};
+use bgp_wire::write_message;
+use prefix_trie::TrieTable;
+use rib_stages::{OutView, Rib};
+use std::alloc::Global;
+use tell_plan::{next_update_is_one_way, plan};
+
+/// Puts a prefix into a set.
+fn add(set: &mut TrieTable<()>, prefix: Prefix) -> Result<(), NoMemory> {
+    match set.set(prefix, ()) {
+        Ok(_) => Ok(()),
+        Err(_) => Err(NoMemory),
+    }
+}
+
+/// Puts the prefixes that have a best route into a set, up to 100.
+fn add_all(rib: &Rib, set: &mut TrieTable<()>) -> Result<(), NoMemory> {
+    let mut last = None;
+    for _n in 0..100u32 {
+        let Some(prefix) = rib.next_best(last) else {
+            return Ok(());
+        };
+        add(set, prefix)?;
+        last = Some(prefix);
+    }
+    Ok(())
+}
+
+/// The octets of the one UPDATE on a session whose own address is 192.0.2.6, narrow; None where not one is planned.
+fn written(
+    alloc: Global,
+    rib: &Rib,
+    due: &TrieTable<()>,
+    peering: u8,
+) -> Result<Option<Octets>, NoMemory> {
+    let view = OutView {
+        peering: PeeringId(peering),
+        local_address: 0xC000_0206,
+        export: None,
+    };
+    let told = AdjRib::new(alloc);
+    let batches = plan(alloc, rib, due, &told, &view, false)?;
+    if batches.len() != 1 {
+        return Ok(None);
+    }
+    let mut batches = batches.into_vec();
+    let Some(batch) = batches.pop() else {
+        return Ok(None);
+    };
+    if !batch.is_writable() {
+        return Ok(None);
+    }
+    next_update_is_one_way();
+    let message = Message::UpdateMsg(batch.into_update(alloc));
+    Ok(Some(write_message(alloc, &message, false)?))
+}
+
+/// The octets of a message in hexadecimal, without its marker.
+fn octets_text(alloc: Global, octets: &Octets) -> Result<String> {
+    let octets = octets.get(16..).unwrap_or(&[]);
+    Ok(hex::encode_upper(alloc, octets)?)
+}
+
+/// The octets of the one UPDATE that tells on a session all that has a best route, without the marker.
+pub fn planned(alloc: Global, rib: &Rib, peering: u8) -> Result<String> {
+    let mut due = TrieTable::new(alloc);
+    add_all(rib, &mut due)?;
+    match written(alloc, rib, &due, peering)? {
+        Some(octets) => octets_text(alloc, &octets),
+        None => Ok(format!(in alloc; "not one UPDATE")?),
+    }
+}

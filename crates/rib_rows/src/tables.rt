@@ -1,0 +1,171 @@
+//! The routes of a router, and the calls of rows.
+
+use crate::plans::planned;
+use crate::routes::route_of;
+use crate::texts::{from_text, or_nothing, push_prefix, push_route};
+use crate::words::{address, prefix, small, source, word};
+use anyhow::{Result, bail};
+use bgp_types::{From, Items, NoMemory, Prefix, PrefixList, RouterId};
+use rib_stages::{InEntry, Numbers, Rib, RibConfig};
+use std::alloc::Global;
+
+/// The routes of router 0 of AS 65000. The identifiers of routers 0 to 3 are 10.255.0.1 to 10.255.0.4, and the costs to routers 0 to 2 are
+/// 0, 1 and 2.
+pub fn tables(alloc: Global, networks: &[Prefix]) -> Result<Rib, NoMemory> {
+    let networks = Items::from_slice(alloc, networks)?;
+    let identifiers = Items::from_slice(
+        alloc,
+        &[0x0AFF_0001, 0x0AFF_0002, 0x0AFF_0003, 0x0AFF_0004],
+    )?;
+    let costs = Items::from_slice(alloc, &[0, 1, 2])?;
+    of_config(alloc, identifiers, costs, networks)
+}
+
+/// The routes of router 0 with these identifiers, costs and own networks.
+fn of_config(
+    alloc: Global,
+    identifiers: Numbers,
+    costs: Numbers,
+    networks: PrefixList,
+) -> Result<Rib, NoMemory> {
+    Rib::new(
+        alloc,
+        RibConfig {
+            home_as: 65_000,
+            router: RouterId(0),
+            identifiers,
+            costs,
+            networks,
+        },
+    )
+}
+
+/// Begins anew, with the own networks that the row has from its second word on.
+fn begin(alloc: Global, rib: &mut Rib, words: &[&str]) -> Result<()> {
+    let mut networks: Vec<Prefix> = Vec::new(alloc);
+    for place in 1..words.len() {
+        networks.push(prefix(words, place)?)?;
+    }
+    *rib = tables(alloc, networks.as_slice())?;
+    Ok(())
+}
+
+/// A peering gives a route, or another router tells it.
+fn hear(alloc: Global, rib: &mut Rib, words: &[&str]) -> Result<()> {
+    let from = source(words)?;
+    let prefix = prefix(words, 3)?;
+    let address = address(words, "from")?;
+    let route = route_of(alloc, words, prefix)?;
+    let entry = InEntry {
+        prefix,
+        route,
+        identifier: address,
+        address,
+    };
+    rib.set_in(from, entry)?;
+    Ok(())
+}
+
+/// A peering has no route to a prefix any more, or another router tells that.
+fn lose(rib: &mut Rib, words: &[&str]) -> Result<()> {
+    let from = source(words)?;
+    let entry = InEntry {
+        prefix: prefix(words, 3)?,
+        route: None,
+        identifier: 0,
+        address: 0,
+    };
+    rib.set_in(from, entry)?;
+    Ok(())
+}
+
+/// The least dirty prefix.
+fn least_dirty(alloc: Global, rib: &Rib) -> Result<String> {
+    Ok(match rib.next_dirty() {
+        Some(prefix) => format!(in alloc; "dirty {prefix}")?,
+        None => format!(in alloc; "clean")?,
+    })
+}
+
+/// Decides a prefix.
+fn decide(rib: &mut Rib, prefix: Prefix, text: &mut String) -> Result<()> {
+    let changed = rib.decide(prefix)?;
+    push_prefix(text, prefix)?;
+    text.push_str(if changed { " changed" } else { " same" })?;
+    Ok(())
+}
+
+/// Decides what is dirty, up to 100 prefixes.
+fn decide_all(alloc: Global, rib: &mut Rib) -> Result<String> {
+    let mut text = String::new(alloc);
+    for _n in 0..100u32 {
+        let Some(prefix) = rib.next_dirty() else {
+            break;
+        };
+        decide(rib, prefix, &mut text)?;
+    }
+    Ok(or_nothing(text)?)
+}
+
+/// The best route to a prefix, and where it comes from.
+fn best(alloc: Global, rib: &Rib, prefix: Prefix) -> Result<String> {
+    let Some(best) = rib.best(prefix) else {
+        return Ok(format!(in alloc; "nothing")?);
+    };
+    let mut text = from_text(alloc, best.from)?;
+    push_route(&mut text, &best.route)?;
+    Ok(text)
+}
+
+/// The prefixes of the routes that come from there, up to 100.
+fn entries(alloc: Global, rib: &Rib, from: From) -> Result<String> {
+    let mut text = String::new(alloc);
+    let mut last = None;
+    for _n in 0..100u32 {
+        let Some(prefix) = rib.next_entry(from, last) else {
+            break;
+        };
+        push_prefix(&mut text, prefix)?;
+        last = Some(prefix);
+    }
+    Ok(or_nothing(text)?)
+}
+
+/// What the other routers are told of a prefix.
+fn told_inside(alloc: Global, rib: &Rib, prefix: Prefix) -> Result<String> {
+    let Some(route) = rib.tell_in(prefix)? else {
+        return Ok(format!(in alloc; "nothing")?);
+    };
+    let mut text = String::new(alloc);
+    push_route(&mut text, &route)?;
+    if let Some(med) = route.attrs.med {
+        write!(text, " med {med}")?;
+    }
+    Ok(text)
+}
+
+/// What a row that looks at the routes gives.
+fn look(alloc: Global, rib: &Rib, words: &[&str]) -> Result<String> {
+    match word(words, 0) {
+        "best" => best(alloc, rib, prefix(words, 1)?),
+        "own" => entries(alloc, rib, From::Own),
+        "entries" => entries(alloc, rib, source(words)?),
+        "inside" => told_inside(alloc, rib, prefix(words, 1)?),
+        "outside" => planned(alloc, rib, small(words, 2)?),
+        _ => bail!("a call"),
+    }
+}
+
+/// What a row gives. One that changes the routes gives the least dirty prefix.
+pub fn answer(alloc: Global, rib: &mut Rib, words: &[&str]) -> Result<String> {
+    match word(words, 0) {
+        "router" => begin(alloc, rib, words)?,
+        "hear" => hear(alloc, rib, words)?,
+        "lose" => lose(rib, words)?,
+        "drop" => rib.drop_from(source(words)?)?,
+        "mark" => rib.mark(prefix(words, 1)?)?,
+        "decide" => return decide_all(alloc, rib),
+        _ => return look(alloc, rib, words),
+    }
+    least_dirty(alloc, rib)
+}
