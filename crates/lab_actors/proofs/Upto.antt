@@ -1,15 +1,13 @@
 -- One actor more.
-use Rattle.std.proofs.Common.{◌≡◌, ℕ, ◌+◌, ◌-◌, ◌<◌, ◌≤◌, List, [], ◌∷◌, ◌++◌, length, get_or, refl, sym, ap, ◌∙◌, subst, inl, inr, arith}
-use Rattle.std.specs.Prelude.{Option, Some, None, unwrap_or, slice_get, slice_index_or}
-use Rattle.std.specs.List.{AllByRecursion}
+use Rattle.std.proofs.Common.{◌≡◌, ℕ, ◌+◌, ◌-◌, ◌<◌, List, [], ◌∷◌, ◌++◌, length, get_or, refl, sym, ap, ◌∙◌, inl, inr, arith}
+use Rattle.std.specs.Prelude.{Some, unwrap_or, slice_index_or}
 use Rattle.std.proofs.lemmas.Bool.{cases_lt}
 use Rattle.std.proofs.lemmas.List.{length-append, get_or_append_left, get_or-append_right}
 use Rattle.link_bag.specs.declared.plan.Fault.{Fault}
-use Rattle.graft_model.specs.Setups.{Setup, PeeringSetup, routers_in, peerings_in}
-use Rattle.graft_model.specs.First.{first_router, first_far, first_world}
-use Rattle.graft_runs.specs.Actors.{ActorName, Router, FarSide, Operator, ActorPart, RouterIs, FarIs, OperatorIs, actor_at}
+use Rattle.graft_model.specs.Setups.{Setup, routers_in, peerings_in}
+use Rattle.graft_model.specs.First.{first_far}
+use Rattle.graft_runs.specs.Actors.{ActorName, Router, FarSide, Operator, FarIs, actor_at}
 use Rattle.graft_runs.proofs.Numbers.{there}
-use Rattle.graft_actors.specs.Acts.{OwnPart}
 use Rattle.world_runs.specs.Labs.{AreFirst, actors_in}
 use Rattle.world_nodes.specs.Fresh.{IsFresh}
 use Rattle.world_nodes.specs.Nodes.{own, Works}
@@ -59,9 +57,9 @@ are_first setup faults actors all = record {
   all = all.size;
   routers = λ r d less. all.each r d (Router r) (omega arith) (there setup (Router r) less);
   far_sides = λ p d peering is. (
-    let less = get_below setup.peerings p peering is in
-    all.each (routers_in setup + p) d (FarSide p) (omega arith) (there setup (FarSide p) less)
-    ∙ ap (λ o. record { setup = setup; name = FarSide p; part = FarIs (first_far o) }) is
-  );
+      let less = get_below setup.peerings p peering is in
+      all.each (routers_in setup + p) d (FarSide p) (omega arith) (there setup (FarSide p) less)
+      ∙ ap (λ o. record { setup = setup; name = FarSide p; part = FarIs (first_far o) }) is
+      );
   operator = λ d. all.each (routers_in setup + peerings_in setup) d Operator (omega arith) (there setup Operator tt);
 }

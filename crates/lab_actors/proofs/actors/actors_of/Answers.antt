@@ -4,7 +4,6 @@ use Rattle.graft_runs.specs.Actors.{Operator, actor_at}
 use Rattle.graft_runs.proofs.Numbers.{there}
 use Rattle.lab_setup.specs.Setups.{setup_of}
 use Rattle.lab_setup.proofs.Ready.{as_many_routers, as_many_peerings}
-use Rattle.world_runs.specs.Labs.{actors_in}
 use Rattle.lab_actors.specs.Firsts.{AreFirstUpTo}
 use Rattle.lab_actors.proofs.Upto.{one_more, are_first}
 use Rattle.lab_actors.proofs.actors.actors_of.Goals as goal
@@ -19,5 +18,5 @@ returns-clause-first c =
     let same : routers_in setup + peerings_in setup ≡ before = omega (arith, routers, peerings) in
     let at : actor_at setup before ≡ Some Operator = ap (actor_at setup) (sym same) ∙ there setup Operator tt in
     let all : AreFirstUpTo setup c.args.input.now.faults (before + 1) c.push.new.self = subst (AreFirstUpTo setup c.args.input.now.faults (before + 1)) (sym c.in_ok-push.ensures.ok)
-        (one_more setup c.args.input.now.faults before c.in_ok-actors.actors Operator c.in_ok-operator.operator c.in_ok-actors.ensures at c.in_ok-operator.ensures) in
+    (one_more setup c.args.input.now.faults before c.in_ok-actors.actors Operator c.in_ok-operator.operator c.in_ok-actors.ensures at c.in_ok-operator.ensures) in
     are_first setup c.args.input.now.faults c.push.new.self (subst (λ (k : ℕ). AreFirstUpTo setup c.args.input.now.faults (k + 1) c.push.new.self) (sym same) all)

@@ -7,11 +7,11 @@ use Rattle.node_configs.proofs.Accepted.{is_setup}
 use Rattle.lab_actors.proofs.Begun.{router_first}
 use Rattle.lab_actors.proofs.actors.router_of.Goals as goal
 
-pub new-requires-setup : goal.new-requires-setup
-new-requires-setup c = subst IsSetup (sym c.known_for-known.ensures) (is_setup c.args.input.now c.requires.accepted)
+pub new-requires-clause-setup : goal.new-requires-clause-setup
+new-requires-clause-setup c = subst IsSetup (sym c.known_for-known.ensures) (is_setup c.args.input.now c.requires.accepted)
 
-pub new-requires-config : goal.new-requires-config
-new-requires-config c = subst (λ (s : Setup). IsConfigOf s c.in_ok-config.config) (sym c.known_for-known.ensures) c.in_ok-config.ensures.config
+pub new-requires-clause-config : goal.new-requires-clause-config
+new-requires-clause-config c = subst (λ (s : Setup). IsConfigOf s c.in_ok-config.config) (sym c.known_for-known.ensures) c.in_ok-config.ensures.config
 
 pub returns : goal.returns
 returns c =
