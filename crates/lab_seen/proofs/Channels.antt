@@ -111,7 +111,7 @@ edge_is P a b x y here e = elim (eqb_tells a x) [
 
 pub edge_of_all : (P : ℕ → ℕ → Type 0) (edges : List (ℕ × ℕ)) (x y : ℕ) → AllByRecursion (λ e. P e.0 e.1) edges → is_edge edges x y ≡ true → P x y
 edge_of_all P [] x y all e = absurd (let f : false ≡ true = e in cc)
-edge_of_all P ((a, b) ∷ edges) x y all e = by_test (a == x && b == y) refl e where
-  by_test : (t : Bool) → (a == x && b == y) ≡ t → (t || is_edge edges x y) ≡ true → P x y
-  by_test true here e = edge_is P a b x y all.0 here
-  by_test false apart e = edge_of_all P edges x y all.1 e
+edge_of_all P ((a, b) ∷ edges) x y all e = by_test (a == x && b == y) refl e (edge_of_all P edges x y all.1) where
+  by_test : (t : Bool) → (a == x && b == y) ≡ t → (t || is_edge edges x y) ≡ true → (is_edge edges x y ≡ true → P x y) → P x y
+  by_test true here e rest = edge_is P a b x y all.0 here
+  by_test false apart e rest = rest e

@@ -23,7 +23,8 @@ place_in (Busy q k t Landed) = labs.Held (record { 0 = t })
 place_in (Busy q k t Cleared) = labs.Held (record { 0 = t })
 place_in (Busy q k t stage) = labs.Held (record { 0 = q })
 
-abbrev held_at : ℕ → LabPlace
+-- held by the router of this number
+abbrev pub held_at : ℕ → LabPlace
 held_at r = labs.Held (record { 0 = r })
 
 itself : (n : ℕ) → (n == n) ≡ true
@@ -120,18 +121,21 @@ moved_by p (Busy q k t Cleared) s a b = tt
 carries_all : (p : ℕ) (phase : Phase) (s : SessionValue) (items : List Mesh) → AllByRecursion (CarriesOnly p phase s) (mesh_of p items) → AllByRecursion (CarriesOnly p phase s) items
 carries_all p phase s [] all = tt
 carries_all p phase s (Told prefix route ∷ items) all = (tt, carries_all p phase s items all)
-carries_all p phase s (Moved k q x ∷ items) all = by_test (q == p) refl all where
-  by_test : (b : Bool) → (q == p) ≡ b → AllByRecursion (CarriesOnly p phase s) (cond b (Moved k q x ∷ mesh_of p items) (mesh_of p items)) → AllByRecursion (CarriesOnly p phase s) (Moved k q x ∷ items)
-  by_test true e all = (all.0, carries_all p phase s items all.1)
-  by_test false e all = (λ same. absurd (differs q p e same), carries_all p phase s items all)
-carries_all p phase s (Back k q x refusal ∷ items) all = by_test (q == p) refl all where
-  by_test : (b : Bool) → (q == p) ≡ b → AllByRecursion (CarriesOnly p phase s) (cond b (Back k q x refusal ∷ mesh_of p items) (mesh_of p items)) → AllByRecursion (CarriesOnly p phase s) (Back k q x refusal ∷ items)
-  by_test true e all = (all.0, carries_all p phase s items all.1)
-  by_test false e all = (λ same. absurd (differs q p e same), carries_all p phase s items all)
-carries_all p phase s (Done k q ∷ items) all = by_test (q == p) all where
-  by_test : (b : Bool) → AllByRecursion (CarriesOnly p phase s) (cond b (Done k q ∷ mesh_of p items) (mesh_of p items)) → AllByRecursion (CarriesOnly p phase s) (Done k q ∷ items)
-  by_test true all = (tt, carries_all p phase s items all.1)
-  by_test false all = (tt, carries_all p phase s items all)
+carries_all p phase s (Moved k q x ∷ items) all = by_test (q == p) refl (carries_all p phase s items) all where
+  by_test : (b : Bool) → (q == p) ≡ b → (AllByRecursion (CarriesOnly p phase s) (mesh_of p items) → AllByRecursion (CarriesOnly p phase s) items)
+      → AllByRecursion (CarriesOnly p phase s) (cond b (Moved k q x ∷ mesh_of p items) (mesh_of p items)) → AllByRecursion (CarriesOnly p phase s) (Moved k q x ∷ items)
+  by_test true e rest all = (all.0, rest all.1)
+  by_test false e rest all = (λ same. absurd (differs q p e same), rest all)
+carries_all p phase s (Back k q x refusal ∷ items) all = by_test (q == p) refl (carries_all p phase s items) all where
+  by_test : (b : Bool) → (q == p) ≡ b → (AllByRecursion (CarriesOnly p phase s) (mesh_of p items) → AllByRecursion (CarriesOnly p phase s) items)
+      → AllByRecursion (CarriesOnly p phase s) (cond b (Back k q x refusal ∷ mesh_of p items) (mesh_of p items)) → AllByRecursion (CarriesOnly p phase s) (Back k q x refusal ∷ items)
+  by_test true e rest all = (all.0, rest all.1)
+  by_test false e rest all = (λ same. absurd (differs q p e same), rest all)
+carries_all p phase s (Done k q ∷ items) all = by_test (q == p) (carries_all p phase s items) all where
+  by_test : (b : Bool) → (AllByRecursion (CarriesOnly p phase s) (mesh_of p items) → AllByRecursion (CarriesOnly p phase s) items)
+      → AllByRecursion (CarriesOnly p phase s) (cond b (Done k q ∷ mesh_of p items) (mesh_of p items)) → AllByRecursion (CarriesOnly p phase s) (Done k q ∷ items)
+  by_test true rest all = (tt, rest all.1)
+  by_test false rest all = (tt, rest all)
 
 pub moved_only : (p : ℕ) (phase : Phase) (s : SessionValue) (a b : ℕ) (items : List Mesh) → mesh_of p items ≡ mesh_by phase p s a b → AllByRecursion (CarriesOnly p phase s) items
 moved_only p phase s a b items is = carries_all p phase s items (subst (λ (xs : List Mesh). AllByRecursion (CarriesOnly p phase s) xs) (sym is) (moved_by p phase s a b))

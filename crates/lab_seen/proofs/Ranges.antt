@@ -1,5 +1,5 @@
 -- Lists that are made from ranges of numbers.
-use Rattle.std.proofs.Common.{◌≡◌, ◌≤◌, ◌<◌, Bool, true, false, cond, ℕ, zero, suc, ◌+◌, List, [], ◌∷◌, ◌++◌, Some, map, refl, subst, append_assoc, append-nil, sym, ap, ◌∙◌, arith}
+use Rattle.std.proofs.Common.{◌≡◌, ◌≤◌, ◌<◌, Bool, true, false, cond, ℕ, zero, suc, ◌+◌, List, [], ◌∷◌, ◌++◌, Some, map, length, refl, subst, append_assoc, append-nil, sym, ap, ◌∙◌, arith}
 use Rattle.std.specs.Prelude.{slice_get}
 use Rattle.std.specs.List.{flat_map, filter, range_with_len, AllByRecursion}
 use Rattle.lab_setup.proofs.Lists.{all_append}
@@ -43,6 +43,16 @@ module _ {A : Type 0} where
   -- the element that a number makes
   pub one_of : (f : ℕ → List A) (n k : ℕ) (x : A) → ((j : ℕ) → j < n → IsOne f j) → k < n → f k ≡ x ∷ [] → slice_get (flat_map f (range_with_len 0 n)) k ≡ Some x
   one_of f n k x h below is = let same : 0 + k ≡ k = omega arith in one_in f 0 n k x (λ j l. h j (omega (arith, l))) below (ap f same ∙ is)
+
+  as_many_in : (f : ℕ → List A) (a n : ℕ) → ((j : ℕ) → j < a + n → IsOne f j) → length (flat_map f (range_with_len a n)) ≡ n
+  as_many_in f a zero h = refl
+  as_many_in f a (suc n) h =
+      ap (λ (xs : List A). length (xs ++ flat_map f (range_with_len (a + 1) n))) ((h a (omega arith)).is)
+      ∙ ap suc (as_many_in f (a + 1) n (λ j l. h j (omega (arith, l))))
+
+  -- there are as many elements as numbers
+  pub as_many : (f : ℕ → List A) (n : ℕ) → ((j : ℕ) → j < n → IsOne f j) → length (flat_map f (range_with_len 0 n)) ≡ n
+  as_many f n h = as_many_in f 0 n (λ j l. h j (omega (arith, l)))
 
 -- ---- what holds of all
 

@@ -121,7 +121,7 @@ module _ (setup : Setup) (w : World) (actors : List Node) (left : List (Left Mai
         let k = known q below in
         let it = live_by k.phase k.session r x.session (option_map order_of o) (sym (k.stands.places r) ∙ sym (place_is r q here) ∙ ap place_of e) in
         ap (λ (s : SessionValue). s.config.peering.0) it.same ∙ k.number
-    | inr past ↦ absurd (let f : model.Vacant ≡ model.Live x.session (option_map order_of o) = sym ((always_owned setup sound w done.world.1).no_others q past).places r ∙ sym (place_is r q here) ∙ ap place_of e in cc)
+    | inr past ↦ absurd (let f : model.Vacant ≡ model.Live x.session (option_map order_of o) = sym (((always_owned setup sound w done.world.1).no_others q past).places r) ∙ sym (place_is r q here) ∙ ap place_of e in cc)
   ]
 
   things : (a b : ℕ) → is_edge done.edges a b ≡ true
@@ -139,7 +139,7 @@ module _ (setup : Setup) (w : World) (actors : List Node) (left : List (Left Mai
     abbrev pub one : Found
     one = record { peering = k.session.config.peering; place = place_in k.phase; view = view_of k.session }
 
-    IsOnly : Found → Type 0
+    abbrev IsOnly : Found → Type 0
     IsOnly x = x.peering.0 ≡ p → x ≡ one
 
     same_one : (x : SessionValue) (place : _) → x ≡ k.session → place ≡ place_in k.phase → record { peering = x.config.peering; place = place; view = view_of x } ≡ one
@@ -148,7 +148,6 @@ module _ (setup : Setup) (w : World) (actors : List Node) (left : List (Left Mai
     -- ---- no other is found
 
     held_only : (r : ℕ) → r < routers_in setup → AllByRecursion IsOnly (held_by r (slice_get actors r))
-    unfolding IsOnly
     held_only r below =
         let here = router_at setup w actors left done r below in
         let places = here.router.fields.places.items in
@@ -156,7 +155,6 @@ module _ (setup : Setup) (w : World) (actors : List Node) (left : List (Left Mai
         (all_mapped (found_at (held_at r)) (λ x. IsOnly (found_at (held_at r) x)) IsOnly (λ x only. only) (sessions_in places) (places_to_sessions (λ x. IsOnly (found_at (held_at r) x)) places (each here)))
       where
         each : (here : HasRouter setup w actors left done r) (q : ℕ) (x : RunningSession) (o : Option GraftIds) → place_at here.router.fields.places.items q ≡ Live x o → IsOnly (found_at (held_at r) x)
-        unfolding IsOnly
         each here q x o e on =
             let same : q ≡ p = sym (number_at r q here x o e) ∙ on in
             let it = live_by k.phase k.session r x.session (option_map order_of o) (sym (k.stands.places r) ∙ sym (place_is r p here) ∙ ap (λ n. place_of (place_at here.router.fields.places.items n)) (sym same) ∙ ap place_of e) in
@@ -166,7 +164,6 @@ module _ (setup : Setup) (w : World) (actors : List Node) (left : List (Left Mai
     mesh_only a b = all_then (CarriesOnly p k.phase k.session) (OnMesh IsOnly) carries (w.mesh a b) (moved_only p k.phase k.session a b (w.mesh a b) (k.stands.mesh a b))
       where
         carries : (item : Mesh) → CarriesOnly p k.phase k.session item → OnMesh IsOnly item
-        unfolding IsOnly
         carries (model.Told prefix route) c = tt
         carries (model.Moved graft q x) c = λ tied on. let it = c (tied ∙ on) in same_one x labs.Moving it.0 it.1
         carries (model.Back graft q x refusal) c = λ tied on. let it = c (tied ∙ on) in same_one x labs.Moving it.0 it.1
@@ -176,9 +173,9 @@ module _ (setup : Setup) (w : World) (actors : List Node) (left : List (Left Mai
     moving_only =
         let channel : ℕ → ℕ → List Mail = λ a b. map (λ (x : Stamped Mail). x.item) (done.stand.view.channel a b) in
         all_joined IsOnly carried_in left (subst (λ (xs : List (Left Mail)). AllByRecursion (λ x. AllByRecursion IsOnly (carried_in x)) xs) (sym done.left_is)
-          (all_mapped (λ (e : ℕ × ℕ). record { from = e.0; to = e.1; items = channel e.0 e.1 }) (λ e. AllByRecursion IsOnly (flat_map carried_by (channel e.0 e.1))) (λ (x : Left Mail). AllByRecursion IsOnly (carried_in x)) (λ e all. all) done.edges
-            (all_edges (λ a b. AllByRecursion IsOnly (flat_map carried_by (channel a b))) done.edges (λ a b e. things_to_found IsOnly setup (channel a b)
-              (subst (λ (xs : List Thing). AllByRecursion (OnThing IsOnly) xs) (sym (things a b e)) (on_channels IsOnly w mesh_only (actor_at setup a) (actor_at setup b)))))))
+        (all_mapped (λ (e : ℕ × ℕ). record { from = e.0; to = e.1; items = channel e.0 e.1 }) (λ e. AllByRecursion IsOnly (flat_map carried_by (channel e.0 e.1))) (λ (x : Left Mail). AllByRecursion IsOnly (carried_in x)) (λ e all. all) done.edges
+        (all_edges (λ a b. AllByRecursion IsOnly (flat_map carried_by (channel a b))) done.edges (λ a b e. things_to_found IsOnly setup (channel a b)
+        (subst (λ (xs : List Thing). AllByRecursion (OnThing IsOnly) xs) (sym (things a b e)) (on_channels IsOnly w mesh_only (actor_at setup a) (actor_at setup b)))))))
 
     only_one : AllByRecursion IsOnly all_found
     only_one = all_append IsOnly (flat_map (λ r. held_by r (slice_get actors r)) (range_with_len 0 (routers_in setup))) (flat_map carried_in left)
@@ -227,7 +224,6 @@ module _ (setup : Setup) (w : World) (actors : List Node) (left : List (Left Mai
         ]
 
     pub is_found : first_on all_found p ≡ Some one
-    unfolding IsOnly
     is_found = found_one all_found p one only_one some_one
 
     -- ---- its place

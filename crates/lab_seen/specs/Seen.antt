@@ -1,5 +1,5 @@
 -- What a lab says of the world that its run ended in.
-use Rattle.std.specs.Prelude.{ℕ, ◌≡◌, ◌≢◌, ◌<◌, List, [], ◌∷◌, map, Some, slice_get}
+use Rattle.std.specs.Prelude.{ℕ, ◌≡◌, ◌≢◌, ◌<◌, List, [], ◌∷◌, map, length, Some, slice_get}
 use Rattle.std.specs.List.{flat_map}
 use Rattle.std.specs.FinMap as table
 use Rattle.tcp_seq.specs.Endpoint.{received_bytes}
@@ -62,6 +62,8 @@ table_of setup part = record {
 
 pub record Observed (setup : Setup) (w : World) (lab : Lab) : Type 0 where
   pub log : lab.log ≡ log_of setup w.operator
+  pub placed : length lab.placement ≡ peerings_in setup
+  pub viewed : length lab.sessions ≡ peerings_in setup
   pub sessions : (p : ℕ) → p < peerings_in setup → SeesSession setup w lab p
   pub far : lab.far ≡ map (λ p. far_view (w.far p)) (peering_numbers setup)
   pub tables : lab.tables ≡ map (λ r. table_of setup (w.router r)) (router_numbers setup)

@@ -46,11 +46,7 @@ fn far_at(actors: &[Node], number: usize) -> Option<&Far>
 }
 
 /// The tables of the routers, which are the first actors.
-fn tables_of(
-    alloc: Global,
-    actors: &[Node],
-    routers: usize,
-) -> Result<Items<RouterTable>, NoMemory>
+fn tables_of(alloc: Global, actors: &[Node], routers: usize) -> Result<Items<RouterTable>, NoMemory>
     requires { routers ≤ 256 }
     ensures { IfOk result (λ tables. (setup : Setup) → routers_in setup ≡ routers → tables ≡ flat_map (λ r. tables_of_lem setup (router_in (slice_get actors.now r))) (range_with_len 0 routers)) }
 {

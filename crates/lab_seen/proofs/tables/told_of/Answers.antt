@@ -4,14 +4,13 @@ use Rattle.std.specs.List.{flat_map, range_with_len}
 use Rattle.rib_stages.specs.Values.{rib_of}
 use Rattle.lab_report.specs.declared.lab.ToldEntry.{ToldEntry}
 use Rattle.lab_seen.specs.Seen.{told_entry}
-use Rattle.lab_seen.proofs.Ranges.{flat_map_more}
+use Rattle.lab_seen.proofs.Ranges.{one_number_more}
 use Rattle.lab_seen.proofs.tables.told_of.Goals as goal
 
 -- what one router more told
 pub loop-q-preserved : goal.loop-q-preserved
 loop-q-preserved c =
     let told : ℕ → List ToldEntry = λ q. map (told_entry q) (table.entries ((rib_of c.args.rib.now).tellings q)) in
-    let place : 0 + c.loop-q.q ≡ c.loop-q.q = omega arith in
     c.in_ok-push_told_by.ensures
     ∙ ap (λ (xs : List ToldEntry). xs ++ told c.loop-q.q) c.loop-q.invariant
-    ∙ sym (flat_map_more told 0 c.loop-q.q ∙ ap (λ k. flat_map told (range_with_len 0 c.loop-q.q) ++ told k) place)
+    ∙ sym (one_number_more told c.loop-q.q)
