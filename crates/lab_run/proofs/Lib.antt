@@ -3,3 +3,5 @@ mod Behind
 mod Stories
 mod Counts
 mod Loops
+mod Labs
+mod Told

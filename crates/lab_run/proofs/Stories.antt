@@ -31,7 +31,7 @@ use Rattle.lab_run.specs.Stories.{RoundNames, Goes, NoRound, OneMore, GroupGoes,
 use Rattle.lab_run.proofs.Stands.{GoesOnTo, stays, then_on, round_on, pause_on, pause_journal, pause_others, IsWhole, whole_first, whole_round, whole_pause, groups_at, groups_stay, groups_more, same_back, same_seen, pause_same}
 use Rattle.lab_run.proofs.Behind.{Behind, world_behind, behind_on, behind_round, behind_end, behind_settled, behind_group, quiet_there, groups_behind}
 
-abbrev WayRan : Type 0
+abbrev pub WayRan : Type 0
 WayRan = (setup : Setup) (a b : Stand) (rounds : List ℕ) → IsSetup setup → Begins setup a → Way setup a rounds b → Ran own carried setup b.view
 
 -- ---- rounds of a group

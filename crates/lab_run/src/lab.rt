@@ -36,7 +36,7 @@ fn begin(alloc: Global, input: &LabInput) -> Result<Course, NoMemory>
 }
 
 /// Runs the laboratory of an input by 1 to 8 workers, until nothing is left to do after the last group of its script, or a limit is met. Each actor passes the
-/// gate before each of its turns. The input is one that was accepted, and no step of it evacuates a router.
+/// gate before each of its turns. The input is one that was accepted, and no step of it evacuates a router, since that isn't built yet.
 pub fn run_lab<R: Threads + Sync, G: Gate>(
     rt: &R,
     alloc: Global,

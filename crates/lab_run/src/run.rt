@@ -148,6 +148,7 @@ pub(crate) fn run_groups<R: Threads + Sync, G: Gate>(
     requires none { made.old ≡ [] }
     ensures goes { IfOk result (λ end. (setup : Setup) → IsSetup setup → HasCounts setup (counts course.old)
         → RunGoes setup (stand course.old) budgets.now made.new end (stand course.new)) }
+    ensures counts { counts course.new ≡ counts course.old }
 {
     for place in 0..budgets.len() {
         let step = number(place)?;
