@@ -1,7 +1,7 @@
 -- The sessions that are found in a channel, by the items that the world has there.
-use Rattle.std.proofs.Common.{◌≡◌, ◌≢◌, ℕ, Bool, true, false, cond, List, [], ◌∷◌, ◌++◌, Option, Some, None, map, refl, sym, ap, ◌∙◌, subst, inl, inr, arith}
-use Rattle.std.specs.Prelude.{◌⊎◌, ◌==◌, ◌&&◌, ◌||◌}
-use Rattle.std.specs.List.{AllByRecursion, flat_map, filter}
+use Rattle.std.proofs.Common.{◌≡◌, ℕ, Bool, true, false, List, [], ◌∷◌, Option, Some, None, map, refl, sym, ◌∙◌, subst, inl, inr, arith}
+use Rattle.std.specs.Prelude.{◌==◌, ◌&&◌, ◌||◌}
+use Rattle.std.specs.List.{AllByRecursion, flat_map}
 use Rattle.std.proofs.lemmas.Bool.Decides.{eqb_tells, nat_tests}
 use Rattle.ring_net.specs.Phases.{is_edge}
 use Rattle.tcp_seq.specs.Endpoint.{PlacedSegment}
@@ -9,7 +9,7 @@ use Rattle.tcp_seq.specs.declared.segment.Way.{Way}
 use Rattle.tcp_seq.specs.declared.segment.Way.TheVariants.{Home, Remote}
 use Rattle.graft_steps.specs.declared.item.Item.TheVariants as items
 use Rattle.graft_model.specs.Setups.{Setup}
-use Rattle.graft_model.specs.Parts.{Mesh, World}
+use Rattle.graft_model.specs.Parts.{World}
 use Rattle.graft_runs.specs.Actors.{Thing, MeshItem, OutwardItem, SegmentItem, OrderItem, ReportItem, StepItem, ActorName, Router, FarSide, Operator}
 use Rattle.graft_runs.specs.Seen.{channel_of}
 use Rattle.graft_actors.specs.Items.{thing_of, segment_of, segment_thing}

@@ -1,6 +1,6 @@
 pub mod Ranges
 pub mod Walking
-pub mod Walks
+pub mod Fronts
 pub mod Slots
 pub mod Phases
 pub mod Channels

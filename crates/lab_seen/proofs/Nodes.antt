@@ -1,10 +1,9 @@
 -- The actors of a finished net by their numbers: each is what the world has of it.
-use Rattle.std.proofs.Common.{◌≡◌, ◌≢◌, ◌≤◌, ◌<◌, ◌+◌, ℕ, List, [], ◌∷◌, Option, Some, None, map, length, get_or, refl, sym, ap, ◌∙◌, subst, arith}
+use Rattle.std.proofs.Common.{◌≡◌, ◌<◌, ◌+◌, ℕ, List, [], ◌∷◌, Option, Some, map, length, get_or, refl, sym, ap, ◌∙◌, arith}
 use Rattle.std.specs.Prelude.{slice_get}
-use Rattle.std.specs.List.{flat_map, range_with_len}
+use Rattle.std.specs.List.{flat_map}
 use Rattle.std.proofs.lemmas.Option.{get_or_from_slice_get}
 use Rattle.ring_net.specs.declared.parts.Left.{Left}
-use Rattle.graft_steps.specs.declared.log.GraftEntry.{GraftEntry}
 use Rattle.graft_model.specs.Setups.{Setup, routers_in, peerings_in, router_numbers, peering_numbers}
 use Rattle.graft_model.specs.Parts.{RouterPart, FarPart, OperatorPart, World}
 use Rattle.graft_runs.specs.Actors.{RouterIs, FarIs, OperatorIs, ActorName, IsActor, number_in}
@@ -19,14 +18,12 @@ use Rattle.far_side.specs.Fars as fars
 use Rattle.operator_core.specs.declared.operator.Operator.{Operator as TheOperator}
 use Rattle.operator_core.specs.Grafts.{log_of}
 use Rattle.operator_core.specs.Operators.{setup_of, operator_part}
-use Rattle.lab_setup.proofs.Lists.{IsIn, below_get}
+use Rattle.lab_setup.proofs.Lists.{below_get}
 use Rattle.world_runs.specs.Labs.{actors_in}
 use Rattle.world_nodes.specs.declared.node.Node.{Node}
 use Rattle.world_nodes.specs.declared.node.Node.TheVariants.{Router, Far, Operator}
 use Rattle.world_nodes.specs.Nodes.{Mail, own}
 use Rattle.world_nodes.proofs.Seen.{part_is}
-use Rattle.lab_report.specs.declared.lab.FarView.{FarView}
-use Rattle.lab_report.specs.declared.lab.RouterTable.{RouterTable}
 use Rattle.lab_seen.specs.Finished.{IsFinished}
 use Rattle.lab_seen.specs.Found.{router_in, far_in, operator_in, tables_of, fars_of, log_in}
 use Rattle.lab_seen.specs.Seen.{far_view, table_of}

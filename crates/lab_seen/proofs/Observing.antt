@@ -1,5 +1,5 @@
 -- What the passes over a finished net make is what is seen of its world.
-use Rattle.std.proofs.Common.{◌≡◌, ◌<◌, ◌+◌, ℕ, List, [], ◌∷◌, ◌++◌, Option, Some, length, refl, sym, ap, ◌∙◌, subst}
+use Rattle.std.proofs.Common.{◌≡◌, ◌<◌, ◌+◌, ℕ, List, ◌++◌, Option, length, sym, ap, ◌∙◌, subst}
 use Rattle.std.specs.Prelude.{slice_get}
 use Rattle.std.specs.List.{flat_map, range_with_len}
 use Rattle.ring_net.specs.declared.parts.Left.{Left}
@@ -21,7 +21,7 @@ use Rattle.lab_seen.specs.declared.found.Found.{Found}
 use Rattle.lab_seen.proofs.Nodes.{tables_are, fars_are, log_is}
 use Rattle.lab_seen.proofs.Phases.{place_in}
 use Rattle.lab_seen.proofs.Ranges.{IsOne, one_of, as_many}
-use Rattle.lab_seen.proofs.Sessions.{Known, known, one, is_found, is_placed}
+use Rattle.lab_seen.proofs.Sessions.{known, is_found, is_placed}
 
 -- all sessions that are found
 abbrev pub found_in : (actors : List Node) (left : List (Left Mail)) (routers : ℕ) → List Found

@@ -1,12 +1,11 @@
 -- The session of a peering is the one that is found, and no other is.
-use Rattle.std.proofs.Common.{◌≡◌, ◌≢◌, ◌≤◌, ◌<◌, ◌+◌, ℕ, zero, suc, Bool, true, false, cond, not, List, [], ◌∷◌, ◌++◌, Option, Some, None, map, length, refl, sym, ap, ◌∙◌, subst, inl, inr, arith}
-use Rattle.std.specs.Prelude.{◌⊎◌, ◌==◌, option_map, slice_get, slice_index_or}
-use Rattle.std.specs.List.{AllByRecursion, flat_map, filter, range_with_len}
+use Rattle.std.proofs.Common.{◌≡◌, ◌≢◌, ◌≤◌, ◌<◌, ℕ, zero, suc, true, not, List, [], ◌∷◌, ◌++◌, Option, Some, None, map, refl, sym, ap, ◌∙◌, subst, inl, inr, arith}
+use Rattle.std.specs.Prelude.{◌⊎◌, ◌==◌, option_map, slice_get}
+use Rattle.std.specs.List.{AllByRecursion, flat_map, range_with_len}
 use Rattle.std.proofs.lemmas.Bool.Decides.{eqb_tells}
 use Rattle.std.proofs.lemmas.Option.{same_Some}
 use Rattle.ring_net.specs.declared.entry.Stamped.{Stamped}
 use Rattle.ring_net.specs.declared.parts.Left.{Left}
-use Rattle.ring_net.specs.Left.{left_of}
 use Rattle.ring_net.specs.Phases.{is_edge}
 use Rattle.bgp_session.specs.Running.{RunningSession}
 use Rattle.graft_steps.specs.declared.order.GraftIds.{GraftIds}
@@ -16,7 +15,7 @@ use Rattle.graft_model.specs.Setups.{Setup, PeeringSetup, IsSetup, routers_in, p
 use Rattle.graft_model.specs.Parts as model
 use Rattle.graft_model.specs.Parts.{World, Mesh}
 use Rattle.graft_model.specs.Claims.{sessions_at}
-use Rattle.graft_laws.specs.Owned.{Owned, Stands, is_on, mesh_of}
+use Rattle.graft_laws.specs.Owned.{Stands, is_on}
 use Rattle.graft_laws.specs.Phases.{Phase, place_by, mesh_by}
 use Rattle.graft_laws.proofs.Configs.{always_own}
 use Rattle.graft_laws.proofs.Runs.{always_owned}
@@ -29,19 +28,19 @@ use Rattle.graft_actors.specs.Items.{thing_of}
 use Rattle.router_core.specs.declared.place.Place.{Place}
 use Rattle.router_core.specs.declared.place.Place.TheVariants.{Vacant, Live, Shadow}
 use Rattle.router_core.specs.Parts.{carried}
-use Rattle.router_core.specs.Places.{place_of, place_at, order_of, session_in, sessions_in}
+use Rattle.router_core.specs.Places.{place_of, place_at, order_of, sessions_in}
 use Rattle.world_nodes.specs.declared.node.Node.{Node}
-use Rattle.world_nodes.specs.Edges.{has_channel, talks}
+use Rattle.world_nodes.specs.Edges.{talks}
 use Rattle.world_nodes.specs.Nodes.{Mail}
 use Rattle.lab_report.specs.declared.lab.Place.TheVariants as labs
 use Rattle.lab_setup.proofs.Lists.{all_mapped, all_append}
 use Rattle.lab_seen.specs.Finished.{IsFinished}
-use Rattle.lab_seen.specs.Found.{router_in, sessions_of, found_at, held_by, carried_by, carried_in, first_on}
+use Rattle.lab_seen.specs.Found.{found_at, held_by, carried_by, carried_in, first_on}
 use Rattle.lab_seen.specs.Seen.{view_of, IsPlace}
 use Rattle.lab_seen.specs.declared.found.Found.{Found}
 use Rattle.lab_seen.proofs.Channels.{OnThing, found_to_things, things_to_found, on_channels, all_edges, edge_of_all}
 use Rattle.lab_seen.proofs.Nodes.{HasRouter, router_at}
-use Rattle.lab_seen.proofs.Phases.{place_in, held_at, IsSessionOf, live_by, moving, OnMesh, IsNotOn, CarriesOnly, moved_only, Whereabouts, AtRouter, Halts, OnWay, whereabouts}
+use Rattle.lab_seen.proofs.Phases.{place_in, held_at, live_by, OnMesh, IsNotOn, CarriesOnly, moved_only, AtRouter, Halts, OnWay, whereabouts}
 use Rattle.lab_seen.proofs.Ranges.{all_left, all_right, all_unmapped, all_joined, all_parts, all_then, all_filtered, all_numbers, number_of_all}
 
 -- ---- places

@@ -1,8 +1,7 @@
 -- What is found of sessions, and of the actors by their numbers.
-use Rattle.std.specs.Prelude.{ℕ, ◌==◌, Bool, List, [], ◌∷◌, map, Option, Some, None}
+use Rattle.std.specs.Prelude.{ℕ, ◌==◌, List, [], ◌∷◌, map, Option, Some, None}
 use Rattle.std.specs.List.{flat_map, find}
 use Rattle.ring_net.specs.declared.parts.Left.{Left}
-use Rattle.graft_steps.specs.declared.item.Item.{Item}
 use Rattle.graft_steps.specs.declared.item.Item.TheVariants.{Moved, Back}
 use Rattle.graft_steps.specs.declared.log.GraftEntry.{GraftEntry}
 use Rattle.bgp_session.specs.Running.{RunningSession}

@@ -1,5 +1,5 @@
 -- What a lab says of the world that its run ended in.
-use Rattle.std.specs.Prelude.{ℕ, ◌≡◌, ◌≢◌, ◌<◌, List, [], ◌∷◌, map, length, Some, slice_get}
+use Rattle.std.specs.Prelude.{ℕ, ◌≡◌, ◌≢◌, ◌<◌, [], ◌∷◌, map, length, Some, slice_get}
 use Rattle.std.specs.List.{flat_map}
 use Rattle.std.specs.FinMap as table
 use Rattle.tcp_seq.specs.Endpoint.{received_bytes}

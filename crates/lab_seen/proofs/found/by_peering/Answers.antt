@@ -1,8 +1,7 @@
-use Rattle.std.proofs.Common.{◌≡◌, List, Option, ap, ◌∙◌}
+use Rattle.std.proofs.Common.{ap, ◌∙◌}
 use Rattle.std.specs.List.{flat_map, range_with_len}
 use Rattle.std.proofs.lemmas.List.Folds.{flat_map-map}
 use Rattle.std.proofs.lemmas.Result.{IfOk-weaker}
-use Rattle.lab_seen.specs.declared.found.Found.{Found}
 use Rattle.lab_seen.specs.Found.{first_on, places_in, views_in}
 use Rattle.lab_seen.proofs.found.by_peering.Goals as goal
 

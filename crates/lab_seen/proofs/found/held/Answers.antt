@@ -1,4 +1,4 @@
-use Rattle.std.proofs.Common.{◌≡◌, ◌+◌, ◌++◌, ℕ, List, Option, map, sym, ap, ◌∙◌}
+use Rattle.std.proofs.Common.{◌++◌, ℕ, List, Option, map, sym, ap, ◌∙◌}
 use Rattle.std.specs.Prelude.{slice_get}
 use Rattle.std.specs.List.{flat_map, range_with_len}
 use Rattle.std.specs.Vec.Iter.{into_iter_items}
@@ -7,9 +7,9 @@ use Rattle.std.proofs.lemmas.Option.{MatchOption-at_none}
 use Rattle.lab_seen.specs.declared.found.Found.{Found}
 use Rattle.world_nodes.specs.declared.node.Node.{Node}
 use Rattle.lab_report.specs.declared.lab.Place.TheVariants.{Held}
-use Rattle.lab_seen.specs.Found.{found_at, router_in, sessions_of, held_by}
+use Rattle.lab_seen.specs.Found.{found_at, held_by}
 use Rattle.lab_seen.proofs.Ranges.{one_number_more}
-use Rattle.lab_seen.proofs.Walks.{IsNext, walked}
+use Rattle.lab_seen.proofs.Fronts.{IsNext, walked}
 use Rattle.lab_seen.proofs.found.held.Goals as goal
 
 -- one router more, where the next actor is that of its number

@@ -1,6 +1,6 @@
-use Rattle.std.proofs.Common.{◌≡◌, ◌<◌, length, sym, ap, ◌∙◌, arith}
+use Rattle.std.proofs.Common.{length, ap, ◌∙◌, arith}
 use Rattle.std.specs.Prelude.{not}
-use Rattle.lab_seen.proofs.Slots.{IsFull, put_in, left_out}
+use Rattle.lab_seen.proofs.Slots.{put_in, left_out}
 use Rattle.lab_seen.proofs.found.put.Goals.{else-p-slots-via-then-p-slots+else-is_none, else-p-slots-via-else-p-slots}
 use Rattle.lab_seen.proofs.found.put.Goals as goal
 

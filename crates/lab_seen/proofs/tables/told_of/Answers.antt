@@ -1,6 +1,5 @@
-use Rattle.std.proofs.Common.{◌≡◌, ◌+◌, ◌++◌, ℕ, List, map, sym, ap, ◌∙◌, arith}
+use Rattle.std.proofs.Common.{◌++◌, ℕ, List, map, sym, ap, ◌∙◌}
 use Rattle.std.specs.FinMap as table
-use Rattle.std.specs.List.{flat_map, range_with_len}
 use Rattle.rib_stages.specs.Values.{rib_of}
 use Rattle.lab_report.specs.declared.lab.ToldEntry.{ToldEntry}
 use Rattle.lab_seen.specs.Seen.{told_entry}
