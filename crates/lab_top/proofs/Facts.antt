@@ -90,7 +90,7 @@ planned_is planned (inr (inr (inr (inr p)))) = ap is_planned p
 
 -- no text is written whole under this status
 not_planned : (other planned status : ℕ) → is_planned other ≡ false → Planned planned → status ≡ planned → status ≡ other → ⊥
-not_planned other planned status no is same e = false≢true (sym no ∙ ap is_planned (sym e ∙ same) ∙ planned_is planned is)
+not_planned other planned status fails is same e = false≢true (sym fails ∙ ap is_planned (sym e ∙ same) ∙ planned_is planned is)
 
 -- the statuses under which a report is written whole
 abbrev is_of_run : ℕ → Bool
@@ -104,7 +104,7 @@ end_is (JournalFull events) = refl
 
 -- no report is written whole under this status
 not_of_run : (other planned : ℕ) (end : RunEnd) → is_of_run other ≡ false → planned ≡ end_status end → planned ≡ other → ⊥
-not_of_run other planned end no p e = false≢true (sym no ∙ ap is_of_run (sym e ∙ p) ∙ end_is end)
+not_of_run other planned end fails p e = false≢true (sym fails ∙ ap is_of_run (sym e ∙ p) ∙ end_is end)
 
 pub statuses : (words : List (List ℕ)) (o n : Outside) (status : ℕ) (lab : Option Lab) → Ended words o n status lab → IsStatus status
 statuses words o n status lab (wrote text planned cause w) = status_in text planned o n status (planned_by words _ _ text planned lab cause) w

@@ -51,9 +51,10 @@ stopped_ends words o n stops.NoMemory result ask read is = none_ends words o n r
 
 -- ---- a source with an input
 
-pub writes_it : (text told : List ℕ) (planned faults_before faults_after : ℕ) (before after : Option (List ℕ)) (status : ℕ) → text ≡ told
-    → Writes text planned faults_before faults_after before after status → Writes told planned faults_before faults_after before after status
-writes_it text told planned faults_before faults_after before after status same w = subst (λ t. Writes t planned faults_before faults_after before after status) same w
+pub writes_as : (text told : List ℕ) (planned meant faults_before faults_after : ℕ) (before after : Option (List ℕ)) (status : ℕ) → text ≡ told → planned ≡ meant
+    → Writes text planned faults_before faults_after before after status → Writes told meant faults_before faults_after before after status
+writes_as text told planned meant faults_before faults_after before after status same also w =
+    subst (λ t. Writes t meant faults_before faults_after before after status) same (subst (λ k. Writes text k faults_before faults_after before after status) also w)
 
 pub checked_ends : (words : List (List ℕ)) (o n : Outside) (input : LabInput) (text : List ℕ) (status : ℕ) (lab : Option Lab) → Asks words Check → Reads o.left n.left (Ok input)
     → text ≡ check_line input → lab ≡ None → Writes text 0 o.write_faults n.write_faults o.written n.written status → Ended words o n status lab

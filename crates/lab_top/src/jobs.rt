@@ -103,7 +103,7 @@ pub(crate) fn run_job<R: Threads + Sync + AllocGlobal, S: Source, K: Sink, G: Ga
     workers: usize,
     gate: &G,
 ) -> Result<Finish, NoMemory>
-    requires { (1 ≤ workers) × (workers ≤ 8) }
+    requires workers { (1 ≤ workers) × (workers ≤ 8) }
     ensures { (words : List (List ℕ)) → AskToRun words → EndsOr words (outside (S.left source.old) (S.faults source.old) (K.written sink.old) (K.faults sink.old)) (outside (S.left source.new) (S.faults source.new) (K.written sink.new) (K.faults sink.new)) result }
 {
     let alloc = rt.alloc();
