@@ -32,15 +32,13 @@ impl CountingGate {
 
     /// Whether each of so many actors passed in each of so many rounds, and nobody else.
     fn all_passed(&self, actors: usize, rounds: u64) -> bool {
-        let mut actor = 0;
-        for passes in &self.passes {
+        for (actor, passes) in self.passes.iter().enumerate() {
             let due = if actor < actors { rounds } else { 0 };
             if passes.load(Ordering::SeqCst) != due {
                 return false;
             }
-            actor += 1;
         }
-        actors <= actor
+        actors <= self.passes.len()
     }
 
     /// What the gate saw of a run: its actors are its routers, its far sides and the operator.
