@@ -214,7 +214,7 @@ fn push_where(text: &mut String, input: &LabInput, place: Option<Place>) -> Resu
 }
 
 /// A peering's name and where its session is.
-fn push_place(
+pub(crate) fn push_place(
     text: &mut String,
     input: &LabInput,
     name: &str,
@@ -255,7 +255,7 @@ fn push_view(
 }
 
 /// The place of a session, by the number of its peering.
-fn place_at(placement: &[Place], place: usize) -> Option<Place>
+pub(crate) fn place_at(placement: &[Place], place: usize) -> Option<Place>
     ensures { result ≡ slice_get placement.now place }
 {
     placement.get(place).copied()

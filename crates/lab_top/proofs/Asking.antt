@@ -1,9 +1,9 @@
--- Words ask for one job, and a seed that they name is small.
+-- Words ask for one job, a seed that they name is small, and so is a number of workers.
 use Rattle.std.proofs.Common.{◌≡◌, ℕ, ◌≤◌, List, [], ◌∷◌, length, ap, sym, ◌∙◌, arith, codes}
 use Rattle.std.specs.Prelude.{Option, Some, None}
 use Rattle.std.specs.Str.Parse.{AllDigits, digits_value}
 use Rattle.lab_words.specs.declared.job.Job.TheVariants.{Run, Check, Make}
-use Rattle.lab_words.specs.Asked.{IsSeed, Asks}
+use Rattle.lab_words.specs.Asked.{IsSeed, AreWorkers, Asks}
 
 same_text : (given : Option (List ℕ)) (a b : List ℕ) → given ≡ Some a → given ≡ Some b → a ≡ b
 same_text given a b is also = cc
@@ -55,3 +55,12 @@ above_text (Some text) seed is = let above = is.above in omega arith
 
 pub seed_is_above : (words : List (List ℕ)) (seed : ℕ) → Asks words (Make seed) → 1 ≤ seed
 seed_is_above words seed make = above_text _ seed make.1.1
+
+-- ---- few workers
+
+few_by_text : (given : Option (List ℕ)) (workers : ℕ) → AreWorkers given workers → (1 ≤ workers) × (workers ≤ 8)
+few_by_text None workers two = (omega arith, omega arith)
+few_by_text (Some text) workers are = (are.0, are.1)
+
+pub workers_are_few : (words : List (List ℕ)) (workers : ℕ) → Asks words (Run workers) → (1 ≤ workers) × (workers ≤ 8)
+workers_are_few words workers run = few_by_text _ workers run.1.2

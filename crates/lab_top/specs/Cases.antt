@@ -8,13 +8,13 @@ use Rattle.lab_words.specs.declared.job.Job.TheVariants.{Check, Make}
 use Rattle.lab_words.specs.Asked.{usage_text, Asks}
 use Rattle.lab_make.specs.Made.{made}
 use Rattle.lab_report.specs.BadText.{bad_line}
-use Rattle.pipe_lab.specs.declared.lab.Lab.{Lab}
-use Rattle.pipe_lab.specs.Report.{report_text}
-use Rattle.pipe_lab.specs.Seen.{Headline}
+use Rattle.lab_report.specs.declared.lab.Lab.{Lab}
+use Rattle.lab_report.specs.Report.{report_text}
+use Rattle.lab_run.specs.Runs.{RanLab}
 use Rattle.lab_top.specs.declared.finish.Finish.{Finish}
 use Rattle.lab_top.specs.declared.finish.InputStop.{InputStop}
 use Rattle.lab_top.specs.declared.finish.InputStop.TheVariants as stops
-use Rattle.lab_top.specs.Ends.{AreRefused, AskToRun, Reads, SaysWhy, Writes, verdict_text, verdict_status}
+use Rattle.lab_top.specs.Ends.{AreRefused, AskToRun, Reads, SaysWhy, Writes, end_status, verdict_text, verdict_status}
 
 -- what the source and the sink tell
 pub record Outside : Type 0 where
@@ -51,7 +51,7 @@ FindsNone before after (Err _) = after ≡ before
 -- An input was run, and the report written; or memory ran out before.
 abbrev pub RunsOr : LabInput → (faults_before faults_after : ℕ) → (before after : Option (List ℕ)) → Result Finish NoMemory → Type 0
 RunsOr input faults_before faults_after before after (Ok finish) =
-    (end : Lab) × (finish.lab ≡ Some end) × (end.input ≡ input) × Headline end × Writes (report_text end) 0 faults_before faults_after before after finish.status
+    (end : Lab) × (finish.lab ≡ Some end) × (end.input ≡ input) × RanLab end × Writes (report_text end) (end_status end.end) faults_before faults_after before after finish.status
 RunsOr input faults_before faults_after before after (Err _) = after ≡ before
 
 -- A job ends whose source gave no input.
@@ -70,7 +70,7 @@ pub data Cause (words : List (List ℕ)) (left_before left_after : Option (List 
       → Cause words left_before left_after text planned lab
   refuses : (answer : Result LabInput BadInput) → AskToRun words → Reads left_before left_after answer → SaysWhy answer text → planned ≡ 2 → lab ≡ None
       → Cause words left_before left_after text planned lab
-  runs : (end : Lab) → AskToRun words → Reads left_before left_after (Ok end.input) → Headline end → text ≡ report_text end → planned ≡ 0 → lab ≡ Some end
+  runs : (end : Lab) → AskToRun words → Reads left_before left_after (Ok end.input) → RanLab end → text ≡ report_text end → planned ≡ end_status end.end → lab ≡ Some end
       → Cause words left_before left_after text planned lab
 
 -- A text was written, whole or in part; or a read failed; or memory ran out.

@@ -3,11 +3,13 @@ use Rattle.std.specs.Prelude.{◌≡◌, ◌⊎◌, ℕ, ◌<◌, false, List, [
 use Rattle.graft_edge.specs.Outside.{FaultRose, Took, IsAtEnd, Appended, AppendedFront}
 use Rattle.lab_tables.specs.declared.input.LabInput.{LabInput}
 use Rattle.lab_input.specs.declared.bad.BadInput.{BadInput}
-use Rattle.pipe_lab.specs.Built.{is_built}
+use Rattle.lab_top.specs.Built.{is_built}
 use Rattle.lab_input.specs.Labs.{input_of, InputOf, too_long}
 use Rattle.lab_words.specs.declared.job.Job.{Job}
 use Rattle.lab_words.specs.declared.job.Job.TheVariants.{Run, Make}
 use Rattle.lab_words.specs.Asked.{Asks}
+use Rattle.lab_report.specs.declared.lab.RunEnd.{RunEnd}
+use Rattle.lab_report.specs.declared.lab.RunEnd.TheVariants.{Settled, Unsettled, StreamFull, JournalFull}
 use Rattle.lab_report.specs.BadText.{bad_line}
 use Rattle.lab_report.specs.CheckText.{check_line}
 
@@ -57,9 +59,16 @@ pub record TookBadInput (before after : Option (List ℕ)) (text : List ℕ) : T
 
 -- ---- the sink
 
--- 0 all was done, 1 refused words, 2 refused input, 4 a read failed, 5 a write failed, 6 no memory
+-- 0 all was done, 1 refused words, 2 refused input, 3 a run that didn't settle, 4 a read failed, 5 a write failed, 6 no memory, 7 a run that met a limit
 abbrev pub IsStatus : ℕ → Type 0
-IsStatus status = (status ≡ 0) ⊎ (status ≡ 1) ⊎ (status ≡ 2) ⊎ (status ≡ 4) ⊎ (status ≡ 5) ⊎ (status ≡ 6)
+IsStatus status = (status ≡ 0) ⊎ (status ≡ 1) ⊎ (status ≡ 2) ⊎ (status ≡ 3) ⊎ (status ≡ 4) ⊎ (status ≡ 5) ⊎ (status ≡ 6) ⊎ (status ≡ 7)
+
+-- the status under which the report of a run is written
+abbrev pub end_status : RunEnd → ℕ
+end_status Settled = 0
+end_status (Unsettled step rounds pending) = 3
+end_status (StreamFull peering length) = 7
+end_status (JournalFull events) = 7
 
 -- A text was appended whole under its status; or a write failed, which is status 5, and a front of the text was.
 abbrev pub Writes : (text : List ℕ) → (planned : ℕ) → (faults_before faults_after : ℕ) → (before after : Option (List ℕ)) → (status : ℕ) → Type 0

@@ -5,7 +5,7 @@ ghost use Rattle.lab_top.specs.Ends.{Writes};
 
 use graft_edge::{Sink, write_all};
 use lab_input::BadInput;
-use pipe_lab::Lab;
+use lab_report::Lab;
 
 /// The statuses of the program.
 pub const DONE: u8 = 0;
@@ -14,11 +14,15 @@ pub const USAGE: u8 = 1;
 
 pub const BAD_INPUT: u8 = 2;
 
+pub const UNSETTLED: u8 = 3;
+
 pub const READ_FAILED: u8 = 4;
 
 pub const WRITE_FAILED: u8 = 5;
 
 pub const NO_MEMORY: u8 = 6;
+
+pub const LIMIT: u8 = 7;
 
 /// How a command ends: its status, and the run where there was one.
 #[derive(Debug, Drop)]

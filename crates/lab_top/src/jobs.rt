@@ -1,21 +1,26 @@
 //! What each job does.
 
-ghost use Rattle.std.specs.Prelude.{◌≡◌, ◌⊎◌, ◌≤◌, ◌<◌, ℕ, List, Err};
+ghost use Rattle.std.specs.Prelude.{◌≡◌, ◌⊎◌, ◌≤◌, ◌<◌, ℕ, List, Err, true};
 ghost use Rattle.lab_words.specs.declared.job.Job.TheVariants.{Check};
 ghost use Rattle.lab_words.specs.Asked.{Asks};
 ghost use Rattle.lab_make.specs.Made.{made};
 ghost use Rattle.lab_input.specs.Labs.{too_long as too_long_bad};
-ghost use Rattle.lab_top.specs.Ends.{AskToRun};
-ghost use Rattle.pipe_lab.specs.Ready.{IsReady};
+ghost use Rattle.node_configs.specs.Accepted.{IsAccepted};
+ghost use Rattle.lab_top.specs.Built.{is_built as is_built_lem};
+ghost use Rattle.lab_top.specs.Ends.{AskToRun, end_status};
 ghost use Rattle.lab_top.specs.Cases.{outside, ReadsOrStops, WritesOr, RunsOr, StopsFor, EndsOr};
 
-use crate::finish::{BAD_INPUT, DONE, Finish, InputStop, READ_FAILED, end_with, without_run};
+use crate::built::is_built;
+use crate::finish::{
+    BAD_INPUT, DONE, Finish, InputStop, LIMIT, READ_FAILED, UNSETTLED, end_with, without_run,
+};
 use graft_edge::{Gate, NoMemory, ReadStop, Sink, Source, read_all};
 use lab_input::{LabInput, LabStop, MOST_BYTES, read_lab, too_long};
 use lab_make::make_lab;
-use lab_report::{bad_text, check_text};
-use pipe_lab::{accepted_is_ready, is_built, report, run_lab};
+use lab_report::{RunEnd, bad_text, check_text, report};
+use lab_run::run_lab;
 use std::alloc::Global;
+use std::thread::Threads;
 
 const NOT_BUILT_TEXT: &str = "bad input: not built\n";
 
@@ -60,39 +65,56 @@ fn end_stopped<K: Sink>(alloc: Global, sink: &mut K, stop: InputStop) -> Result<
     }
 }
 
+/// The status under which the report of a run is written.
+fn status_of(end: RunEnd) -> u8
+    ensures { result ≡ end_status end }
+{
+    match end {
+        RunEnd::Settled => DONE,
+        RunEnd::Unsettled { .. } => UNSETTLED,
+        RunEnd::StreamFull { .. } | RunEnd::JournalFull { .. } => LIMIT,
+    }
+}
+
 /// Runs an input and writes the report.
-fn run_input<K: Sink, G: Gate>(
-    alloc: Global,
+fn run_input<R: Threads + Sync + AllocGlobal, K: Sink, G: Gate>(
+    rt: &R,
     input: LabInput,
+    workers: usize,
     sink: &mut K,
     gate: &G,
 ) -> Result<Finish, NoMemory>
-    requires { IsReady input }
+    requires accepted { IsAccepted input }
+    requires built { is_built_lem input ≡ true }
+    requires workers { (1 ≤ workers) × (workers ≤ 8) }
     ensures { RunsOr input (K.faults sink.old) (K.faults sink.new) (K.written sink.old) (K.written sink.new) result }
 {
-    let lab = run_lab(alloc, input, gate)?;
-    let text = report(alloc, &lab)?;
-    Ok(end_with(sink, text.as_bytes(), DONE, Some(lab)))
+    let lab = run_lab(rt, rt.alloc(), input, workers, gate)?;
+    let text = report(rt.alloc(), &lab)?;
+    let status = status_of(lab.end);
+    Ok(end_with(sink, text.as_bytes(), status, Some(lab)))
 }
 
 /// Reads an input from the source, runs it and writes the report.
-pub(crate) fn run_job<S: Source, K: Sink, G: Gate>(
-    alloc: Global,
+pub(crate) fn run_job<R: Threads + Sync + AllocGlobal, S: Source, K: Sink, G: Gate>(
+    rt: &R,
     source: &mut S,
     sink: &mut K,
+    workers: usize,
     gate: &G,
 ) -> Result<Finish, NoMemory>
+    requires workers { (1 ≤ workers) × (workers ≤ 8) }
     ensures { (words : List (List ℕ)) → AskToRun words → EndsOr words (outside (S.left source.old) (S.faults source.old) (K.written sink.old) (K.faults sink.old)) (outside (S.left source.new) (S.faults source.new) (K.written sink.new) (K.faults sink.new)) result }
 {
+    let alloc = rt.alloc();
     let input = match read_source(alloc, source) {
         Ok(input) => input,
         Err(stop) => return end_stopped(alloc, sink, stop),
     };
-    if !is_built(alloc, &input)? {
+    if !is_built(&input) {
         return Ok(end_with(sink, NOT_BUILT_TEXT.as_bytes(), BAD_INPUT, None));
     }
-    accepted_is_ready();
-    run_input(alloc, input, sink, gate)
+    run_input(rt, input, workers, sink, gate)
 }
 
 /// Reads an input from the source and writes whether it is one.

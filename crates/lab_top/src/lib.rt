@@ -1,9 +1,12 @@
 //! The top call of `graftlab`: from the words of a command to its status.
 #![tactic(auto)]
 
+mod built;
 mod finish;
 mod jobs;
 mod top;
 
-pub use finish::{BAD_INPUT, DONE, Finish, NO_MEMORY, READ_FAILED, USAGE, WRITE_FAILED};
+pub use finish::{
+    BAD_INPUT, DONE, Finish, LIMIT, NO_MEMORY, READ_FAILED, UNSETTLED, USAGE, WRITE_FAILED,
+};
 pub use top::graft_main;

@@ -5,20 +5,20 @@ ghost use Rattle.graft_edge.specs.Outside.{FaultRose, Appended, AppendedFront};
 ghost use Rattle.lab_words.specs.declared.job.Job.TheVariants.{Check, Make};
 ghost use Rattle.lab_words.specs.Asked.{usage_text, Asks};
 ghost use Rattle.lab_make.specs.Made.{made};
-ghost use Rattle.pipe_lab.specs.Report.{report_text};
-ghost use Rattle.pipe_lab.specs.Seen.{Headline};
-ghost use Rattle.lab_top.specs.Ends.{AreRefused, AskToRun, AskToMake, TookInput, TookBadInput, IsStatus, Writes, Checks};
+ghost use Rattle.lab_report.specs.Report.{report_text};
+ghost use Rattle.lab_run.specs.Runs.{RanLab};
+ghost use Rattle.lab_top.specs.Ends.{AreRefused, end_status, AskToRun, AskToMake, TookInput, TookBadInput, IsStatus, Writes, Checks};
 ghost use Rattle.lab_top.specs.Cases.{outside, EndsOr, Ended};
 
 use crate::finish::{Finish, NO_MEMORY, USAGE, end_with, without_run};
 use crate::jobs::{check_job, make_job, run_job};
 use graft_edge::{Gate, NoMemory, Sink, Source, Words};
 use lab_words::{Job, USAGE_TEXT, WordStop, read_words};
-use std::alloc::Global;
+use std::thread::Threads;
 
 /// Does the job that the words ask for. If memory runs out, nothing was written.
-fn do_job<S: Source, K: Sink, G: Gate>(
-    alloc: Global,
+fn do_job<R: Threads + Sync + AllocGlobal, S: Source, K: Sink, G: Gate>(
+    rt: &R,
     words: &Words,
     source: &mut S,
     sink: &mut K,
@@ -27,8 +27,9 @@ fn do_job<S: Source, K: Sink, G: Gate>(
     ensures unread { AreRefused words.now ⊎ AskToMake words.now → source.new ≡ source.old }
     ensures ended { EndsOr words.now (outside (S.left source.old) (S.faults source.old) (K.written sink.old) (K.faults sink.old)) (outside (S.left source.new) (S.faults source.new) (K.written sink.new) (K.faults sink.new)) result }
 {
+    let alloc = rt.alloc();
     match read_words(alloc, words) {
-        Ok(Job::Run { .. }) => run_job(alloc, source, sink, gate),
+        Ok(Job::Run { workers }) => run_job(rt, source, sink, workers, gate),
         Ok(Job::Check) => check_job(alloc, source, sink),
         Ok(Job::Make { seed }) => make_job(alloc, sink, seed),
         Err(WordStop::Usage) => Ok(end_with(sink, USAGE_TEXT.as_bytes(), USAGE, None)),
@@ -37,8 +38,8 @@ fn do_job<S: Source, K: Sink, G: Gate>(
 }
 
 /// How the command ends that the words are.
-fn finish_of<S: Source, K: Sink, G: Gate>(
-    alloc: Global,
+fn finish_of<R: Threads + Sync + AllocGlobal, S: Source, K: Sink, G: Gate>(
+    rt: &R,
     words: &Words,
     source: &mut S,
     sink: &mut K,
@@ -47,7 +48,7 @@ fn finish_of<S: Source, K: Sink, G: Gate>(
     ensures unread { AreRefused words.now ⊎ AskToMake words.now → source.new ≡ source.old }
     ensures ended { Ended words.now (outside (S.left source.old) (S.faults source.old) (K.written sink.old) (K.faults sink.old)) (outside (S.left source.new) (S.faults source.new) (K.written sink.new) (K.faults sink.new)) result.status result.lab }
 {
-    match do_job(alloc, words, source, sink, gate) {
+    match do_job(rt, words, source, sink, gate) {
         Ok(finish) => finish,
         Err(_) => without_run(NO_MEMORY),
     }
@@ -64,7 +65,7 @@ pub fn graft_main<R, S, K, G>(
     gate: &G,
 ) -> Finish
 where
-    R: AllocGlobal,
+    R: Threads + Sync + AllocGlobal,
     S: Source,
     K: Sink,
     G: Gate,
@@ -92,17 +93,18 @@ where
 
     // A run is there only where it was asked for, came to its end and its text was built: it is the run of the
     // bytes that were read.
-    ensures settled { AskToRun words.now → result.status ≡ 0 → IsSome result.lab }
+    ensures ended { AskToRun words.now → (result.status ≡ 0) ⊎ (result.status ≡ 3) ⊎ (result.status ≡ 7) → IsSome result.lab }
     ensures no_run { AreRefused words.now ⊎ AskToMake words.now ⊎ Asks words.now Check → result.lab ≡ None }
-    ensures ran { OnSome result.lab (AskToRun words.now × ((result.status ≡ 0) ⊎ (result.status ≡ 5))) }
+    ensures ran { OnSome result.lab (AskToRun words.now × ((result.status ≡ 0) ⊎ (result.status ≡ 3) ⊎ (result.status ≡ 5) ⊎ (result.status ≡ 7))) }
     ensures input { IfSome result.lab (λ lab. TookInput (S.left source.old) (S.left source.new) lab.input) }
 
-    // Its journal is that of a run of the input's pipe, of which the lab is what is seen. Each world on the
-    // way is transparent, and the last one is at rest and solves the decision equations.
-    ensures headline { IfSome result.lab (λ lab. Headline lab) }
+    // Its journal is that of a run of the input's laboratory, over whatever its workers and links did, and the lab is what is seen of the world that the run leads to. At every
+    // moment each peering has one session, held by one router or one moving capsule, with one legal story of which the bytes each way are the first part; a refused graft returns it unchanged; and where
+    // the run is settled, every table solves the decision equations for the placement after accepted grafts.
+    ensures headline { IfSome result.lab RanLab }
 
-    // Its report is written whole, or a write failed and a front of it stands.
-    ensures reported { IfSome result.lab (λ lab. Writes (report_text lab) 0 (K.faults sink.old) (K.faults sink.new) (K.written sink.old) (K.written sink.new) result.status) }
+    // Its report is written whole, under the status of its end, or a write failed and a front of it stands.
+    ensures reported { IfSome result.lab (λ lab. Writes (report_text lab) (end_status lab.end) (K.faults sink.old) (K.faults sink.new) (K.written sink.old) (K.written sink.new) result.status) }
 {
-    finish_of(rt.alloc(), words, source, sink, gate)
+    finish_of(rt, words, source, sink, gate)
 }

@@ -1,7 +1,7 @@
 //! Commands as they stand in lines.
 
 /// A command: `graftlab WORD.. < INPUT ! read N write N`. The input is a file or `N blanks`, and may be left out, as may what
-/// fails: the calls, from 1, at which the source and the sink do.
+/// fails: the calls, from 1, at which the source and the sink do. The word `*` stands for each of some counts of workers.
 #[derive(Clone, Copy)]
 pub struct Case<'a> {
     pub words: &'a str,
@@ -30,6 +30,11 @@ impl<'a> Case<'a> {
             read_fails: number_behind(faults, "read ").unwrap_or(NEVER),
             write_fails: number_behind(faults, "write ").unwrap_or(NEVER),
         }
+    }
+
+    /// Whether the command is done by each of some counts of workers.
+    pub fn is_by_each(&self) -> bool {
+        self.words.ends_with(" *")
     }
 
     /// Of how many blanks the input is, where it is no file.

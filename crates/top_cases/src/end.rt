@@ -4,21 +4,23 @@ use crate::case::Case;
 use crate::gate::CountingGate;
 use crate::seen::push_seen;
 use graft_edge::{MemSink, MemSource, NoMemory, Words};
+use lab_report::Lab;
 use lab_top::{Finish, graft_main};
 use std::alloc::Global;
 use std::fmt::Write;
+use std::thread::Threads;
 
-/// The words behind the program's name, which single spaces part.
-fn words_of(alloc: Global, line: &str) -> Result<Words, NoMemory> {
+/// The words behind the program's name, which single spaces part, with the number of workers in place of `*`.
+fn words_of(alloc: Global, line: &str, workers: &str) -> Result<Words, NoMemory> {
     let mut words = Words::new(alloc);
     for word in line.split(' ').skip(1) {
-        words.push(word)?;
+        words.push(if word == "*" { workers } else { word })?;
     }
     Ok(words)
 }
 
 /// What comes of a command. Nothing is known here of what the contract says of it.
-fn finish_of<R: AllocGlobal>(
+fn finish_of<R: Threads + Sync + AllocGlobal>(
     rt: &R,
     words: &Words,
     source: &mut MemSource,
@@ -28,23 +30,58 @@ fn finish_of<R: AllocGlobal>(
     graft_main(rt, words, source, sink, gate)
 }
 
-/// What a command wrote, its status and the number of bytes that it wrote, and what is seen of its run.
-pub fn end_of<R: AllocGlobal>(rt: &R, case: &Case<'_>, input: &str) -> Result<String, NoMemory> {
-    let alloc = rt.alloc();
-    let words = words_of(alloc, case.words)?;
-    let mut source = MemSource::new(alloc, input.as_bytes(), 64, &[case.read_fails])?;
-    let mut sink = MemSink::new(alloc, 4096, 16, &[case.write_fails])?;
-    let gate = CountingGate::new();
-    let finish = finish_of(rt, &words, &mut source, &mut sink, &gate);
-    let written = sink.written();
+/// What a command wrote, on lines of its own.
+fn written_text(alloc: Global, written: &[u8]) -> Result<String, NoMemory> {
     let mut text = String::from_utf8_lossy(alloc, written)?;
     if !written.is_empty() && !written.ends_with(b"\n") {
         text.push_str("\n")?;
     }
+    Ok(text)
+}
+
+/// Adds what is seen of a run, if it is one whose turns come in one order, and whether each turn passed the gate.
+fn push_run(
+    text: &mut String,
+    lab: &Lab,
+    gate: &CountingGate,
+    is_one: bool,
+) -> Result<(), NoMemory> {
+    if is_one {
+        push_seen(text, lab)?;
+    }
+    write!(text, "\ngate: {}", gate.verdict(lab))?;
+    Ok(())
+}
+
+/// What a command wrote, its status and the number of bytes that it wrote, and what is seen of its run.
+fn told(
+    alloc: Global,
+    finish: &Finish,
+    written: &[u8],
+    gate: &CountingGate,
+    is_one: bool,
+) -> Result<String, NoMemory> {
+    let mut text = written_text(alloc, written)?;
     write!(text, "status {}, {} bytes", finish.status, written.len())?;
-    if let Some(lab) = &finish.lab {
-        push_seen(&mut text, lab)?;
-        write!(text, "\ngate: {}", gate.verdict())?;
+    match &finish.lab {
+        Some(lab) => push_run(&mut text, lab, gate, is_one)?,
+        None => {}
     }
     Ok(text)
+}
+
+/// What comes of a case by a number of workers: what its command wrote, its status, and what is seen of its run.
+pub fn end_of<R: Threads + Sync + AllocGlobal>(
+    rt: &R,
+    case: &Case<'_>,
+    workers: &str,
+    input: &str,
+) -> Result<String, NoMemory> {
+    let alloc = rt.alloc();
+    let words = words_of(alloc, case.words, workers)?;
+    let mut source = MemSource::new(alloc, input.as_bytes(), 64, &[case.read_fails])?;
+    let mut sink = MemSink::new(alloc, 4096, 16, &[case.write_fails])?;
+    let gate = CountingGate::new();
+    let finish = finish_of(rt, &words, &mut source, &mut sink, &gate);
+    told(alloc, &finish, sink.written(), &gate, !case.is_by_each())
 }

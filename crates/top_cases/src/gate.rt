@@ -1,34 +1,63 @@
 //! A gate that counts.
 
 use graft_edge::Gate;
+use lab_report::Lab;
 use std::sync::atomic::{AtomicU64, Ordering};
 
-/// Counts how often each of the three actors passes.
+/// Counts how often each actor passes, of up to twelve.
 #[derive(Drop)]
 pub struct CountingGate {
-    passes: [AtomicU64; 3],
+    passes: [AtomicU64; 12],
 }
 
 impl CountingGate {
     pub fn new() -> CountingGate {
         CountingGate {
-            passes: [AtomicU64::new(0), AtomicU64::new(0), AtomicU64::new(0)],
+            passes: [
+                AtomicU64::new(0),
+                AtomicU64::new(0),
+                AtomicU64::new(0),
+                AtomicU64::new(0),
+                AtomicU64::new(0),
+                AtomicU64::new(0),
+                AtomicU64::new(0),
+                AtomicU64::new(0),
+                AtomicU64::new(0),
+                AtomicU64::new(0),
+                AtomicU64::new(0),
+                AtomicU64::new(0),
+            ],
         }
     }
 
-    /// Whether each actor passed, and all passed equally often.
-    fn all_passed(&self) -> bool {
-        let router = self.passes[0].load(Ordering::SeqCst);
-        let far = self.passes[1].load(Ordering::SeqCst);
-        let operator = self.passes[2].load(Ordering::SeqCst);
-        router > 1 && far == router && operator == router
+    /// Whether each of so many actors passed in each of so many rounds, and nobody else.
+    fn all_passed(&self, actors: usize, rounds: u64) -> bool {
+        let mut actor = 0;
+        for passes in &self.passes {
+            let due = if actor < actors { rounds } else { 0 };
+            if passes.load(Ordering::SeqCst) != due {
+                return false;
+            }
+            actor += 1;
+        }
+        actors <= actor
     }
 
-    pub fn verdict(&self) -> &'static str {
-        if self.all_passed() {
-            "each actor passed equally often"
+    /// What the gate saw of a run: its actors are its routers, its far sides and the operator.
+    pub fn verdict(&self, lab: &Lab) -> &'static str {
+        let actors = lab
+            .tables
+            .len()
+            .saturating_add(lab.far.len())
+            .saturating_add(1);
+        let mut rounds = 0u64;
+        for made in &lab.rounds {
+            rounds = rounds.saturating_add(u64::from(*made));
+        }
+        if self.all_passed(actors, rounds) {
+            "each actor passed once in each round"
         } else {
-            "an actor passed less often than another"
+            "an actor passed more or less often than there were rounds"
         }
     }
 }

@@ -10,7 +10,9 @@ mod seen;
 use crate::case::Case;
 use crate::end::end_of;
 use anyhow::Result;
+use std::fmt::Write;
 use std::rt::Files;
+use std::thread::Threads;
 use std::{fs, io};
 
 /// The text of a case's input: none, blanks, or a file.
@@ -24,6 +26,28 @@ fn input_of<R: Files + AllocGlobal>(rt: &R, case: &Case<'_>) -> Result<String> {
     }
 }
 
+/// How a case ends. Where it is done by 1, 2, 4 and 8 workers, it is to end in the same way, and each other way is told.
+fn ends_of<R: Threads + Sync + AllocGlobal>(
+    rt: &R,
+    case: &Case<'_>,
+    input: &str,
+) -> Result<String> {
+    let end = end_of(rt, case, "1", input)?;
+    if !case.is_by_each() {
+        return Ok(end);
+    }
+    let mut ends = end.clone()?;
+    for workers in ["2", "4", "8"] {
+        let other = end_of(rt, case, workers, input)?;
+        if other == end {
+            write!(ends, "\nthe same by {workers} workers")?;
+        } else {
+            write!(ends, "\nby {workers} workers:\n{other}")?;
+        }
+    }
+    Ok(ends)
+}
+
 fn main(rt: HostRuntime) -> Result<()> {
     let text = io::read_to_string(rt.alloc(), rt.reader())?;
     for line in text.lines() {
@@ -33,8 +57,8 @@ fn main(rt: HostRuntime) -> Result<()> {
         }
         let case = Case::of(line);
         let input = input_of(&rt, &case)?;
-        let end = end_of(&rt, &case, input.as_str())?;
-        println!(rt; "{end}")?;
+        let ends = ends_of(&rt, &case, input.as_str())?;
+        println!(rt; "{ends}")?;
     }
     Ok(())
 }

@@ -3,7 +3,7 @@
 use bgp_story::Line;
 use bgp_types::Message;
 use graft_edge::NoMemory;
-use pipe_lab::Lab;
+use lab_report::Lab;
 use std::fmt::Write;
 
 fn kind_of(message: &Message) -> &'static str {

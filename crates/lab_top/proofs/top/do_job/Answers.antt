@@ -2,7 +2,7 @@ use Rattle.std.proofs.Common.{ap, refl, subst}
 use Rattle.std.specs.Prelude.{Err}
 use Rattle.lab_words.specs.Asked.{Asks}
 use Rattle.lab_top.specs.Cases.{usage, wrote}
-use Rattle.lab_top.proofs.Asking.{seed_is_small}
+use Rattle.lab_top.proofs.Asking.{seed_is_small, workers_are_few}
 use Rattle.lab_top.proofs.Parts.{made_ends}
 use Rattle.lab_top.proofs.top.do_job.Goals as goal
 
@@ -10,7 +10,7 @@ pub make_job-requires-clause-highest : goal.make_job-requires-clause-highest
 make_job-requires-clause-highest g c = seed_is_small c.args.words.now _ (subst (λ job. Asks c.args.words.now job) c.in-Ok-Make.field-0-is c.in-Ok-Make.ensures.asked)
 
 pub returns-in-Ok-Run-clause-ended : goal.returns-in-Ok-Run-clause-ended
-returns-in-Ok-Run-clause-ended g c = c.run_job.ensures c.args.words.now (c.in-Ok-Run.field-0-0, subst (λ job. Asks c.args.words.now job) c.in-Ok-Run.field-0-is c.in-Ok-Run.ensures.asked)
+returns-in-Ok-Run-clause-ended g c = c.run_job.ensures c.args.words.now (c.in-Ok-Run.workers, subst (λ job. Asks c.args.words.now job) c.in-Ok-Run.field-0-is c.in-Ok-Run.ensures.asked)
 
 pub returns-in-Ok-Make-clause-ended : goal.returns-in-Ok-Make-clause-ended
 returns-in-Ok-Make-clause-ended g c =
@@ -19,3 +19,6 @@ returns-in-Ok-Make-clause-ended g c =
 pub returns-in-Err-Usage-clause-ended : goal.returns-in-Err-Usage-clause-ended
 returns-in-Err-Usage-clause-ended g c =
     wrote c.as_bytes.result.now 1 (usage (c.in-Err-Usage.ensures.refused (ap Err c.in-Err-Usage.field-0-is)) c.as_bytes.ensures.value refl c.end_with.ensures.lab) c.end_with.ensures.writes
+
+pub run_job-requires-clause-workers : goal.run_job-requires-clause-workers
+run_job-requires-clause-workers g c κs within = workers_are_few c.args.words.now _ (subst (λ job. Asks c.args.words.now job) c.in-Ok-Run.field-0-is c.in-Ok-Run.ensures.asked)

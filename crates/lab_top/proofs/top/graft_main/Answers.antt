@@ -1,4 +1,4 @@
-use Rattle.lab_top.proofs.Facts.{statuses, usage_told, refused, made_told, checked_told, bad_input, bad_unwritten, read_failed, write_failed, nothing_written, settled, no_run, ran, input_taken, headline, reported}
+use Rattle.lab_top.proofs.Facts.{statuses, usage_told, refused, made_told, checked_told, bad_input, bad_unwritten, read_failed, write_failed, nothing_written, run_ended, no_run, ran, input_taken, headline, reported}
 use Rattle.lab_top.proofs.top.graft_main.Goals as goal
 
 pub returns-clause-statuses : goal.returns-clause-statuses
@@ -31,8 +31,8 @@ returns-clause-write_failed g c = write_failed _ _ _ _ _ c.finish_of.ensures.end
 pub returns-clause-nothing_written : goal.returns-clause-nothing_written
 returns-clause-nothing_written g c = nothing_written _ _ _ _ _ c.finish_of.ensures.ended
 
-pub returns-clause-settled : goal.returns-clause-settled
-returns-clause-settled g c = settled _ _ _ _ _ c.finish_of.ensures.ended
+pub returns-clause-ended : goal.returns-clause-ended
+returns-clause-ended g c = run_ended _ _ _ _ _ c.finish_of.ensures.ended
 
 pub returns-clause-no_run : goal.returns-clause-no_run
 returns-clause-no_run g c = no_run _ _ _ _ _ c.finish_of.ensures.ended

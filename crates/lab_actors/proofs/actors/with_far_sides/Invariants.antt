@@ -1,0 +1,7 @@
+use Rattle.std.proofs.Common.{◌+◌, length}
+use Rattle.lab_setup.specs.Setups.{setup_of}
+use Rattle.lab_actors.specs.Firsts.{AreFirstUpTo}
+use Rattle.lab_actors.proofs.actors.with_far_sides.Given as goal
+
+abbrev pub invariant-loop-n : goal.invariant-loop-n
+invariant-loop-n l = AreFirstUpTo (setup_of l.input) l.input.faults (length l.input.routers + l.n) l.actors

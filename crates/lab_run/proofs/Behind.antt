@@ -1,0 +1,183 @@
+-- What the marks name that stand behind a moment of a run.
+use Rattle.std.proofs.Common.{◌≡◌, ℕ, ◌+◌, true, List, [], ◌∷◌, ◌++◌, length, map, filter, Some, refl, sym, ap, ◌∙◌, inl, inr, append_assoc, append-nil}
+use Rattle.std.specs.List.{last_or}
+use Rattle.ring_net.specs.declared.entry.JournalEntry.{JournalEntry}
+use Rattle.ring_net.specs.Deeds.{Deed, entries_of}
+use Rattle.journal_merge.specs.Merges.{Interleaves, upto}
+use Rattle.graft_model.specs.Setups.{Setup}
+use Rattle.graft_model.specs.Parts.{World}
+use Rattle.settled_check.specs.Left.{HasUnissued}
+use Rattle.router_core.specs.Parts.{carried}
+use Rattle.world_runs.specs.Runs.{IsSeenAs, Ran}
+use Rattle.run_marks.specs.Marks.{before, IsWorldAtMark, IsMarkOf, operator_in, is_go, BeginsWithGo}
+use Rattle.run_marks.proofs.Marks.{up_to_mark, world_at_mark}
+use Rattle.run_marks.proofs.Groups.{groups_counted}
+use Rattle.run_marks.proofs.Seen.{nothing_open}
+use Rattle.world_nodes.specs.Nodes.{Mail, own}
+use Rattle.world_nodes.specs.Ways.{Stand, Round, Pause}
+use Rattle.lab_report.specs.declared.lab.RunEnd.{RunEnd}
+use Rattle.lab_report.specs.declared.lab.RunEnd.TheVariants.{Settled}
+use Rattle.lab_budgets.specs.declared.budget.Budget.{Budget}
+use Rattle.lab_run.specs.declared.end.Verdict.{Verdict}
+use Rattle.lab_run.specs.declared.end.Verdict.TheVariants.{GoesOn, IsQuiet, Ends}
+use Rattle.lab_run.specs.Ends.{MarkNames, NextBegins, MarksName}
+use Rattle.lab_run.specs.Stories.{RoundNames}
+use Rattle.lab_run.proofs.Stands.{GoesOnTo, then_on, round_on, pause_on, pause_journal, IsWhole, mark_of, round_without_go, without_go, between_marks, pause_goes, groups_at}
+
+-- ---- what marks name, by the budgets that are left
+
+name_goes : (setup : Setup) (journal : List JournalEntry) (step n : ℕ) (budget : Budget) (budgets : List Budget) (mark : List ℕ) (marks : List (List ℕ)) (made : List ℕ) (end : RunEnd)
+    → MarkNames setup journal budget step (n + 1) mark GoesOn → ¬ NextBegins setup journal mark marks → MarksName setup journal step (n + 1) (budget ∷ budgets) marks made end
+    → MarksName setup journal step n (budget ∷ budgets) (mark ∷ marks) made end
+name_goes setup journal step n budget [] mark marks made end names none further = inl (names, none, further)
+name_goes setup journal step n budget (next ∷ budgets) mark marks made end names none further = inl (names, none, further)
+
+name_ends : (setup : Setup) (journal : List JournalEntry) (step n : ℕ) (budget : Budget) (budgets : List Budget) (mark : List ℕ) (end : RunEnd) → MarkNames setup journal budget step (n + 1) mark (Ends end)
+    → MarksName setup journal step n (budget ∷ budgets) (mark ∷ []) ((n + 1) ∷ []) end
+name_ends setup journal step n budget [] mark end names = inr (inr (names, refl, refl))
+name_ends setup journal step n budget (next ∷ budgets) mark end names = inr (inr (names, refl, refl))
+
+module _ (setup : Setup) (z : Stand) (journal : List JournalEntry) (merge : Interleaves z.view.journal journal) where
+  -- Behind a stand of a settle that has made n rounds: the next round, and what all marks from its own on name.
+  pub record Behind (step n : ℕ) (budgets : List Budget) (c : Stand) (made : List ℕ) (end : RunEnd) : Type 0 where
+    pub stand : Stand
+    pub round : Round c stand
+    pub on : GoesOnTo stand.view z.view
+    pub is_whole : IsWhole setup stand
+    pub later : List (List ℕ)
+    pub whole : z.marks ≡ c.marks ++ round.marked.mark ∷ later
+    pub name : MarksName setup journal step n budgets (round.marked.mark ∷ later) made end
+    pub last : List ℕ
+    pub is_last : last_or (Some round.marked.mark) later ≡ Some last
+    pub ends : (k : ℕ) → before last k ≡ length (z.view.journal k)
+
+  pub behind_on : (step n : ℕ) (budgets : List Budget) (c : Stand) (made : List ℕ) (end : RunEnd) → Behind step n budgets c made end → GoesOnTo c.view z.view
+  behind_on step n budgets c made end behind = then_on c.view behind.stand.view z.view (round_on c behind.stand behind.round) behind.on
+
+  -- the world behind the mark of a round
+  pub world_behind : (b c : Stand) (round : Round b c) → IsWhole setup c → GoesOnTo c.view z.view → Ran own carried setup c.view
+      → (w : World) × IsWorldAtMark setup journal round.marked.mark w × IsSeenAs own carried setup c.view w
+  world_behind b c round is on ran = world_at_mark own carried setup c.view z.view round.marked.mark journal (mark_of setup c z b.marks round.marked is on) merge ran
+
+  mark_names : (budget : Budget) (step rounds : ℕ) (b c : Stand) (verdict : Verdict) (names : RoundNames setup budget step rounds b c verdict) → IsWhole setup c → GoesOnTo c.view z.view → Ran own carried setup c.view
+      → MarkNames setup journal budget step rounds names.round.marked.mark verdict
+  mark_names budget step rounds b c verdict names is on ran =
+      let h = world_behind b c names.round is on ran in
+      record { world = h.0; is = h.1; names = names.names h.0 (h.2, record { events = h.1.events; run = h.1.run }) }
+
+  -- no group begins between a mark and the next, where a round lies between them
+  none_begins : (step n : ℕ) (budgets : List Budget) (b c : Stand) (old : List (List ℕ)) (mark : List ℕ) (made : List ℕ) (end : RunEnd) → IsWhole setup c → IsMarkOf c.view z.view mark
+      → (behind : Behind step n budgets c made end) → ¬ NextBegins setup journal mark (behind.round.marked.mark ∷ behind.later)
+  none_begins step n budgets b c old mark made end is at_c behind follows =
+      without_go (behind.round.phase.notes (operator_in setup)) (round_without_go setup c behind.stand is behind.round)
+      ((between_marks setup z c behind.stand journal mark behind.round.marked.mark (entries_of (behind.round.phase.notes (operator_in setup))) merge at_c
+      (mark_of setup behind.stand z c.marks behind.round.marked behind.is_whole behind.on) (behind.round.phase.journals (operator_in setup))).0 follows)
+
+  begins_first : (xs ys : List JournalEntry) → BeginsWithGo xs → BeginsWithGo (xs ++ ys)
+  begins_first [] ys go = absurd go
+  begins_first (x ∷ xs) ys go = go
+
+  -- one begins where the operator began it at the mark
+  next_begins : (step n : ℕ) (budgets : List Budget) (b c : Stand) (mark : List ℕ) (made : List ℕ) (end : RunEnd) → IsMarkOf b.view z.view mark → (pause : Pause (operator_in setup) b c true)
+      → BeginsWithGo (map (λ (d : Deed Mail). d.entry) pause.between.deeds) → (behind : Behind step n budgets c made end) → NextBegins setup journal mark (behind.round.marked.mark ∷ behind.later)
+  next_begins step n budgets b c mark made end at_b pause go behind =
+      let op : ℕ = operator_in setup in
+      let first : List JournalEntry = map (λ (d : Deed Mail). d.entry) pause.between.deeds in
+      let second : List JournalEntry = entries_of (behind.round.phase.notes op) in
+      (between_marks setup z b behind.stand journal mark behind.round.marked.mark (first ++ second) merge at_b (mark_of setup behind.stand z c.marks behind.round.marked behind.is_whole behind.on)
+      (behind.round.phase.journals op ∙ ap (λ (xs : List JournalEntry). xs ++ second) (pause_journal op b c true pause) ∙ append_assoc (b.view.journal op) first second)).1 (begins_first first second go)
+
+  marks_behind : (b c : Stand) (round : Round b c) (later : List (List ℕ)) → z.marks ≡ c.marks ++ later → z.marks ≡ b.marks ++ round.marked.mark ∷ later
+  marks_behind b c round later whole = whole ∙ ap (λ (xs : List (List ℕ)). xs ++ later) round.marked.marks ∙ append_assoc b.marks (round.marked.mark ∷ []) later
+
+  -- ---- one mark before what is named behind it
+
+  module _ (step n : ℕ) (budget : Budget) (b c : Stand) (is : IsWhole setup c) (ran : Ran own carried setup c.view) where
+    -- another round
+    pub behind_round : (budgets : List Budget) (made : List ℕ) (end : RunEnd) → RoundNames setup budget step (n + 1) b c GoesOn → Behind step (n + 1) (budget ∷ budgets) c made end → Behind step n (budget ∷ budgets) b made end
+    behind_round budgets made end names behind =
+        let on : GoesOnTo c.view z.view = behind_on step (n + 1) (budget ∷ budgets) c made end behind in
+        let marks : List (List ℕ) = behind.round.marked.mark ∷ behind.later in
+        record {
+          stand = c;
+          round = names.round;
+          on = on;
+          is_whole = is;
+          later = marks;
+          whole = marks_behind b c names.round marks behind.whole;
+          name = name_goes setup journal step n budget budgets names.round.marked.mark marks made end (mark_names budget step (n + 1) b c GoesOn names is on ran)
+              (none_begins step (n + 1) (budget ∷ budgets) b c b.marks names.round.marked.mark made end is (mark_of setup c z b.marks names.round.marked is on) behind) behind.name;
+          last = behind.last;
+          is_last = behind.is_last;
+          ends = behind.ends;
+        }
+
+    -- the end by a limit
+    pub behind_end : (budgets : List Budget) (end : RunEnd) → RoundNames setup budget step (n + 1) b c (Ends end) → z ≡ c → Behind step n (budget ∷ budgets) b ((n + 1) ∷ []) end
+    behind_end budgets end names same =
+        let on : GoesOnTo c.view z.view = λ k. ([], ap (λ (s : Stand). s.view.journal k) same ∙ sym (append-nil (c.view.journal k))) in
+        record {
+          stand = c;
+          round = names.round;
+          on = on;
+          is_whole = is;
+          later = [];
+          whole = ap (λ (s : Stand). s.marks) same ∙ names.round.marked.marks;
+          name = name_ends setup journal step n budget budgets names.round.marked.mark end (mark_names budget step (n + 1) b c (Ends end) names is on ran);
+          last = names.round.marked.mark;
+          is_last = refl;
+          ends = λ k. (mark_of setup c z b.marks names.round.marked is on).lengths k ∙ sym (ap (λ (s : Stand). length (s.view.journal k)) same);
+        }
+
+    -- the end of the last group, where the operator did nothing at its mark
+    pub behind_settled : RoundNames setup budget step (n + 1) b c IsQuiet → z.marks ≡ c.marks → ((k : ℕ) → z.view.journal k ≡ c.view.journal k) → Behind step n (budget ∷ []) b ((n + 1) ∷ []) Settled
+    behind_settled names marks journals =
+        let on : GoesOnTo c.view z.view = λ k. ([], journals k ∙ sym (append-nil (c.view.journal k))) in
+        record {
+          stand = c;
+          round = names.round;
+          on = on;
+          is_whole = is;
+          later = [];
+          whole = marks ∙ names.round.marked.marks;
+          name = inr (inl (mark_names budget step (n + 1) b c IsQuiet names is on ran, (refl, refl, refl)));
+          last = names.round.marked.mark;
+          is_last = refl;
+          ends = λ k. (mark_of setup c z b.marks names.round.marked is on).lengths k ∙ sym (ap (λ (xs : List JournalEntry). length xs) (journals k));
+        }
+
+    -- what is known of the world of a stand that is quiet
+    pub quiet_there : RoundNames setup budget step (n + 1) b c IsQuiet → GoesOnTo c.view z.view → (w : World) × IsSeenAs own carried setup c.view w × (¬ HasUnissued setup w.operator)
+    quiet_there names on =
+        let h = world_behind b c names.round is on ran in
+        (h.0, h.2, (nothing_open setup h.0 (names.names h.0 (h.2, record { events = h.1.events; run = h.1.run })).1.quiet).0)
+
+    -- the end of a group, behind which the next one begins
+    pub behind_group : (d : Stand) (next : Budget) (budgets : List Budget) (made : List ℕ) (end : RunEnd) → RoundNames setup budget step (n + 1) b c IsQuiet → (pause : Pause (operator_in setup) c d true)
+        → Behind (step + 1) 0 (next ∷ budgets) d made end → Behind step n (budget ∷ next ∷ budgets) b ((n + 1) ∷ made) end
+    behind_group d next budgets made end names pause behind =
+        let on : GoesOnTo c.view z.view = then_on c.view d.view z.view (pause_on (operator_in setup) c d true pause) (behind_on (step + 1) 0 (next ∷ budgets) d made end behind) in
+        let marks : List (List ℕ) = behind.round.marked.mark ∷ behind.later in
+        let w = quiet_there names on in
+        record {
+          stand = c;
+          round = names.round;
+          on = on;
+          is_whole = is;
+          later = marks;
+          whole = marks_behind b c names.round marks (behind.whole ∙ ap (λ (xs : List (List ℕ)). xs ++ marks) pause.marks);
+          name = inr (inl (
+            mark_names budget step (n + 1) b c IsQuiet names is on ran,
+            (next_begins (step + 1) 0 (next ∷ budgets) c d names.round.marked.mark made end (mark_of setup c z b.marks names.round.marked is on) pause (pause_goes setup c d w.0 is w.1 w.2 pause) behind, (made, refl, behind.name)),
+          ));
+          last = behind.last;
+          is_last = behind.is_last;
+          ends = behind.ends;
+        }
+
+  -- the group at work in the world behind a mark is as many as have begun
+  pub groups_behind : (b c : Stand) (round : Round b c) (is : IsWhole setup c) (on : GoesOnTo c.view z.view) (ran : Ran own carried setup c.view) → (world_behind b c round is on ran).0.operator.group ≡ groups_at setup c
+  groups_behind b c round is on ran =
+      let h = world_behind b c round is on ran in
+      groups_counted setup h.1.events (upto (before round.marked.mark) journal) h.0 h.1.entries_of h.1.run
+      ∙ ap (λ (xs : List JournalEntry). length (filter is_go xs)) ((up_to_mark c.view z.view round.marked.mark journal (mark_of setup c z b.marks round.marked is on) merge).each (operator_in setup))

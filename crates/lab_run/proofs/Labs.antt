@@ -1,0 +1,56 @@
+-- What a lab tells of the end of its net.
+use Rattle.std.proofs.Common.{◌≡◌, ℕ, List, sym, subst}
+use Rattle.graft_model.specs.Setups.{Setup, IsSetup}
+use Rattle.graft_model.specs.Parts.{World}
+use Rattle.graft_model.specs.First.{first_world}
+use Rattle.graft_model.specs.Steps.{Event, Run}
+use Rattle.graft_model.specs.Claims.{Unchanged, Solves}
+use Rattle.graft_model.specs.Quiet.{Quiet}
+use Rattle.graft_laws.specs.Keeps.{Reached}
+use Rattle.router_core.specs.Parts.{carried}
+use Rattle.world_runs.specs.Laws.{RunsAreTransparent}
+use Rattle.world_runs.specs.Runs.{RanAs}
+use Rattle.world_nodes.specs.Nodes.{own}
+use Rattle.lab_setup.specs.Setups.{setup_of}
+use Rattle.lab_report.specs.declared.lab.RunEnd.{RunEnd}
+use Rattle.lab_report.specs.declared.lab.RunEnd.TheVariants.{Settled}
+use Rattle.lab_budgets.specs.Budgets.{budgets_in}
+use Rattle.lab_run.specs.Ends.{HasMarks}
+use Rattle.lab_run.specs.Stories.{RunGoes}
+use Rattle.lab_run.specs.Runs.{LabsTellOfRuns}
+use Rattle.lab_run.proofs.Stands.{IsWhole}
+use Rattle.lab_run.proofs.Stories.{WayRan, marks_of_run, run_whole, run_ran, settled_quiet}
+
+abbrev pub AlwaysUnchanged : Type 0
+AlwaysUnchanged = (setup : Setup) (events : List Event) → IsSetup setup → Unchanged setup (first_world setup) events
+
+abbrev pub QuietSolves : Type 0
+QuietSolves = (setup : Setup) (events : List Event) (w : World) → IsSetup setup → Run setup (first_world setup) events w → Quiet setup w → Solves setup w
+
+pub labs_tell : WayRan → RunsAreTransparent → AlwaysUnchanged → QuietSolves → LabsTellOfRuns
+labs_tell way_ran transparent unchanged solves lab a z sound as_many tells = record {
+  events = ran.events;
+  entries_of = ran.entries_of;
+  world = ran.world;
+  run = ran.run;
+  observed = tells.observed ran.world (record { world = (ran.seen, reached); all = whole.size; channels = whole.edges });
+  transparent = transparent (setup_of lab.input) ran.events ran.world sound ran.run;
+  unchanged = unchanged (setup_of lab.input) ran.events sound;
+  marks = subst (λ (ms : List (List ℕ)). HasMarks (setup_of lab.input) lab.journal (budgets_in lab.input) ms lab.rounds lab.end) (sym tells.marks)
+      (marks_of_run way_ran (setup_of lab.input) sound a tells.begins z lab.journal tells.merged (budgets_in lab.input) lab.rounds lab.end as_many tells.goes);
+  quiet = quiet;
+  solves = λ settled. solves (setup_of lab.input) ran.events ran.world sound ran.run (quiet settled);
+}
+  where
+    ran : RanAs own carried (setup_of lab.input) lab.journal z.view
+    ran = run_ran way_ran (setup_of lab.input) sound a tells.begins z lab.journal tells.merged (budgets_in lab.input) lab.rounds lab.end tells.goes lab.journal tells.merged
+
+    whole : IsWhole (setup_of lab.input) z
+    whole = run_whole way_ran (setup_of lab.input) sound a tells.begins z lab.journal tells.merged (budgets_in lab.input) lab.rounds lab.end tells.goes
+
+    reached : Reached (setup_of lab.input) ran.world
+    reached = record { events = ran.events; run = ran.run }
+
+    quiet : lab.end ≡ Settled → Quiet (setup_of lab.input) ran.world
+    quiet settled = settled_quiet way_ran (setup_of lab.input) sound a tells.begins z lab.journal tells.merged (budgets_in lab.input) lab.rounds
+        (subst (λ (e : RunEnd). RunGoes (setup_of lab.input) a (budgets_in lab.input) lab.rounds e z) settled tells.goes) ran.world ran.seen reached

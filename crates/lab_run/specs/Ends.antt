@@ -1,0 +1,117 @@
+-- What the marks behind rounds name: another round, the next group, or how the run ends.
+use Rattle.std.specs.Prelude.{ℕ, ◌≡◌, ◌≤◌, ◌<◌, ◌+◌, ◌-◌, ◌^◌, ◌⊎◌, min, List, [], ◌∷◌, length, sum, Option, Some, None, slice_index_or}
+use Rattle.std.specs.List.{AllByRecursion, last_or}
+use Rattle.ring_net.specs.declared.entry.JournalEntry.{JournalEntry}
+use Rattle.ring_net.specs.Phases.{View}
+use Rattle.journal_merge.specs.Merges.{entries_by}
+use Rattle.graft_model.specs.Setups.{Setup}
+use Rattle.graft_model.specs.Parts.{World}
+use Rattle.graft_model.specs.Quiet.{Quiet}
+use Rattle.graft_steps.specs.declared.rest.Pending.{Pending}
+use Rattle.run_marks.specs.Marks.{before, IsWorldAtMark, GoFollows}
+use Rattle.world_nodes.specs.Looks.{IsLowest, IsStuckIn, IsPending}
+use Rattle.lab_report.specs.declared.lab.RunEnd.{RunEnd}
+use Rattle.lab_report.specs.declared.lab.RunEnd.TheVariants.{Settled, Unsettled, StreamFull, JournalFull}
+use Rattle.lab_budgets.specs.declared.budget.Budget.{Budget}
+use Rattle.lab_run.specs.declared.end.Verdict.{Verdict}
+use Rattle.lab_run.specs.declared.end.Verdict.TheVariants.{GoesOn, IsQuiet, Ends}
+
+-- ---- one mark
+
+-- what is counted at a mark: the entries of all journals, the number of the settle at work, from 1, and how many rounds it has made
+pub record Counted : Type 0 where
+  pub events : ℕ
+  pub step : ℕ
+  pub rounds : ℕ
+
+abbrev pub NoneIsStuck : Setup → World → Type 0
+NoneIsStuck setup w = IsLowest (IsStuckIn setup w) None
+
+-- no session is stuck, and no journal is full
+pub record IsBelowLimits (setup : Setup) (w : World) (c : Counted) : Type 0 where
+  pub free : NoneIsStuck setup w
+  pub room : c.events < 4194304
+
+-- nothing is left to do, and the settle has made the rounds that it makes at least
+pub record MayEnd (setup : Setup) (w : World) (budget : Budget) (c : Counted) : Type 0 where
+  pub quiet : Quiet setup w
+  pub enough : budget.least ≤ c.rounds
+
+-- the budget is made, and this is the first thing that is left to do
+pub record IsUnsettled (setup : Setup) (w : World) (budget : Budget) (c : Counted) (step rounds : ℕ) (answer : Option Pending) : Type 0 where
+  pub below : IsBelowLimits setup w c
+  pub made : budget.rounds ≤ c.rounds
+  pub first : IsPending setup w answer
+  pub step_is : step ≡ c.step
+  pub rounds_is : rounds ≡ c.rounds
+
+-- the lowest session that is stuck, and the length, up to the end of a count of 32 bits
+pub record IsStreamFull (setup : Setup) (w : World) (peering length : ℕ) : Type 0 where
+  pub whole : ℕ
+  pub lowest : IsLowest (IsStuckIn setup w) (Some (peering, whole))
+  pub length_is : length ≡ min whole (2 ^ 32 - 1)
+
+-- A mark names, in this order: the lowest session that is stuck; full journals, with their entries up to the end of a count of 64 bits; that the group is at its end;
+-- that its budget is made; else another round.
+abbrev pub Names : Setup → World → Budget → Counted → Verdict → Type 0
+Names setup w budget c (Ends (StreamFull peering length)) = IsStreamFull setup w peering.0 length
+Names setup w budget c (Ends (JournalFull events)) = NoneIsStuck setup w × (4194304 ≤ c.events) × (events ≡ min c.events (2 ^ 64 - 1))
+Names setup w budget c (Ends (Unsettled step rounds pending)) = IsUnsettled setup w budget c step rounds (Some pending)
+Names setup w budget c (Ends Settled) = ⊥
+Names setup w budget c IsQuiet = IsBelowLimits setup w c × MayEnd setup w budget c
+Names setup w budget c GoesOn = IsBelowLimits setup w c × (¬ MayEnd setup w budget c) × (c.rounds < budget.rounds)
+
+-- what the limits of a whole run name, which come first
+abbrev pub LimitNames : Setup → World → Budget → Counted → Option RunEnd → Type 0
+LimitNames setup w budget c None = IsBelowLimits setup w c
+LimitNames setup w budget c (Some end) = Names setup w budget c (Ends end)
+
+-- how many entries the journals of a view have in all
+pub record CountsTo {A I : Type 0} (v : View A I) (total : ℕ) : Type 0 where
+  pub each : List ℕ
+  pub size : length each ≡ length v.actors
+  pub lengths : (k : ℕ) → k < length v.actors → slice_index_or each k 0 ≡ length (v.journal k)
+  pub total_is : total ≡ sum each
+
+-- ---- all marks of a journal
+
+-- a mark names this of its world
+pub record MarkNames (setup : Setup) (journal : List JournalEntry) (budget : Budget) (step rounds : ℕ) (mark : List ℕ) (verdict : Verdict) : Type 0 where
+  pub world : World
+  pub is : IsWorldAtMark setup journal mark world
+  pub names : Names setup world budget (record { events = sum mark; step = step; rounds = rounds }) verdict
+
+-- a group begins between a mark and the next one
+abbrev pub NextBegins : Setup → List JournalEntry → List ℕ → List (List ℕ) → Type 0
+NextBegins setup journal mark [] = ⊥
+NextBegins setup journal mark (next ∷ marks) = GoFollows setup journal mark next
+
+-- A mark names another round, before which no group begins, and this holds of the marks behind it; or the end of the group, and this holds; or how the run ends, at the last mark.
+abbrev pub AtMark : Setup → List JournalEntry → Budget → (step rounds : ℕ) → (mark : List ℕ) (marks : List (List ℕ)) → (made : List ℕ) → RunEnd → (Further Over : Type 0) → Type 0
+AtMark setup journal budget step rounds mark marks made end Further Over =
+    (MarkNames setup journal budget step rounds mark GoesOn × (¬ NextBegins setup journal mark marks) × Further)
+    ⊎ ((MarkNames setup journal budget step rounds mark IsQuiet × Over)
+    ⊎ (MarkNames setup journal budget step rounds mark (Ends end) × (marks ≡ []) × (made ≡ rounds ∷ [])))
+
+-- The marks behind rounds, from the settle of number `step` on, which has made so many rounds, with the budgets of that settle and those behind it. Where a group ends, the next one begins,
+-- or it was the last one and the run is settled. `made` are the rounds of each settle that has begun, from that one on.
+abbrev pub MarksName : Setup → List JournalEntry → (step rounds : ℕ) → List Budget → (marks : List (List ℕ)) → (made : List ℕ) → RunEnd → Type 0
+MarksName setup journal step rounds budgets [] made end = ⊥
+MarksName setup journal step rounds [] (mark ∷ marks) made end = ⊥
+MarksName setup journal step rounds (budget ∷ []) (mark ∷ marks) made end =
+    AtMark setup journal budget step (rounds + 1) mark marks made end (MarksName setup journal step (rounds + 1) (budget ∷ []) marks made end)
+    ((marks ≡ []) × (made ≡ (rounds + 1) ∷ []) × (end ≡ Settled))
+MarksName setup journal step rounds (budget ∷ next ∷ budgets) (mark ∷ marks) made end =
+    AtMark setup journal budget step (rounds + 1) mark marks made end (MarksName setup journal step (rounds + 1) (budget ∷ next ∷ budgets) marks made end)
+    (NextBegins setup journal mark marks × ((later : List ℕ) × (made ≡ (rounds + 1) ∷ later) × MarksName setup journal (step + 1) 0 (next ∷ budgets) marks later end))
+
+-- The marks of a run: the first one of empty journals, and then one behind each round, which name how the run goes on and ends. Behind the last one there is no entry.
+pub record HasMarks (setup : Setup) (journal : List JournalEntry) (budgets : List Budget) (all : List (List ℕ)) (made : List ℕ) (end : RunEnd) : Type 0 where
+  pub first : List ℕ
+  pub marks : List (List ℕ)
+  pub is : all ≡ first ∷ marks
+  pub empty : AllByRecursion (λ n. n ≡ 0) first
+  pub last : List ℕ
+  pub is_last : last_or (Some first) marks ≡ Some last
+  pub whole : (k : ℕ) → before last k ≡ length (entries_by k journal)
+  pub name : MarksName setup journal 1 0 budgets marks made end

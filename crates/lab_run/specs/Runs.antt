@@ -1,0 +1,57 @@
+-- What a lab says of its run.
+use Rattle.std.specs.Prelude.{ℕ, ◌≡◌, List, length}
+use Rattle.journal_merge.specs.Merges.{Interleaves}
+use Rattle.graft_model.specs.Setups.{Setup, IsSetup, groups_in}
+use Rattle.graft_model.specs.Parts.{World}
+use Rattle.graft_model.specs.First.{first_world}
+use Rattle.graft_model.specs.Steps.{Event, Run}
+use Rattle.graft_model.specs.Claims.{Unchanged, Solves}
+use Rattle.graft_model.specs.Quiet.{Quiet}
+use Rattle.graft_runs.specs.Laws.{AreEntriesOf}
+use Rattle.world_runs.specs.Labs.{actors_in}
+use Rattle.world_runs.specs.Runs.{TransparentThroughout}
+use Rattle.world_nodes.specs.Edges.{has_channel}
+use Rattle.world_nodes.specs.Looks.{IsWorldAt}
+use Rattle.world_nodes.specs.Ways.{Stand, Begins}
+use Rattle.lab_setup.specs.Setups.{setup_of}
+use Rattle.lab_report.specs.declared.lab.Lab.{Lab}
+use Rattle.lab_report.specs.declared.lab.RunEnd.TheVariants.{Settled}
+use Rattle.lab_budgets.specs.Budgets.{budgets_in}
+use Rattle.lab_seen.specs.Seen.{Observed}
+use Rattle.lab_run.specs.Ends.{HasMarks}
+use Rattle.lab_run.specs.Stories.{RunGoes}
+
+-- The journal is that of a run of the input's laboratory from its first world, and the lab is what is seen of the world that the run leads to. At every moment of the run each
+-- peering is transparent, and a refused graft returned its session unchanged. The marks say how the run went on and how it ended. Where it is settled, nothing is left to do in the last world, and
+-- the tables solve the decision equations (RFC 4271, section 9.1) for the placement after the accepted grafts.
+pub record RanLab (lab : Lab) : Type 0 where
+  pub events : List Event
+  pub entries_of : AreEntriesOf (setup_of lab.input) events lab.journal
+  pub world : World
+  pub run : Run (setup_of lab.input) (first_world (setup_of lab.input)) events world
+  pub observed : Observed (setup_of lab.input) world lab
+  pub transparent : TransparentThroughout (setup_of lab.input) events
+  pub unchanged : Unchanged (setup_of lab.input) (first_world (setup_of lab.input)) events
+  pub marks : HasMarks (setup_of lab.input) lab.journal (budgets_in lab.input) lab.marks lab.rounds lab.end
+  pub quiet : lab.end ≡ Settled → Quiet (setup_of lab.input) world
+  pub solves : lab.end ≡ Settled → Solves (setup_of lab.input) world
+
+-- ---- why
+
+-- the net stands at this world of a run, with all actors and channels of the laboratory
+pub record IsNetOf (setup : Setup) (z : Stand) (w : World) : Type 0 where
+  pub world : IsWorldAt setup z w
+  pub all : length z.view.actors ≡ actors_in setup
+  pub channels : (m n : ℕ) → z.view.edge m n ≡ has_channel setup m n
+
+-- The net of an input's laboratory went from its beginning to its end, and the lab tells of that end.
+pub record TellsOf (lab : Lab) (a z : Stand) : Type 0 where
+  pub begins : Begins (setup_of lab.input) a
+  pub goes : RunGoes (setup_of lab.input) a (budgets_in lab.input) lab.rounds lab.end z
+  pub marks : lab.marks ≡ z.marks
+  pub merged : Interleaves z.view.journal lab.journal
+  pub observed : (w : World) → IsNetOf (setup_of lab.input) z w → Observed (setup_of lab.input) w lab
+
+-- such a lab says what its run was
+abbrev pub LabsTellOfRuns : Type 0
+LabsTellOfRuns = (lab : Lab) (a z : Stand) → IsSetup (setup_of lab.input) → length (budgets_in lab.input) ≡ groups_in (setup_of lab.input) → TellsOf lab a z → RanLab lab

@@ -1,0 +1,108 @@
+//! What is tested at the mark behind a round.
+
+ghost use Rattle.std.specs.Prelude.{ℕ, ◌≡◌, ◌≤◌, ◌^◌, ◌-◌, min, IfOk};
+ghost use Rattle.graft_model.specs.Setups.{Setup, IsSetup};
+ghost use Rattle.graft_model.specs.Parts.{World};
+ghost use Rattle.world_nodes.specs.Edges.{HasCounts};
+ghost use Rattle.world_nodes.specs.Courses.{stand, counts, AllWork};
+ghost use Rattle.world_nodes.specs.Looks.{IsWorldAt};
+ghost use Rattle.lab_budgets.specs.declared.budget.Budget.{Budget};
+ghost use Rattle.lab_run.specs.Ends.{Counted, CountsTo, IsBelowLimits, Names, LimitNames, NoneIsStuck};
+
+use graft_edge::NoMemory;
+use lab_budgets::Budget;
+use lab_report::RunEnd;
+use world_nodes::Course;
+
+/// From so many events on a journal is full.
+const MOST_EVENTS: u64 = 4_194_304;
+
+/// What a mark names.
+#[derive(Drop)]
+pub(crate) enum Verdict {
+    /// Another round.
+    GoesOn,
+    /// The next group, or the end of the run where there is none.
+    IsQuiet,
+    /// The end of the run by a limit.
+    Ends(RunEnd),
+}
+
+/// A length, up to the end of a count of 32 bits.
+fn short(length: usize) -> u32
+    ensures { result ≡ min length (2 ^ 32 - 1) }
+{
+    length.min(4_294_967_295) as u32
+}
+
+/// A journal that is full.
+fn full(events: u64) -> Option<RunEnd>
+    ensures { (setup : Setup) (w : World) (budget : Budget) (c : Counted) → NoneIsStuck setup w → events ≡ min c.events (2 ^ 64 - 1) → LimitNames setup w budget c result }
+{
+    if events >= MOST_EVENTS {
+        return Some(RunEnd::JournalFull { events });
+    }
+    None
+}
+
+/// The session that is stuck, or else a journal that is full.
+fn limit(course: &Course) -> Result<Option<RunEnd>, NoMemory>
+    requires works { AllWork course.now }
+    ensures { IfOk result (λ found. (setup : Setup) (w : World) (budget : Budget) (c : Counted) → HasCounts setup (counts course.now) → IsWorldAt setup (stand course.now) w
+        → CountsTo (stand course.now).view c.events → LimitNames setup w budget c found) }
+{
+    match course.stuck()? {
+        Some((peering, length)) => Ok(Some(RunEnd::StreamFull {
+            peering,
+            length: short(length),
+        })),
+        None => Ok(full(course.events())),
+    }
+}
+
+/// Where no limit of the whole run is met: whether the world is quiet, or the budget is made.
+fn rest(course: &Course, budget: Budget, step: u32, rounds: u32) -> Verdict
+    requires works { AllWork course.now }
+    requires sound { budget.least ≤ budget.rounds }
+    ensures { (setup : Setup) (w : World) (c : Counted) → IsSetup setup → HasCounts setup (counts course.now) → IsWorldAt setup (stand course.now) w → c.step ≡ step → c.rounds ≡ rounds
+        → IsBelowLimits setup w c → Names setup w budget c result }
+{
+    match course.pending() {
+        None => {
+            if budget.least <= rounds {
+                Verdict::IsQuiet
+            } else {
+                Verdict::GoesOn
+            }
+        }
+        Some(pending) => {
+            if budget.rounds <= rounds {
+                Verdict::Ends(RunEnd::Unsettled {
+                    step,
+                    rounds,
+                    pending,
+                })
+            } else {
+                Verdict::GoesOn
+            }
+        }
+    }
+}
+
+/// What the mark names behind a round, when the settle of number `step` has made so many rounds.
+pub(crate) fn mark_names(
+    course: &Course,
+    budget: Budget,
+    step: u32,
+    rounds: u32,
+) -> Result<Verdict, NoMemory>
+    requires works { AllWork course.now }
+    requires sound { budget.least ≤ budget.rounds }
+    ensures { IfOk result (λ verdict. (setup : Setup) (w : World) (c : Counted) → IsSetup setup → HasCounts setup (counts course.now) → IsWorldAt setup (stand course.now) w → c.step ≡ step
+        → c.rounds ≡ rounds → CountsTo (stand course.now).view c.events → Names setup w budget c verdict) }
+{
+    match limit(course)? {
+        Some(end) => Ok(Verdict::Ends(end)),
+        None => Ok(rest(course, budget, step, rounds)),
+    }
+}

@@ -1,0 +1,66 @@
+//! The run of an input.
+
+ghost use Rattle.std.specs.Prelude.{◌≡◌, ◌≤◌, true, IfOk};
+ghost use Rattle.std.specs.List.{list_all};
+ghost use Rattle.world_nodes.specs.Courses.{stand, counts, AllWork};
+ghost use Rattle.world_nodes.specs.Edges.{HasCounts};
+ghost use Rattle.world_nodes.specs.Ways.{Begins};
+ghost use Rattle.lab_setup.specs.Setups.{setup_of};
+ghost use Rattle.lab_budgets.specs.Budgets.{moves_one};
+ghost use Rattle.node_configs.specs.Accepted.{IsAccepted};
+ghost use Rattle.lab_run.specs.Runs.{RanLab};
+
+use crate::laws::labs_tell_of_runs;
+use crate::run::run_groups;
+use graft_edge::{Gate, Items, NoMemory};
+use lab_actors::actors_of;
+use lab_budgets::budgets_of;
+use lab_report::Lab;
+use lab_seen::lab_of;
+use lab_tables::LabInput;
+use std::alloc::Global;
+use std::thread::Threads;
+use world_nodes::Course;
+
+/// The net of the laboratory that an input describes, at its beginning.
+fn begin(alloc: Global, input: &LabInput) -> Result<Course, NoMemory>
+    requires { IsAccepted input.now }
+    ensures begins { IfOk result (λ course. Begins (setup_of input.now) (stand course)) }
+    ensures works { IfOk result AllWork }
+    ensures counts { IfOk result (λ course. HasCounts (setup_of input.now) (counts course)) }
+{
+    let actors = actors_of(alloc, input)?;
+    let routers = input.routers.len() as u16;
+    let peerings = input.peerings.len() as u16;
+    Course::begin(alloc, actors, routers, peerings)
+}
+
+/// Runs the laboratory of an input by 1 to 8 workers, until nothing is left to do after the last group of its script, or a limit is met. Each actor passes the
+/// gate before each of its turns. The input is one that was accepted, and no step of it evacuates a router, since that isn't built yet.
+pub fn run_lab<R: Threads + Sync, G: Gate>(
+    rt: &R,
+    alloc: Global,
+    input: LabInput,
+    workers: usize,
+    gate: &G,
+) -> Result<Lab, NoMemory>
+    requires accepted { IsAccepted input }
+    requires moves { list_all moves_one input.steps ≡ true }
+    requires workers { (1 ≤ workers) × (workers ≤ 8) }
+    ensures input { IfOk result (λ lab. lab.input ≡ input) }
+    ensures ran { IfOk result RanLab }
+{
+    labs_tell_of_runs();
+    let budgets = budgets_of(alloc, &input)?;
+    let mut course = begin(alloc, &input)?;
+    let mut rounds = Items::new(alloc);
+    let end = run_groups(
+        rt,
+        &mut course,
+        budgets.as_slice(),
+        &mut rounds,
+        workers,
+        gate,
+    )?;
+    lab_of(alloc, input, end, course.finish()?, rounds)
+}

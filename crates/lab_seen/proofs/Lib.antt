@@ -1,0 +1,9 @@
+pub mod Ranges
+pub mod Walking
+pub mod Fronts
+pub mod Slots
+pub mod Phases
+pub mod Channels
+pub mod Nodes
+pub mod Sessions
+pub mod Observing

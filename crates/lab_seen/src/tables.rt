@@ -1,0 +1,89 @@
+//! The tables of a router, as they are seen.
+
+ghost use Rattle.std.specs.Prelude.{ℕ, ◌≡◌, ◌++◌, ◌≤◌, map, IfOk, OnOk};
+ghost use Rattle.std.specs.FinMap as table;
+ghost use Rattle.std.specs.List.{flat_map, range_with_len};
+ghost use Rattle.rib_stages.specs.Values.{rib_of};
+ghost use Rattle.lab_seen.specs.Seen.{best_entry, told_entry};
+
+use bgp_types::{From, Prefix, Route};
+use graft_edge::{Items, NoMemory, RouterId, TryCopy};
+use lab_report::{BestEntry, RouterTable, ToldEntry};
+use rib_stages::Rib;
+use route_policy::Best;
+use std::alloc::Global;
+
+/// The best route to a prefix, as it is seen.
+fn best_seen(prefix: Prefix, best: &Best) -> Result<BestEntry, NoMemory>
+    ensures { IfOk result (λ entry. entry ≡ best_entry (prefix, best.now)) }
+{
+    Ok(BestEntry {
+        prefix,
+        from: best.from,
+        route: best.route.copy()?,
+    })
+}
+
+/// The best routes of a router, in rising prefix.
+fn best_of(alloc: Global, rib: &Rib) -> Result<Items<BestEntry>, NoMemory>
+    ensures { IfOk result (λ best. best ≡ map best_entry (table.entries rib.now.best)) }
+{
+    let mut best = Items::new(alloc);
+    let mut last = None;
+    while let Some(prefix) = rib.next_best(last) {
+        if let Some(route) = rib.best(prefix) {
+            best.push(best_seen(prefix, route)?)?;
+        }
+        last = Some(prefix);
+    }
+    Ok(best)
+}
+
+/// What a router told of a prefix, as it is seen.
+fn told_seen(router: RouterId, prefix: Prefix, route: &Route) -> Result<ToldEntry, NoMemory>
+    ensures { IfOk result (λ entry. entry ≡ told_entry router.0 (prefix, route.now)) }
+{
+    Ok(ToldEntry {
+        router,
+        prefix,
+        route: route.copy()?,
+    })
+}
+
+/// Adds what one other router told, in rising prefix.
+fn push_told_by(told: &mut Items<ToldEntry>, rib: &Rib, router: RouterId) -> Result<(), NoMemory>
+    ensures { OnOk result (told.new ≡ told.old ++ map (told_entry router.0) (table.entries ((rib_of rib.now).tellings router.0))) }
+{
+    let mut last = None;
+    while let Some(prefix) = rib.next_entry(From::Router(router), last) {
+        if let Some(route) = rib.entry(From::Router(router), prefix) {
+            told.push(told_seen(router, prefix, route)?)?;
+        }
+        last = Some(prefix);
+    }
+    Ok(())
+}
+
+/// What the other routers told, in rising router and prefix.
+fn told_of(alloc: Global, rib: &Rib, routers: usize) -> Result<Items<ToldEntry>, NoMemory>
+    requires { routers ≤ 256 }
+    ensures { IfOk result (λ told. told ≡ flat_map (λ q. map (told_entry q) (table.entries ((rib_of rib.now).tellings q))) (range_with_len 0 routers)) }
+{
+    let mut told = Items::new(alloc);
+    for q in 0..routers {
+        push_told_by(&mut told, rib, RouterId(q as u8))?;
+    }
+    Ok(told)
+}
+
+/// The tables of a router in a laboratory of at most 256 routers.
+pub fn table_of(alloc: Global, rib: &Rib, routers: usize) -> Result<RouterTable, NoMemory>
+    requires { routers ≤ 256 }
+    ensures best { IfOk result (λ seen. seen.best ≡ map best_entry (table.entries rib.now.best)) }
+    ensures heard { IfOk result (λ seen. seen.heard ≡ flat_map (λ q. map (told_entry q) (table.entries ((rib_of rib.now).tellings q))) (range_with_len 0 routers)) }
+{
+    Ok(RouterTable {
+        best: best_of(alloc, rib)?,
+        heard: told_of(alloc, rib, routers)?,
+    })
+}

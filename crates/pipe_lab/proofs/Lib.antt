@@ -1,2 +1,0 @@
-pub mod Headlines
-pub mod Ready

@@ -1,4 +1,0 @@
-pub mod Built
-pub mod Ready
-pub mod Report
-pub mod Seen

@@ -1,6 +1,0 @@
-pub mod Tables
-pub mod Choices
-pub mod Keeping
-pub mod Steps
-pub mod Gets
-pub mod Runs
