@@ -1,0 +1,5 @@
+use Rattle.router_rows.specs.Laboratory.{laboratory}
+use Rattle.router_rows.proofs.laboratory.router_0.Given as goal
+
+abbrev pub ghost-new : goal.ghost-new
+ghost-new a = laboratory
