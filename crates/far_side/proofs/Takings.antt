@@ -91,8 +91,10 @@ module _ {C : Type 0} (session : C → SessionValue) where
     keeps = keeps;
   }
 
-  took_nothing : (f : Fields) (from : ℕ) (item : Item C) (deeds : List (Deed (Item C))) → taken_in deeds ≡ 0 → Took f from item deeds f
-  took_nothing f from item deeds none = record {
+  took_nothing : (f : Fields) (from : ℕ) (item : Item C) (deeds : List (Deed (Item C))) → length deeds ≡ 1 → taken_in deeds ≡ 0 → Took f from item deeds f
+  took_nothing f from item deeds one none = record {
+    one = one;
+    link = record { way = refl; peering = refl; seq_first = refl; ack_first = refl };
     plans = sym (ap (λ (n : ℕ). f.remoteward.plans ++ plans_put (fates_in f.plan f.remoteward) f.pointer.0 f.remoteward.put n) none ∙ append-nil f.remoteward.plans);
     put = let e : f.remoteward.put ≡ f.remoteward.put + taken_in deeds = omega (arith, none) in e;
     remote = refl;
@@ -103,7 +105,7 @@ module _ {C : Type 0} (session : C → SessionValue) where
   pub drops : (f : Fields) (p q : Post (Item C)) (from : ℕ) (item : Item C) → Keeps f → WroteOne p 0 0 0 0 [] q → (IsWelcome session (own_part f) from item → ⊥) → TakesIt session from item f p f q
   drops f p q from item keeps wrote not = took_one f f p q from 0 0 item wrote
       (record { setup = refl; name = refl; does = inr (record { from = from; item = item; takes = refl; unwelcome = not; kind = refl; a = refl; b = refl; c = refl; sends = refl; stays = refl }) })
-      (took_nothing f from item (deed_of p 0 0 0 0 (Some (from, item)) [] ∷ []) refl) keeps
+      (took_nothing f from item (deed_of p 0 0 0 0 (Some (from, item)) [] ∷ []) refl refl) keeps
 
   -- ---- items that aren't welcome
 
@@ -201,6 +203,13 @@ module _ {C : Type 0} (session : C → SessionValue) where
       (record { segment = segment_of f.known.setup s; takes = refl; sends = refl; effect = ap far_part same ∙ ap (λ (x : PlacedSegment). let v : FarPart = record (far_part f) { remoteward = f.remoteward.segments ++ x ∷ [] } in v) (sym (segment_places f s keeps fits)) })
       setup (ap (λ (h : Fields). h.peering) same))
       (record {
+        one = refl;
+        link = record {
+          way = ap (λ (h : Fields). h.remoteward.way) same;
+          peering = ap (λ (h : Fields). h.remoteward.peering) same;
+          seq_first = ap (λ (h : Fields). h.remoteward.seq_first) same;
+          ack_first = ap (λ (h : Fields). h.remoteward.ack_first) same;
+        };
         plans = ap (λ (h : Fields). h.remoteward.plans) same;
         put = ap (λ (h : Fields). h.remoteward.put) same;
         remote = ap (λ (h : Fields). h.remote) same ∙ ap (λ (xs : List ℕ). let v : RemoteValue = record f.remote { end = record f.remote.end { stream = xs } } in v) (sym (ap (λ (h : Fields). h.remote.end.stream) same));
@@ -218,6 +227,13 @@ module _ {C : Type 0} (session : C → SessionValue) where
       (record { graft = k; takes = refl; sends = refl; effect = ap far_part same ∙ (λ i. let v : FarPart = record (far_part f) { pointer = pointer i; followed = followed i } in v) })
       (ap (λ (h : Fields). h.known.setup) same) (ap (λ (h : Fields). h.peering) same))
       (record {
+        one = refl;
+        link = record {
+          way = ap (λ (h : Fields). h.remoteward.way) same;
+          peering = ap (λ (h : Fields). h.remoteward.peering) same;
+          seq_first = ap (λ (h : Fields). h.remoteward.seq_first) same;
+          ack_first = ap (λ (h : Fields). h.remoteward.ack_first) same;
+        };
         plans = ap (λ (h : Fields). h.remoteward.plans) same ∙ sym (append-nil f.remoteward.plans);
         put = ap (λ (h : Fields). h.remoteward.put) same ∙ (let e : f.remoteward.put ≡ f.remoteward.put + 0 = omega arith in e);
         remote = ap (λ (h : Fields). h.remote) same ∙ ap (λ (xs : List ℕ). let v : RemoteValue = record f.remote { end = record f.remote.end { stream = xs } } in v) (sym (ap (λ (h : Fields). h.remote.end.stream) same));
@@ -239,6 +255,13 @@ module _ {C : Type 0} (session : C → SessionValue) where
       (record { bytes = bytes; is = is; takes = refl; sends = refl; room = room; effect = ap far_part same })
       (ap (λ (h : Fields). h.known.setup) same) (ap (λ (h : Fields). h.peering) same))
       (record {
+        one = refl;
+        link = record {
+          way = ap (λ (h : Fields). h.remoteward.way) same;
+          peering = ap (λ (h : Fields). h.remoteward.peering) same;
+          seq_first = ap (λ (h : Fields). h.remoteward.seq_first) same;
+          ack_first = ap (λ (h : Fields). h.remoteward.ack_first) same;
+        };
         plans = ap (λ (h : Fields). h.remoteward.plans) same ∙ sym (append-nil f.remoteward.plans);
         put = ap (λ (h : Fields). h.remoteward.put) same ∙ (let e : f.remoteward.put ≡ f.remoteward.put + 0 = omega arith in e);
         remote = subst (λ (h : Fields). h.remote ≡ record f.remote { end = record f.remote.end { stream = h.remote.end.stream } }) (sym same) refl;

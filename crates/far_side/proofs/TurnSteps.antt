@@ -12,7 +12,7 @@ use Rattle.far_side.specs.Remotes.{RemoteValue}
 use Rattle.far_side.specs.Links.{LinkValue, home_events, remote_events, left_of}
 use Rattle.far_side.specs.Parts.{far_part}
 use Rattle.far_side.specs.Turns.{Did}
-use Rattle.far_side.specs.Passes.{fates_in, plans_put, SameRemote, HomePass, RemotePass, Sent, SentAgain, SentFresh, SentAnswer, Beats, Beaten, again_events, answer_events}
+use Rattle.far_side.specs.Passes.{fates_in, plans_put, SameRemote, HomePass, RemotePass, Sent, SentAgain, SentFresh, SentAnswer, Beats, Beaten, again_events, answer_events, SameLink}
 use Rattle.far_side.specs.Turned.{TurnsOnce}
 use Rattle.far_side.specs.declared.fields.Fields.{Fields}
 use Rattle.far_side.specs.declared.link.InLink.{InLink}
@@ -106,6 +106,16 @@ module _ {C : Type 0} (session : C → SessionValue) where
 puts_by : (f g : Fields) (a b : LinkValue) (n : ℕ) → SameFates f g → Puts (fates_in g.plan g.homeward) g.pointer.0 a b n → Puts (fates_in f.plan f.homeward) f.pointer.0 a b n
 puts_by f g a b n same puts = subst (λ v. Puts v f.pointer.0 a b n) same.fates (subst (λ (r : ℕ). Puts (fates_in g.plan g.homeward) r a b n) same.router puts)
 
+-- a link that leads where it led
+link_is : (a b : LinkValue) → b ≡ a → SameLink a b
+link_is a b e = record { way = ap (λ (l : LinkValue). l.way) e; peering = ap (λ (l : LinkValue). l.peering) e; seq_first = ap (λ (l : LinkValue). l.seq_first) e; ack_first = ap (λ (l : LinkValue). l.ack_first) e }
+
+link_with : (a b : LinkValue) → b ≡ record a { segments = b.segments; plans = b.plans; put = b.put } → SameLink a b
+link_with a b e = record { way = ap (λ (l : LinkValue). l.way) e; peering = ap (λ (l : LinkValue). l.peering) e; seq_first = ap (λ (l : LinkValue). l.seq_first) e; ack_first = ap (λ (l : LinkValue). l.ack_first) e }
+
+link_then : (a b c : LinkValue) → SameLink a b → SameLink b c → SameLink a c
+link_then a b c x y = record { way = y.way ∙ x.way; peering = y.peering ∙ x.peering; seq_first = y.seq_first ∙ x.seq_first; ack_first = y.ack_first ∙ x.ack_first }
+
 module _ {C : Type 0} (session : C → SessionValue) (f0 b c d e g h : Fields) (p0 p1 p2 p3 p4 p5 p6 : Post (Item C))
     (home : HomePass session (record f0 { turns = f0.turns + 1 }) p0 b p1) (remote : RemotePass session b p1 c p2) (again : SentAgain session c p2 d p3) (beaten : Beaten session d p3 e p4) (fresh : SentFresh session e p4 g p5) (answer : SentAnswer session g p5 h p6) where
   -- before anything is sent
@@ -155,6 +165,19 @@ module _ {C : Type 0} (session : C → SessionValue) (f0 b c d e g h : Fields) (
       let start : Puts (fates_in f0.plan f0.homeward) f0.pointer.0 d.homeward g.homeward (length fresh.events) = subst (λ (l : LinkValue). Puts (fates_in f0.plan f0.homeward) f0.pointer.0 l g.homeward (length fresh.events)) (beats_same d e beaten.events beaten.beats).0 second in
       puts_on _ _ c.homeward d.homeward h.homeward _ _ first_puts.0 (puts_on _ _ d.homeward g.homeward h.homeward _ _ start third)
 
+  homeward_link : SameLink f0.homeward h.homeward
+  homeward_link =
+      link_then f0.homeward b.homeward h.homeward home.link
+      (link_then b.homeward c.homeward h.homeward (link_is b.homeward c.homeward (ap (λ (k : Fields). k.homeward) c_same))
+      (link_then c.homeward d.homeward h.homeward (link_with c.homeward d.homeward (again.sent nothing).link)
+      (link_then d.homeward e.homeward h.homeward (link_is d.homeward e.homeward (beats_same d e beaten.events beaten.beats).0)
+      (link_then e.homeward g.homeward h.homeward (link_with e.homeward g.homeward (fresh.sent nothing).link) (link_with g.homeward h.homeward (answer.sent nothing).link)))))
+
+  remoteward_link : SameLink f0.remoteward h.remoteward
+  remoteward_link =
+      link_then f0.remoteward b.remoteward h.remoteward (link_is f0.remoteward b.remoteward b_remoteward)
+      (link_then b.remoteward c.remoteward h.remoteward remote.link (link_is c.remoteward h.remoteward (ap (λ (k : Fields). k.remoteward) h_same)))
+
   -- the whole turn
   pub turns_once : TurnsOnce session f0 p0 h p6
   turns_once =
@@ -195,6 +218,7 @@ module _ {C : Type 0} (session : C → SessionValue) (f0 b c d e g h : Fields) (
               ap (λ (k : Fields). k.remoteward.plans) h_same ∙ remote.plans ∙ ap (λ (l : LinkValue). left_of l.plans) b_remoteward,
               ap (λ (k : Fields). k.remoteward.put) h_same ∙ remote.put ∙ ap (λ (l : LinkValue). l.put) b_remoteward,
             );
+            links = (homeward_link, remoteward_link);
             turns = ap (λ (k : Fields). k.turns) h_same;
             same = subst (λ (k : Fields). k ≡ record f0 { remote = k.remote; homeward = k.homeward; remoteward = k.remoteward; turns = k.turns; beats = k.beats; last_beat = k.last_beat }) (sym h_same) refl;
           };

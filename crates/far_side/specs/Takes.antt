@@ -1,5 +1,5 @@
 -- What a far side says of one take, beside its event.
-use Rattle.std.specs.Prelude.{ℕ, ◌≡◌, ◌+◌, ◌==◌, List, ◌++◌, count_by}
+use Rattle.std.specs.Prelude.{ℕ, ◌≡◌, ◌+◌, ◌==◌, List, ◌++◌, length, count_by}
 use Rattle.ring_net.specs.Deeds.{Deed}
 use Rattle.ring_net.specs.Posts.{TookItem}
 use Rattle.ring_net.specs.declared.post.Post.{Post}
@@ -8,15 +8,17 @@ use Rattle.graft_steps.specs.declared.item.Item.TheVariants as items
 use Rattle.session_value.specs.Sessions.{SessionValue}
 use Rattle.graft_actors.specs.Acts.{acts}
 use Rattle.far_side.specs.Parts.{own_part, Keeps}
-use Rattle.far_side.specs.Passes.{fates_in, plans_put}
+use Rattle.far_side.specs.Passes.{fates_in, plans_put, SameLink}
 use Rattle.far_side.specs.declared.fields.Fields.{Fields}
 
 -- how many segments were taken into the link
 abbrev pub taken_in : {I : Type 0} → List (Deed I) → ℕ
 taken_in deeds = count_by (λ d. d.entry.kind == 19) deeds
 
--- Beside the part, a take changes the plans of the link to the remote alone: each segment that is taken in has its own by its number.
+-- A take is one event. Beside the part, it changes the plans of the link to the remote alone: each segment that is taken in has its own by its number.
 pub record Took {C : Type 0} (old : Fields) (from : ℕ) (item : Item C) (deeds : List (Deed (Item C))) (new : Fields) : Type 0 where
+  pub one : length deeds ≡ 1
+  pub link : SameLink old.remoteward new.remoteward
   pub plans : new.remoteward.plans ≡ old.remoteward.plans ++ plans_put (fates_in old.plan old.remoteward) old.pointer.0 old.remoteward.put (taken_in deeds)
   pub put : new.remoteward.put ≡ old.remoteward.put + taken_in deeds
   pub remote : new.remote ≡ record old.remote { end = record old.remote.end { stream = new.remote.end.stream } }

@@ -13,7 +13,7 @@ use Rattle.far_side.specs.Remotes.{RemoteValue}
 use Rattle.far_side.specs.Links.{home_events, remote_events, left_of}
 use Rattle.far_side.specs.Parts.{far_part, own_part, Keeps}
 use Rattle.far_side.specs.Turns.{FarRound, AreOf}
-use Rattle.far_side.specs.Passes.{fates_in, plans_put, SameRemote, again_events, FreshEvents, answer_events, Beats}
+use Rattle.far_side.specs.Passes.{fates_in, plans_put, SameLink, SameRemote, again_events, FreshEvents, answer_events, Beats}
 use Rattle.far_side.specs.declared.fields.Fields.{Fields}
 
 -- One turn. Its events are, in this order: those that the plan has for the link to home and for the link to the remote, the first outstanding slice again,
@@ -43,6 +43,7 @@ pub record Turned {C : Type 0} (old : Fields) (deeds : List (Deed (Item C))) (ne
       ++ plans_put (fates_in old.plan old.homeward) old.pointer.0 old.homeward.put (length (again_events reached) + (length fresh + length (answer_events sent)))
   pub put : new.homeward.put ≡ old.homeward.put + (length (again_events reached) + (length fresh + length (answer_events sent)))
   pub remoteward : (new.remoteward.plans ≡ left_of old.remoteward.plans) × (new.remoteward.put ≡ old.remoteward.put)
+  pub links : SameLink old.homeward new.homeward × SameLink old.remoteward new.remoteward
   pub turns : new.turns ≡ old.turns + 1
   pub same : new ≡ record old { remote = new.remote; homeward = new.homeward; remoteward = new.remoteward; turns = new.turns; beats = new.beats; last_beat = new.last_beat }
 

@@ -167,6 +167,8 @@ module _ (f : Fields) (a b : Post (Item RunningSession)) (from k : ℕ) (s : Run
           still = λ t. refl;
         })
         reads.did
+        reads.no_rounds
+        (tt, reads.no_puts)
         (λ n v w m q x y. elim (one_or_other p n) [
           | inl e ↦ absurd (no_live v m (sym vacant ∙ ap (place_at f.places.items) (sym e) ∙ x.is))
           | inr not ↦ stays_itself v w (live_is f.places.items n v w m q x (record { is = sym (reads.stays.others n not ∙ elsewhere n not) ∙ y.is }))

@@ -24,6 +24,7 @@ use Rattle.router_core.specs.Parts.{router_part, own_part, carried, Keeps}
 use Rattle.router_core.specs.Places.{RunsAt}
 use Rattle.router_core.specs.Rounds.{CarefulRouter, router_tally, RouterRound, SameRouter, Did}
 use Rattle.router_core.specs.Takes.{Stays, TakesIt, IsOther}
+use Rattle.router_core.specs.Turned.{NoPuts, NoRounds}
 use Rattle.router_core.specs.declared.fields.Fields.{Fields}
 use Rattle.router_core.proofs.Dids.{same_router, router_then, round_at}
 use Rattle.router_core.proofs.Kept.{live_is, stays_itself}
@@ -89,8 +90,8 @@ module _ (f g h : Fields) (p q r : Post (Item RunningSession)) (from : ℕ) (ite
   )
 
   -- the take whose first event it is
-  pub takes_then : ((p : ℕ) (s u : RunningSession) (o q : Option GraftIds) → RunsAt f.places.items p s o → RunsAt h.places.items p u q → Stays s u) → h.turns ≡ f.turns → Keeps h → TakesIt from item f p h r
-  takes_then stays turns keeps =
+  pub takes_then : NoRounds (event ∷ events) → NoPuts (event ∷ events) → ((p : ℕ) (s u : RunningSession) (o q : Option GraftIds) → RunsAt f.places.items p s o → RunsAt h.places.items p u q → Stays s u) → h.turns ≡ f.turns → Keeps h → TakesIt from item f p h r
+  takes_then no_rounds no_puts stays turns keeps =
       let d : Did g q none_yet events h r none_yet = did none_yet in
       let one : Wrote p (first_deed ∷ []) q = first.wrote (Some (from, item)) in
       record {
@@ -102,7 +103,7 @@ module _ (f g h : Fields) (p q r : Post (Item RunningSession)) (from : ℕ) (ite
           took = record {
             router = router_then f g h first.router d.router;
             turns = turns;
-            rows = λ w. record { events = event ∷ events; coded = (first.code, d.coded); round = round_first; stays = stays };
+            rows = λ w. record { events = event ∷ events; coded = (first.code, d.coded); round = round_first; no_rounds = no_rounds; no_puts = no_puts; stays = stays };
           };
         };
         keeps = keeps;

@@ -263,6 +263,18 @@ module _ (f a b c d e g h k : Fields) (p0 p1 p2 p3 p4 p5 p6 p7 : Post (Item Runn
         ticked = subst (λ (xs : List ℕ). (MayPass s.session k.turns × (xs ≡ k.turns ∷ [])) ⊎ ((¬ MayPass s.session k.turns) × (xs ≡ []))) (sym (rounds_are p)) on.ticked;
       }
 
+  session_passes : (p : ℕ) (s : RunningSession) (o : Option GraftIds) → RunsAt f.places.items p s o
+      → (MayPass s.session k.turns × (rounds_on p events ≡ k.turns ∷ [])) ⊎ ((¬ MayPass s.session k.turns) × (rounds_on p events ≡ []))
+  session_passes p s o before =
+      let start : place_at a.places.items p ≡ Live s o = ap (λ (x : Fields). place_at x.places.items p) counted ∙ before.is in
+      let round : b.turns ≡ k.turns = ap (λ (x : Fields). x.turns) b_same ∙ sym (ap (λ (x : Fields). x.turns) k_same) in
+      let passes : PlaceGoes (PassesWhereItMay k.turns (rounds_on p rounds.events)) (place_at b.places.items p) (place_at c.places.items p) =
+      subst (λ (n : ℕ). PlaceGoes (PassesWhereItMay n (rounds_on p rounds.events)) (place_at b.places.items p) (place_at c.places.items p)) round (rounds.places p) in
+      let (s1, b_is, level) = subst (λ (x : Place). PlaceGoes IsLevel x (place_at b.places.items p)) start (again.places p) in
+      let (s2, c_is, passed) = subst (λ (x : Place). PlaceGoes (PassesWhereItMay k.turns (rounds_on p rounds.events)) x (place_at c.places.items p)) b_is passes in
+      subst (λ (xs : List ℕ). (MayPass s.session k.turns × (xs ≡ k.turns ∷ [])) ⊎ ((¬ MayPass s.session k.turns) × (xs ≡ []))) (sym (rounds_are p))
+      (level_rounds k.turns (rounds_on p rounds.events) s s1 s2 level passed.1)
+
   -- at the end
   same_setup : g.known.setup ≡ f.known.setup
   same_setup = ap (λ (x : Fields). x.known.setup) g_same
@@ -307,6 +319,7 @@ module _ (f a b c d e g h k : Fields) (p0 p1 p2 p3 p4 p5 p6 p7 : Post (Item Runn
         in_order = in_order;
         rested = rested;
         few = λ p. (again_few (place_at a.places.items p), answer_few (place_at h.places.items p));
+        passes = session_passes;
         sessions = session_turns;
       };
     };

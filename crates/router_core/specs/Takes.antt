@@ -13,6 +13,7 @@ use Rattle.graft_actors.specs.Emissions.{Tally}
 use Rattle.router_core.specs.Parts.{router_part, own_part, carried, Keeps}
 use Rattle.router_core.specs.Places.{RunsAt}
 use Rattle.router_core.specs.Rounds.{AreOf, RouterRound, SameRouter}
+use Rattle.router_core.specs.Turned.{NoPuts, NoRounds}
 use Rattle.router_core.specs.declared.fields.Fields.{Fields}
 
 -- The session of a peering that stays live through a take emits nothing, and its retransmission turn is what it was.
@@ -21,11 +22,13 @@ pub record Stays (old new : RunningSession) : Type 0 where
   pub emitted : new.session.end.emitted ≡ old.session.end.emitted
   pub at_turn : new.acked_at_turn ≡ old.acked_at_turn
 
--- The events of a take of an item that is welcome, and the sessions that stay.
+-- The events of a take of an item that is welcome, in which no round passes and nothing is put, and the sessions that stay.
 pub record TakesRows (old : Fields) (deeds : List (Deed (Item RunningSession))) (new : Fields) : Type 0 where
   pub events : List RouterEvent
   pub coded : AreOf events deeds
   pub round : (t : ℕ → Tally) → RouterRound old.known.setup old.number.0 (router_part old) t events (router_part new) t
+  pub no_rounds : NoRounds events
+  pub no_puts : NoPuts events
   pub stays : (p : ℕ) (s u : RunningSession) (o q : Option GraftIds) → RunsAt old.places.items p s o → RunsAt new.places.items p u q → Stays s u
 
 pub record Took (old : Fields) (from : ℕ) (item : Item RunningSession) (deeds : List (Deed (Item RunningSession))) (new : Fields) : Type 0 where

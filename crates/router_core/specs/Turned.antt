@@ -64,6 +64,9 @@ pub record Turned (old : Fields) (deeds : List (Deed (Item RunningSession))) (ne
   pub in_order : TicksFirst events
   pub rested : RestedRouter old.known.setup old.number.0 (router_part new)
   pub few : (p : ℕ) → ((tally p).again ≤ 1) × ((tally p).answers ≤ 1)
+  -- one round passes on each session that runs at the start, where one may, and else none
+  pub passes : (p : ℕ) (s : RunningSession) (o : Option GraftIds) → RunsAt old.places.items p s o
+      → (MayPass s.session new.turns × (rounds_on p events ≡ new.turns ∷ [])) ⊎ ((¬ MayPass s.session new.turns) × (rounds_on p events ≡ []))
   pub sessions : (p : ℕ) (s u : RunningSession) (o q : Option GraftIds) → RunsAt old.places.items p s o → RunsAt new.places.items p u q → TurnsSession new.turns p events (tally p) s u
 
 -- a turn, after which the router is sound
