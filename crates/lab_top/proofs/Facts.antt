@@ -6,20 +6,22 @@ use Rattle.std.proofs.lemmas.Bool.Decides.{nat_tests}
 use Rattle.graft_edge.specs.Outside.{FaultRose, Took, TookSome, IsAtEnd, Appended, AppendedFront}
 use Rattle.lab_tables.specs.declared.input.LabInput.{LabInput}
 use Rattle.lab_input.specs.declared.bad.BadInput.{BadInput}
-use Rattle.lab_input.specs.Labs.{input_of, too_long}
-use Rattle.lab_words.specs.declared.job.Job.TheVariants.{Run, Check, Make}
+use Rattle.lab_input.specs.Labs.{input_of, InputOf, too_long}
+use Rattle.lab_words.specs.declared.job.Job.TheVariants.{Run, Check, Make, Drill, Journal}
 use Rattle.lab_words.specs.Asked.{usage_text, Asks}
 use Rattle.lab_make.specs.Made.{made}
 use Rattle.lab_report.specs.declared.lab.Lab.{Lab}
 use Rattle.lab_report.specs.declared.lab.RunEnd.{RunEnd}
 use Rattle.lab_report.specs.declared.lab.RunEnd.TheVariants.{Settled, Unsettled, StreamFull, JournalFull}
+use Rattle.lab_report.specs.Journals.{journal_text}
 use Rattle.lab_report.specs.Report.{report_text}
+use Rattle.lab_report.specs.Summary.{summary_text}
 use Rattle.lab_run.specs.Runs.{RanLab}
-use Rattle.lab_top.specs.Ends.{AreRefused, AskToRun, AskToMake, Reads, TookInput, TookBadInput, IsStatus, Writes, Checks, end_status, verdict_text, verdict_status}
+use Rattle.lab_top.specs.Ends.{AreRefused, AskToRun, AskForJournal, RunsSource, AskToDrill, AskForLab, AskToMake, Reads, TookInput, GaveBadInput, IsStatus, Writes, WritesJournal, Checks, end_status, verdict_text, verdict_status}
 use Rattle.lab_top.specs.declared.finish.InputStop.{InputStop}
 use Rattle.lab_top.specs.declared.finish.InputStop.TheVariants as stops
-use Rattle.lab_top.specs.Cases.{Outside, ReadsOrStops, Cause, usage, makes, checks, refuses, runs, Ended, wrote, unread, no_memory}
-use Rattle.lab_top.proofs.Asking.{run_or_check, run_or_make, check_or_make, one_seed}
+use Rattle.lab_top.specs.Cases.{Outside, TookAll, Stops, Shows, shows_report, shows_journal, shows_summary, Cause, usage, makes, checks, refuses, drops, runs, Ended, wrote, unread, no_memory}
+use Rattle.lab_top.proofs.Asking.{letter_in, passed, against, is_report, is_journal, is_drill, is_check, is_make, is_lab, lab_passes, source_against, lab_against, none_run, one_seed, one_drill}
 
 -- ---- bytes
 
@@ -63,7 +65,8 @@ planned_by words left rest text planned lab (makes seed ask t p l) = inl p
 planned_by words left rest text planned lab (checks (Ok input) ask read t p l) = inl p
 planned_by words left rest text planned lab (checks (Err bad) ask read t p l) = inr (inr (inl p))
 planned_by words left rest text planned lab (refuses answer ask read why p l) = inr (inr (inl p))
-planned_by words left rest text planned lab (runs end ask read ran t p l) = subst Planned (sym p) (end_planned end.end)
+planned_by words left rest text planned lab (drops seed ask why p l) = inr (inr (inl p))
+planned_by words left rest text planned lab (runs end shows ran p l) = subst Planned (sym p) (end_planned end.end)
 
 status_by : (planned status : ℕ) → Planned planned → status ≡ planned → IsStatus status
 status_by planned status (inl p) e = inl (e ∙ p)
@@ -113,16 +116,23 @@ statuses words o n status lab (no_memory six same l) = inr (inr (inr (inr (inr (
 
 -- ---- the words are refused
 
+-- what is shown was asked for
+lab_shown : (words : List (List ℕ)) (left rest : Option (List ℕ)) (end : Lab) (text : List ℕ) → Shows words left rest end text → AskForLab words
+lab_shown words left rest end text (shows_report run read t) = inl (inl run)
+lab_shown words left rest end text (shows_journal ask bytes took is t) = inl (inr ask)
+lab_shown words left rest end text (shows_summary seed ask is t) = inr (seed, ask)
+
 told_usage : (words : List (List ℕ)) (left rest : Option (List ℕ)) (text : List ℕ) (planned : ℕ) (lab : Option Lab) → AreRefused words → Cause words left rest text planned lab
     → (text ≡ usage_text) × (planned ≡ 1)
 told_usage words left rest text planned lab none (usage refused t p l) = (t, p)
 told_usage words left rest text planned lab none (makes seed ask t p l) = absurd (none (Make seed) ask)
 told_usage words left rest text planned lab none (checks answer ask read t p l) = absurd (none Check ask)
-told_usage words left rest text planned lab none (refuses answer ask read why p l) = absurd (none (Run ask.0) ask.1)
-told_usage words left rest text planned lab none (runs end ask read ran t p l) = absurd (none (Run ask.0) ask.1)
+told_usage words left rest text planned lab none (refuses answer ask read why p l) = absurd (none_run words none (inl ask))
+told_usage words left rest text planned lab none (drops seed ask why p l) = absurd (none_run words none (inr (seed, ask)))
+told_usage words left rest text planned lab none (runs end shows ran p l) = absurd (none_run words none (lab_shown words left rest end text shows))
 
-none_read : (words : List (List ℕ)) → AreRefused words → AskToRun words ⊎ Asks words Check → ⊥
-none_read words none (inl run) = none (Run run.0) run.1
+none_read : (words : List (List ℕ)) → AreRefused words → RunsSource words ⊎ Asks words Check → ⊥
+none_read words none (inl run) = none_run words none (inl run)
 none_read words none (inr check) = none Check check
 
 pub usage_told : (words : List (List ℕ)) (o n : Outside) (status : ℕ) (lab : Option Lab) → Ended words o n status lab → AreRefused words → (status ≡ 6) ⊎ Wrote usage_text 1 o n status
@@ -138,7 +148,8 @@ refused_by words left rest text planned lab (makes seed ask t p l) one = absurd 
 refused_by words left rest text planned lab (checks (Ok input) ask read t p l) one = absurd (omega (arith, p))
 refused_by words left rest text planned lab (checks (Err bad) ask read t p l) one = absurd (omega (arith, p))
 refused_by words left rest text planned lab (refuses answer ask read why p l) one = absurd (omega arith)
-refused_by words left rest text planned lab (runs end ask read ran t p l) one = absurd (not_of_run 1 planned end.end refl p one)
+refused_by words left rest text planned lab (drops seed ask why p l) one = absurd (omega arith)
+refused_by words left rest text planned lab (runs end shows ran p l) one = absurd (not_of_run 1 planned end.end refl p one)
 
 pub refused : (words : List (List ℕ)) (o n : Outside) (status : ℕ) (lab : Option Lab) → Ended words o n status lab → status ≡ 1 → AreRefused words
 refused words o n status lab (wrote text planned cause (inl whole)) one = refused_by words o.left n.left text planned lab cause (sym whole.0 ∙ one)
@@ -152,13 +163,15 @@ told_made : (words : List (List ℕ)) (left rest : Option (List ℕ)) (text : Li
     → (text ≡ made seed) × (planned ≡ 0)
 told_made words left rest text planned lab seed make (usage none t p l) = absurd (none (Make seed) make)
 told_made words left rest text planned lab seed make (makes other ask t p l) = (t ∙ ap made (one_seed words other seed ask make), p)
-told_made words left rest text planned lab seed make (checks answer ask read t p l) = absurd (check_or_make words seed ask make)
-told_made words left rest text planned lab seed make (refuses answer ask read why p l) = absurd (run_or_make words ask.0 seed ask.1 make)
-told_made words left rest text planned lab seed make (runs end ask read ran t p l) = absurd (run_or_make words ask.0 seed ask.1 make)
+told_made words left rest text planned lab seed make (checks answer ask read t p l) = absurd (against words Check is_make refl ask (passed words (Make seed) is_make refl make))
+told_made words left rest text planned lab seed make (refuses answer ask read why p l) = absurd (lab_against words is_make refl refl refl (inl ask) (passed words (Make seed) is_make refl make))
+told_made words left rest text planned lab seed make (drops other ask why p l) = absurd (lab_against words is_make refl refl refl (inr (other, ask)) (passed words (Make seed) is_make refl make))
+told_made words left rest text planned lab seed make (runs end shows ran p l) =
+    absurd (lab_against words is_make refl refl refl (lab_shown words left rest end text shows) (passed words (Make seed) is_make refl make))
 
-make_reads : (words : List (List ℕ)) (seed : ℕ) → Asks words (Make seed) → AskToRun words ⊎ Asks words Check → ⊥
-make_reads words seed make (inl run) = run_or_make words run.0 seed run.1 make
-make_reads words seed make (inr check) = check_or_make words seed check make
+make_reads : (words : List (List ℕ)) (seed : ℕ) → Asks words (Make seed) → RunsSource words ⊎ Asks words Check → ⊥
+make_reads words seed make (inl run) = lab_against words is_make refl refl refl (inl run) (passed words (Make seed) is_make refl make)
+make_reads words seed make (inr check) = against words Check is_make refl check (passed words (Make seed) is_make refl make)
 
 pub made_told : (words : List (List ℕ)) (o n : Outside) (status : ℕ) (lab : Option Lab) → Ended words o n status lab → (seed : ℕ) → Asks words (Make seed) → (status ≡ 6) ⊎ Wrote (made seed) 0 o n status
 made_told words o n status lab (wrote text planned cause w) seed make =
@@ -174,10 +187,12 @@ Verdict left rest text planned = (answer : Result LabInput BadInput) × Reads le
 
 told_verdict : (words : List (List ℕ)) (left rest : Option (List ℕ)) (text : List ℕ) (planned : ℕ) (lab : Option Lab) → Asks words Check → Cause words left rest text planned lab → Verdict left rest text planned
 told_verdict words left rest text planned lab check (usage none t p l) = absurd (none Check check)
-told_verdict words left rest text planned lab check (makes seed ask t p l) = absurd (check_or_make words seed check ask)
+told_verdict words left rest text planned lab check (makes seed ask t p l) = absurd (against words (Make seed) is_check refl ask (passed words Check is_check refl check))
 told_verdict words left rest text planned lab check (checks answer ask read t p l) = (answer, read, t, p)
-told_verdict words left rest text planned lab check (refuses answer ask read why p l) = absurd (run_or_check words ask.0 ask.1 check)
-told_verdict words left rest text planned lab check (runs end ask read ran t p l) = absurd (run_or_check words ask.0 ask.1 check)
+told_verdict words left rest text planned lab check (refuses answer ask read why p l) = absurd (lab_against words is_check refl refl refl (inl ask) (passed words Check is_check refl check))
+told_verdict words left rest text planned lab check (drops seed ask why p l) = absurd (lab_against words is_check refl refl refl (inr (seed, ask)) (passed words Check is_check refl check))
+told_verdict words left rest text planned lab check (runs end shows ran p l) =
+    absurd (lab_against words is_check refl refl refl (lab_shown words left rest end text shows) (passed words Check is_check refl check))
 
 pub checked_told : (words : List (List ℕ)) (o n : Outside) (status : ℕ) (lab : Option Lab) → Ended words o n status lab → Asks words Check
     → (status ≡ 4) ⊎ (status ≡ 6) ⊎ Checks o.left n.left o.write_faults n.write_faults o.written n.written status
@@ -189,16 +204,17 @@ checked_told words o n status lab (no_memory six same l) check = inr (inl six)
 
 -- ---- an input is refused
 
-bad_by : (words : List (List ℕ)) (left rest : Option (List ℕ)) (text : List ℕ) (planned : ℕ) (lab : Option Lab) → Cause words left rest text planned lab → planned ≡ 2 → TookBadInput left rest text
+bad_by : (words : List (List ℕ)) (left rest : Option (List ℕ)) (text : List ℕ) (planned : ℕ) (lab : Option Lab) → Cause words left rest text planned lab → planned ≡ 2 → GaveBadInput words left rest text
 bad_by words left rest text planned lab (usage none t p l) two = absurd (omega arith)
 bad_by words left rest text planned lab (makes seed ask t p l) two = absurd (omega arith)
 bad_by words left rest text planned lab (checks (Ok input) ask read t p l) two = absurd (omega (arith, p))
-bad_by words left rest text planned lab (checks (Err bad) ask read t p l) two = record { answer = Err bad; read = read; why = t }
-bad_by words left rest text planned lab (refuses answer ask read why p l) two = record { answer = answer; read = read; why = why }
-bad_by words left rest text planned lab (runs end ask read ran t p l) two = absurd (not_of_run 2 planned end.end refl p two)
+bad_by words left rest text planned lab (checks (Err bad) ask read t p l) two = inl (record { answer = Err bad; read = read; why = t })
+bad_by words left rest text planned lab (refuses answer ask read why p l) two = inl (record { answer = answer; read = read; why = why })
+bad_by words left rest text planned lab (drops seed ask why p l) two = inr (seed, ask, why)
+bad_by words left rest text planned lab (runs end shows ran p l) two = absurd (not_of_run 2 planned end.end refl p two)
 
 pub bad_input : (words : List (List ℕ)) (o n : Outside) (status : ℕ) (lab : Option Lab) → Ended words o n status lab → status ≡ 2
-    → (text : List ℕ) × TookBadInput o.left n.left text × Appended o.written n.written text
+    → (text : List ℕ) × GaveBadInput words o.left n.left text × Appended o.written n.written text
 bad_input words o n status lab (wrote text planned cause (inl whole)) two = (text, bad_by words o.left n.left text planned lab cause (sym whole.0 ∙ two), whole.1)
 bad_input words o n status lab (wrote text planned cause (inr front)) two = let five = front.0 in absurd (omega arith)
 bad_input words o n status lab (unread ask four rose same l) two = absurd (omega arith)
@@ -207,16 +223,17 @@ bad_input words o n status lab (no_memory six same l) two = absurd (omega arith)
 none_or_some : (lab : Option Lab) (end : Lab) → lab ≡ None → lab ≡ Some end → ⊥
 none_or_some lab end none some = absurd (cc)
 
-bad_run : (words : List (List ℕ)) (left rest : Option (List ℕ)) (text : List ℕ) (planned : ℕ) (lab : Option Lab) → AskToRun words → lab ≡ None → Cause words left rest text planned lab
-    → (planned ≡ 2) × TookBadInput left rest text
-bad_run words left rest text planned lab run none (usage refused t p l) = absurd (refused (Run run.0) run.1)
-bad_run words left rest text planned lab run none (makes seed ask t p l) = absurd (run_or_make words run.0 seed run.1 ask)
-bad_run words left rest text planned lab run none (checks answer ask read t p l) = absurd (run_or_check words run.0 run.1 ask)
-bad_run words left rest text planned lab run none (refuses answer ask read why p l) = (p, record { answer = answer; read = read; why = why })
-bad_run words left rest text planned lab run none (runs end ask read ran t p l) = absurd (none_or_some lab end none l)
+bad_run : (words : List (List ℕ)) (left rest : Option (List ℕ)) (text : List ℕ) (planned : ℕ) (lab : Option Lab) → AskForLab words → lab ≡ None → Cause words left rest text planned lab
+    → (planned ≡ 2) × GaveBadInput words left rest text
+bad_run words left rest text planned lab run none (usage refused t p l) = absurd (none_run words refused run)
+bad_run words left rest text planned lab run none (makes seed ask t p l) = absurd (against words (Make seed) is_lab refl ask (lab_passes words run))
+bad_run words left rest text planned lab run none (checks answer ask read t p l) = absurd (against words Check is_lab refl ask (lab_passes words run))
+bad_run words left rest text planned lab run none (refuses answer ask read why p l) = (p, inl (record { answer = answer; read = read; why = why }))
+bad_run words left rest text planned lab run none (drops seed ask why p l) = (p, inr (seed, ask, why))
+bad_run words left rest text planned lab run none (runs end shows ran p l) = absurd (none_or_some lab end none l)
 
-pub bad_unwritten : (words : List (List ℕ)) (o n : Outside) (status : ℕ) (lab : Option Lab) → Ended words o n status lab → AskToRun words → status ≡ 5 → lab ≡ None
-    → (text : List ℕ) × TookBadInput o.left n.left text × AppendedFront o.written n.written text
+pub bad_unwritten : (words : List (List ℕ)) (o n : Outside) (status : ℕ) (lab : Option Lab) → Ended words o n status lab → AskForLab words → status ≡ 5 → lab ≡ None
+    → (text : List ℕ) × GaveBadInput words o.left n.left text × AppendedFront o.written n.written text
 bad_unwritten words o n status lab (wrote text planned cause (inl whole)) run five none =
     let bad = bad_run words o.left n.left text planned lab run none cause in
     let same = whole.0 in let two = bad.0 in absurd (omega arith)
@@ -260,11 +277,11 @@ Under status = (status ≡ 0) ⊎ (status ≡ 3) ⊎ (status ≡ 5) ⊎ (status 
 
 -- what is known of a run that came to its end
 pub record Came (words : List (List ℕ)) (o n : Outside) (status : ℕ) (end : Lab) : Type 0 where
-  pub asked : AskToRun words
+  pub text : List ℕ
+  pub shows : Shows words o.left n.left end text
   pub under : Under status
-  pub input : TookInput o.left n.left end.input
   pub ran : RanLab end
-  pub wrote : Wrote (report_text end) (end_status end.end) o n status
+  pub wrote : Wrote text (end_status end.end) o n status
 
 under_by : (text : List ℕ) (end : RunEnd) (o n : Outside) (status : ℕ) → Wrote text (end_status end) o n status → Under status
 under_by text Settled o n status (inl whole) = inl whole.0
@@ -279,11 +296,12 @@ came_by words o n text planned status lab end some (usage none t p l) w = absurd
 came_by words o n text planned status lab end some (makes seed ask t p l) w = absurd (none_or_some lab end l some)
 came_by words o n text planned status lab end some (checks answer ask read t p l) w = absurd (none_or_some lab end l some)
 came_by words o n text planned status lab end some (refuses answer ask read why p l) w = absurd (none_or_some lab end l some)
-came_by words o n text planned status lab end some (runs other ask read ran t p l) w =
+came_by words o n text planned status lab end some (drops seed ask why p l) w = absurd (none_or_some lab end l some)
+came_by words o n text planned status lab end some (runs other shows ran p l) w =
     let found : Some other ≡ Some end = sym l ∙ some in
     let same : other ≡ end = cc in
-    let told = retold text (report_text other) planned (end_status other.end) o n status t p w in
-    let came : Came words o n status other = record { asked = ask; under = under_by (report_text other) other.end o n status told; input = took_input o.left n.left other.input read; ran = ran; wrote = told } in
+    let told : Wrote text (end_status other.end) o n status = subst (λ k. Wrote text k o n status) p w in
+    let came : Came words o n status other = record { text = text; shows = shows; under = under_by text other.end o n status told; ran = ran; wrote = told } in
     subst (λ e. Came words o n status e) same came
 
 came : (words : List (List ℕ)) (o n : Outside) (status : ℕ) (lab : Option Lab) (end : Lab) → lab ≡ Some end → Ended words o n status lab → Came words o n status end
@@ -291,51 +309,110 @@ came words o n status lab end some (wrote text planned cause w) = came_by words 
 came words o n status lab end some (unread ask four rose same l) = absurd (none_or_some lab end l some)
 came words o n status lab end some (no_memory six same l) = absurd (none_or_some lab end l some)
 
-pub ran : (words : List (List ℕ)) (o n : Outside) (status : ℕ) (lab : Option Lab) → Ended words o n status lab → OnSome lab (AskToRun words × Under status)
+pub ran : (words : List (List ℕ)) (o n : Outside) (status : ℕ) (lab : Option Lab) → Ended words o n status lab → OnSome lab (AskForLab words × Under status)
 ran words o n status None ended = tt
-ran words o n status (Some end) ended = let c = came words o n status (Some end) end refl ended in (c.asked, c.under)
-
-pub input_taken : (words : List (List ℕ)) (o n : Outside) (status : ℕ) (lab : Option Lab) → Ended words o n status lab → IfSome lab (λ end. TookInput o.left n.left end.input)
-input_taken words o n status None ended = tt
-input_taken words o n status (Some end) ended = (came words o n status (Some end) end refl ended).input
+ran words o n status (Some end) ended = let c = came words o n status (Some end) end refl ended in (lab_shown words o.left n.left end c.text c.shows, c.under)
 
 pub headline : (words : List (List ℕ)) (o n : Outside) (status : ℕ) (lab : Option Lab) → Ended words o n status lab → IfSome lab RanLab
 headline words o n status None ended = tt
 headline words o n status (Some end) ended = (came words o n status (Some end) end refl ended).ran
 
-pub reported : (words : List (List ℕ)) (o n : Outside) (status : ℕ) (lab : Option Lab) → Ended words o n status lab → IfSome lab (λ end. Wrote (report_text end) (end_status end.end) o n status)
+-- ---- what was run
+
+input_by : (words : List (List ℕ)) (left rest : Option (List ℕ)) (end : Lab) (text : List ℕ) → Shows words left rest end text → RunsSource words → TookInput left rest end.input
+input_by words left rest end text (shows_report run read t) ask = took_input left rest end.input read
+input_by words left rest end text (shows_journal run bytes took is t) ask = record { bytes = bytes; took = took.took; end = took.end; is = is }
+input_by words left rest end text (shows_summary seed drill is t) ask = absurd (source_against words is_drill refl refl ask (passed words (Drill seed drill.0) is_drill refl drill.1))
+
+pub input_taken : (words : List (List ℕ)) (o n : Outside) (status : ℕ) (lab : Option Lab) → Ended words o n status lab → IfSome lab (λ end. RunsSource words → TookInput o.left n.left end.input)
+input_taken words o n status None ended = tt
+input_taken words o n status (Some end) ended = let c = came words o n status (Some end) end refl ended in input_by words o.left n.left end c.text c.shows
+
+seed_by : (words : List (List ℕ)) (left rest : Option (List ℕ)) (end : Lab) (text : List ℕ) → Shows words left rest end text → (seed : ℕ) → AskToDrill words seed → InputOf (made seed) end.input
+seed_by words left rest end text (shows_report run read t) seed drill = absurd (against words (Run run.0) is_drill refl run.1 (passed words (Drill seed drill.0) is_drill refl drill.1))
+seed_by words left rest end text (shows_journal run bytes took is t) seed drill = absurd (against words (Journal run.0) is_drill refl run.1 (passed words (Drill seed drill.0) is_drill refl drill.1))
+seed_by words left rest end text (shows_summary other ask is t) seed drill = subst (λ s. InputOf (made s) end.input) (one_drill words other seed ask drill) is
+
+pub drilled : (words : List (List ℕ)) (o n : Outside) (status : ℕ) (lab : Option Lab) → Ended words o n status lab → IfSome lab (λ end. (seed : ℕ) → AskToDrill words seed → InputOf (made seed) end.input)
+drilled words o n status None ended = tt
+drilled words o n status (Some end) ended = let c = came words o n status (Some end) end refl ended in seed_by words o.left n.left end c.text c.shows
+
+-- ---- what was written
+
+report_by : (words : List (List ℕ)) (left rest : Option (List ℕ)) (end : Lab) (text : List ℕ) → Shows words left rest end text → AskToRun words → text ≡ report_text end
+report_by words left rest end text (shows_report run read t) ask = t
+report_by words left rest end text (shows_journal run bytes took is t) ask = absurd (against words (Journal run.0) is_report refl run.1 (passed words (Run ask.0) is_report refl ask.1))
+report_by words left rest end text (shows_summary seed drill is t) ask = absurd (against words (Drill seed drill.0) is_report refl drill.1 (passed words (Run ask.0) is_report refl ask.1))
+
+pub reported : (words : List (List ℕ)) (o n : Outside) (status : ℕ) (lab : Option Lab) → Ended words o n status lab
+    → IfSome lab (λ end. AskToRun words → Wrote (report_text end) (end_status end.end) o n status)
 reported words o n status None ended = tt
-reported words o n status (Some end) ended = (came words o n status (Some end) end refl ended).wrote
+reported words o n status (Some end) ended ask =
+    let c = came words o n status (Some end) end refl ended in
+    subst (λ t. Wrote t (end_status end.end) o n status) (report_by words o.left n.left end c.text c.shows ask) c.wrote
+
+drill_against : (words : List (List ℕ)) → ((seed : ℕ) × AskToDrill words seed) → (test : ℕ → Bool) → test 100 ≡ false → test (letter_in words) ≡ true → ⊥
+drill_against words drill test no is = against words (Drill drill.0 drill.1.0) test no drill.1.1 is
+
+summary_by : (words : List (List ℕ)) (left rest : Option (List ℕ)) (end : Lab) (text : List ℕ) → Shows words left rest end text → ((seed : ℕ) × AskToDrill words seed) → text ≡ summary_text end
+summary_by words left rest end text (shows_report run read t) ask = absurd (drill_against words ask is_report refl (passed words (Run run.0) is_report refl run.1))
+summary_by words left rest end text (shows_journal run bytes took is t) ask = absurd (drill_against words ask is_journal refl (passed words (Journal run.0) is_journal refl run.1))
+summary_by words left rest end text (shows_summary seed drill is t) ask = t
+
+pub summed : (words : List (List ℕ)) (o n : Outside) (status : ℕ) (lab : Option Lab) → Ended words o n status lab
+    → IfSome lab (λ end. ((seed : ℕ) × AskToDrill words seed) → Wrote (summary_text end) (end_status end.end) o n status)
+summed words o n status None ended = tt
+summed words o n status (Some end) ended ask =
+    let c = came words o n status (Some end) end refl ended in
+    subst (λ t. Wrote t (end_status end.end) o n status) (summary_by words o.left n.left end c.text c.shows ask) c.wrote
+
+journal_by : (words : List (List ℕ)) (o n : Outside) (status : ℕ) (end : Lab) (text : List ℕ) → Shows words o.left n.left end text → AskForJournal words → Wrote text (end_status end.end) o n status
+    → WritesJournal o.left n.left end o.write_faults n.write_faults o.written n.written status
+journal_by words o n status end text (shows_report run read t) ask w = absurd (against words (Run run.0) is_journal refl run.1 (passed words (Journal ask.0) is_journal refl ask.1))
+journal_by words o n status end text (shows_journal run bytes took is t) ask w =
+    record { bytes = bytes; took = took.took; end = took.end; is = is; wrote = subst (λ u. Wrote u (end_status end.end) o n status) t w }
+journal_by words o n status end text (shows_summary seed drill is t) ask w = absurd (against words (Drill seed drill.0) is_journal refl drill.1 (passed words (Journal ask.0) is_journal refl ask.1))
+
+pub journaled : (words : List (List ℕ)) (o n : Outside) (status : ℕ) (lab : Option Lab) → Ended words o n status lab
+    → IfSome lab (λ end. AskForJournal words → WritesJournal o.left n.left end o.write_faults n.write_faults o.written n.written status)
+journaled words o n status None ended = tt
+journaled words o n status (Some end) ended ask =
+    let c = came words o n status (Some end) end refl ended in
+    journal_by words o n status end c.text c.shows ask c.wrote
+
+-- ---- no run
 
 -- words that are refused, or ask for another job
 abbrev AskElse : List (List ℕ) → Type 0
 AskElse words = AreRefused words ⊎ AskToMake words ⊎ Asks words Check
 
-not_to_run : (words : List (List ℕ)) → AskElse words → AskToRun words → ⊥
-not_to_run words (inl none) run = none (Run run.0) run.1
-not_to_run words (inr (inl make)) run = run_or_make words run.0 make.0 run.1 make.1
-not_to_run words (inr (inr check)) run = run_or_check words run.0 run.1 check
+not_to_run : (words : List (List ℕ)) → AskElse words → AskForLab words → ⊥
+not_to_run words (inl none) run = none_run words none run
+not_to_run words (inr (inl make)) run = against words (Make make.0) is_lab refl make.1 (lab_passes words run)
+not_to_run words (inr (inr check)) run = against words Check is_lab refl check (lab_passes words run)
 
 no_run_by : (words : List (List ℕ)) (left rest : Option (List ℕ)) (text : List ℕ) (planned : ℕ) (lab : Option Lab) → AskElse words → Cause words left rest text planned lab → lab ≡ None
 no_run_by words left rest text planned lab other (usage none t p l) = l
 no_run_by words left rest text planned lab other (makes seed ask t p l) = l
 no_run_by words left rest text planned lab other (checks answer ask read t p l) = l
 no_run_by words left rest text planned lab other (refuses answer ask read why p l) = l
-no_run_by words left rest text planned lab other (runs end ask read ran t p l) = absurd (not_to_run words other ask)
+no_run_by words left rest text planned lab other (drops seed ask why p l) = l
+no_run_by words left rest text planned lab other (runs end shows ran p l) = absurd (not_to_run words other (lab_shown words left rest end text shows))
 
 pub no_run : (words : List (List ℕ)) (o n : Outside) (status : ℕ) (lab : Option Lab) → Ended words o n status lab → AskElse words → lab ≡ None
 no_run words o n status lab (wrote text planned cause w) other = no_run_by words o.left n.left text planned lab other cause
 no_run words o n status lab (unread ask four rose same l) other = l
 no_run words o n status lab (no_memory six same l) other = l
 
-some_by : (words : List (List ℕ)) (left rest : Option (List ℕ)) (text : List ℕ) (planned : ℕ) (lab : Option Lab) → AskToRun words → is_of_run planned ≡ true → Cause words left rest text planned lab → IsSome lab
-some_by words left rest text planned lab run is (usage none t p l) = absurd (none (Run run.0) run.1)
-some_by words left rest text planned lab run is (makes seed ask t p l) = absurd (run_or_make words run.0 seed run.1 ask)
-some_by words left rest text planned lab run is (checks answer ask read t p l) = absurd (run_or_check words run.0 run.1 ask)
+some_by : (words : List (List ℕ)) (left rest : Option (List ℕ)) (text : List ℕ) (planned : ℕ) (lab : Option Lab) → AskForLab words → is_of_run planned ≡ true → Cause words left rest text planned lab → IsSome lab
+some_by words left rest text planned lab run is (usage none t p l) = absurd (none_run words none run)
+some_by words left rest text planned lab run is (makes seed ask t p l) = absurd (against words (Make seed) is_lab refl ask (lab_passes words run))
+some_by words left rest text planned lab run is (checks answer ask read t p l) = absurd (against words Check is_lab refl ask (lab_passes words run))
 some_by words left rest text planned lab run is (refuses answer ask read why p l) = absurd (false≢true (sym (ap is_of_run p) ∙ is))
-some_by words left rest text planned lab run is (runs end ask read ran t p l) = subst (λ found. IsSome found) (sym l) refl
+some_by words left rest text planned lab run is (drops seed ask why p l) = absurd (false≢true (sym (ap is_of_run p) ∙ is))
+some_by words left rest text planned lab run is (runs end shows ran p l) = subst (λ found. IsSome found) (sym l) refl
 
-ended_under : (words : List (List ℕ)) (o n : Outside) (status : ℕ) (lab : Option Lab) → Ended words o n status lab → AskToRun words → is_of_run status ≡ true → IsSome lab
+ended_under : (words : List (List ℕ)) (o n : Outside) (status : ℕ) (lab : Option Lab) → Ended words o n status lab → AskForLab words → is_of_run status ≡ true → IsSome lab
 ended_under words o n status lab (wrote text planned cause (inl whole)) run is = some_by words o.left n.left text planned lab run (sym (ap is_of_run whole.0) ∙ is) cause
 ended_under words o n status lab (wrote text planned cause (inr front)) run is = absurd (false≢true (sym (ap is_of_run front.0) ∙ is))
 ended_under words o n status lab (unread ask four rose same l) run is = absurd (false≢true (sym (ap is_of_run four) ∙ is))
@@ -346,15 +423,15 @@ of_run status (inl e) = ap is_of_run e
 of_run status (inr (inl e)) = ap is_of_run e
 of_run status (inr (inr e)) = ap is_of_run e
 
-pub run_ended : (words : List (List ℕ)) (o n : Outside) (status : ℕ) (lab : Option Lab) → Ended words o n status lab → AskToRun words → (status ≡ 0) ⊎ (status ≡ 3) ⊎ (status ≡ 7) → IsSome lab
+pub run_ended : (words : List (List ℕ)) (o n : Outside) (status : ℕ) (lab : Option Lab) → Ended words o n status lab → AskForLab words → (status ≡ 0) ⊎ (status ≡ 3) ⊎ (status ≡ 7) → IsSome lab
 run_ended words o n status lab ended run is = ended_under words o n status lab ended run (of_run status is)
 
 -- ---- more bytes than an input has
 
 pub too_long_stops : (before after : Option (List ℕ)) (faults_before faults_after : ℕ) (stop : InputStop) → TookSome before after (λ n. 4194304 < n) → (stop ≡ stops.NoMemory) ⊎ (stop ≡ stops.Bad too_long)
-    → ReadsOrStops before after faults_before faults_after (Err stop)
+    → Stops before after faults_before faults_after stop
 too_long_stops before after faults_before faults_after stop took (inl none) =
-    subst (λ s. ReadsOrStops before after faults_before faults_after (Err s)) (sym none) tt
+    subst (λ s. Stops before after faults_before faults_after s) (sym none) tt
 too_long_stops before after faults_before faults_after stop took (inr bad) =
     let read : Reads before after (Err too_long) = record { bytes = took.0; took = took.2; enough = inr (took.1, refl); is = long_is_refused took.0 took.1 } in
-    subst (λ s. ReadsOrStops before after faults_before faults_after (Err s)) (sym bad) read
+    subst (λ s. Stops before after faults_before faults_after s) (sym bad) read

@@ -1,30 +1,34 @@
 -- How a job ends, of what its parts give.
-use Rattle.std.proofs.Common.{◌≡◌, ℕ, Bool, true, false, ◌==◌, ◌&&◌, List, length, inl, inr, refl, subst}
-use Rattle.std.specs.Prelude.{◌⊎◌, Option, None, Result, Ok, Err}
+use Rattle.std.proofs.Common.{◌≡◌, ℕ, Bool, true, false, ◌==◌, ◌&&◌, List, length, inl, inr, refl, sym, ap, ◌∙◌, subst}
+use Rattle.std.specs.Prelude.{◌⊎◌, Option, Some, None, Result, Ok, Err}
 use Rattle.std.specs.List.{list_all}
 use Rattle.std.proofs.lemmas.Bool.{false≢true}
+use Rattle.graft_edge.specs.Outside.{FaultRose}
 use Rattle.graft_edge.specs.declared.memory.NoMemory.{NoMemory}
 use Rattle.lab_tables.specs.declared.input.LabInput.{LabInput}
 use Rattle.lab_input.specs.declared.bad.BadInput.{BadInput}
+use Rattle.lab_input.specs.Labs.{input_of, InputOf}
 use Rattle.lab_words.specs.declared.job.Job.TheVariants.{Check, Make}
 use Rattle.lab_words.specs.Asked.{Asks}
 use Rattle.lab_make.specs.Made.{made}
 use Rattle.lab_report.specs.BadText.{bad_line}
 use Rattle.lab_report.specs.CheckText.{check_line}
 use Rattle.lab_report.specs.declared.lab.Lab.{Lab}
+use Rattle.lab_report.specs.Journals.{journal_text}
 use Rattle.lab_report.specs.Report.{report_text}
+use Rattle.lab_report.specs.Summary.{summary_text}
 use Rattle.lab_budgets.specs.Budgets.{moves_one}
 use Rattle.node_configs.specs.Accepted.{IsAccepted}
 use Rattle.lab_top.specs.Built.{takes_capsules, is_built}
-use Rattle.lab_top.specs.Ends.{AskToRun, Reads, Writes, end_status, not_built_text}
+use Rattle.lab_top.specs.Ends.{AskToRun, AskForJournal, RunsSource, AskToDrill, Reads, SaysWhy, Writes, end_status, not_built_text}
 use Rattle.lab_top.specs.declared.finish.Finish.{Finish}
 use Rattle.lab_top.specs.declared.finish.InputStop.{InputStop}
 use Rattle.lab_top.specs.declared.finish.InputStop.TheVariants as stops
-use Rattle.lab_top.specs.Cases.{Outside, ReadsOrStops, WritesOr, FailsUnread, FindsNone, RunsOr, StopsFor, makes, checks, refuses, runs, Ended, wrote, unread, EndsOr}
+use Rattle.lab_top.specs.Cases.{Outside, TookAll, Stops, ReadsOrStops, AnswersOrStops, WritesOr, FailsUnread, FindsNone, BuiltOr, EndsRun, EndsUnbuilt, StopsFor, shows_report, shows_journal, shows_summary, makes, checks, refuses, drops, runs, Ended, wrote, unread, EndsOr}
 
 -- jobs that read the source
 abbrev AskToRead : List (List ℕ) → Type 0
-AskToRead words = AskToRun words ⊎ Asks words Check
+AskToRead words = RunsSource words ⊎ Asks words Check
 
 -- ---- a source without an input
 
@@ -34,7 +38,7 @@ bad_ends words o n bad (Ok finish) (inl run) read w = wrote (bad_line bad) 2 (re
 bad_ends words o n bad (Ok finish) (inr check) read w = wrote (bad_line bad) 2 (checks (Err bad) check read refl refl w.0) w.1
 bad_ends words o n bad (Err e) ask read w = w
 
-failed_ends : (words : List (List ℕ)) (o n : Outside) (result : Result Finish NoMemory) → AskToRead words → ReadsOrStops o.left n.left o.read_faults n.read_faults (Err stops.Failed)
+failed_ends : (words : List (List ℕ)) (o n : Outside) (result : Result Finish NoMemory) → AskToRead words → FaultRose o.read_faults n.read_faults
     → FailsUnread o.written n.written result → EndsOr words o n result
 failed_ends words o n (Ok finish) ask rose is = unread ask is.1 rose is.2 is.0
 failed_ends words o n (Err e) ask rose is = absurd is
@@ -43,11 +47,27 @@ none_ends : (words : List (List ℕ)) (o n : Outside) (result : Result Finish No
 none_ends words o n (Ok finish) is = absurd is
 none_ends words o n (Err e) is = is
 
-pub stopped_ends : (words : List (List ℕ)) (o n : Outside) (stop : InputStop) (result : Result Finish NoMemory) → AskToRead words → ReadsOrStops o.left n.left o.read_faults n.read_faults (Err stop)
+pub stopped_ends : (words : List (List ℕ)) (o n : Outside) (stop : InputStop) (result : Result Finish NoMemory) → AskToRead words → Stops o.left n.left o.read_faults n.read_faults stop
     → StopsFor stop o.write_faults n.write_faults o.written n.written result → EndsOr words o n result
 stopped_ends words o n (stops.Bad bad) result ask read is = bad_ends words o n bad result ask read is
 stopped_ends words o n stops.Failed result ask rose is = failed_ends words o n result ask rose is
 stopped_ends words o n stops.NoMemory result ask read is = none_ends words o n result is
+
+-- ---- bytes that were taken
+
+pub reads_of : (before after : Option (List ℕ)) (bytes : List ℕ) (answer : Result LabInput BadInput) → TookAll before after bytes → input_of bytes ≡ answer → Reads before after answer
+reads_of before after bytes answer took is = record { bytes = bytes; took = took.took; enough = inl took.end; is = is }
+
+pub stops_of : (before after : Option (List ℕ)) (faults_before faults_after : ℕ) (bytes : List ℕ) (stop : InputStop) → TookAll before after bytes → AnswersOrStops (input_of bytes) (Err stop)
+    → Stops before after faults_before faults_after stop
+stops_of before after faults_before faults_after bytes (stops.Bad bad) took is = reads_of before after bytes (Err bad) took is
+stops_of before after faults_before faults_after bytes stops.Failed took is = absurd is
+stops_of before after faults_before faults_after bytes stops.NoMemory took is = tt
+
+pub reads_or_stops : (before after : Option (List ℕ)) (faults_before faults_after : ℕ) (bytes : List ℕ) (result : Result LabInput InputStop) → TookAll before after bytes
+    → AnswersOrStops (input_of bytes) result → ReadsOrStops before after faults_before faults_after result
+reads_or_stops before after faults_before faults_after bytes (Ok input) took is = reads_of before after bytes (Ok input) took is
+reads_or_stops before after faults_before faults_after bytes (Err stop) took is = stops_of before after faults_before faults_after bytes stop took is
 
 -- ---- a source with an input
 
@@ -60,12 +80,11 @@ pub checked_ends : (words : List (List ℕ)) (o n : Outside) (input : LabInput) 
     → text ≡ check_line input → lab ≡ None → Writes text 0 o.write_faults n.write_faults o.written n.written status → Ended words o n status lab
 checked_ends words o n input text status lab check read is none w = wrote text 0 (checks (Ok input) check read is refl none) w
 
-pub not_built_ends : (words : List (List ℕ)) (o n : Outside) (input : LabInput) (text : List ℕ) (status : ℕ) (lab : Option Lab) → AskToRun words → Reads o.left n.left (Ok input)
-    → is_built input ≡ false → text ≡ not_built_text → lab ≡ None → Writes text 2 o.write_faults n.write_faults o.written n.written status → Ended words o n status lab
-not_built_ends words o n input text status lab run read built is none w = wrote text 2 (refuses (Ok input) run read (built, is) refl none) w
-
 pub accepted_of : (before after : Option (List ℕ)) (input : LabInput) → Reads before after (Ok input) → IsAccepted input
 accepted_of before after input read = record { bytes = read.bytes; is = read.is }
+
+pub accepted_by : (bytes : List ℕ) (input : LabInput) → InputOf bytes input → IsAccepted input
+accepted_by bytes input is = record { bytes = bytes; is = is }
 
 both_right : (a b : Bool) → (a && b) ≡ true → b ≡ true
 both_right true b e = e
@@ -76,13 +95,48 @@ moves_of input built =
     let traces = length input.trace == 0 in
     both_right (traces && list_all takes_capsules input.routers) (list_all moves_one input.steps) built
 
-pub run_ends : (words : List (List ℕ)) (o n : Outside) (input : LabInput) (result : Result Finish NoMemory) → AskToRun words → Reads o.left n.left (Ok input)
-    → RunsOr input o.write_faults n.write_faults o.written n.written result → EndsOr words o n result
-run_ends words o n input (Ok finish) run read is =
-    let end = is.0 in
-    let its : Reads o.left n.left (Ok end.input) = rw is.2 read in
-    wrote (report_text end) (end_status end.end) (runs end run its is.3 refl refl is.1) is.4
-run_ends words o n input (Err e) run read is = is
+-- ---- runs of what was read
+
+pub unbuilt_ends : (words : List (List ℕ)) (o n : Outside) (input : LabInput) (finish : Finish) → RunsSource words → Reads o.left n.left (Ok input) → is_built input ≡ false
+    → EndsUnbuilt o.write_faults n.write_faults o.written n.written finish → Ended words o n finish.status finish.lab
+unbuilt_ends words o n input finish run read built end = wrote not_built_text 2 (refuses (Ok input) run read (built, refl) refl end.0) end.1
+
+pub report_ends : (words : List (List ℕ)) (o n : Outside) (input : LabInput) (lab : Lab) (text : List ℕ) (finish : Finish) → AskToRun words → Reads o.left n.left (Ok input) → BuiltOr input (Ok (Some lab))
+    → text ≡ report_text lab → EndsRun text lab o.write_faults n.write_faults o.written n.written finish → Ended words o n finish.status finish.lab
+report_ends words o n input lab text finish run read built same end =
+    let its : Reads o.left n.left (Ok lab.input) = rw built.0 read in
+    wrote text (end_status lab.end) (runs lab (shows_report run its same) built.1 refl end.0) end.1
+
+pub journal_ends : (words : List (List ℕ)) (o n : Outside) (bytes : List ℕ) (input : LabInput) (lab : Lab) (text : List ℕ) (finish : Finish) → AskForJournal words → TookAll o.left n.left bytes → InputOf bytes input
+    → BuiltOr input (Ok (Some lab)) → text ≡ journal_text bytes lab.journal → EndsRun text lab o.write_faults n.write_faults o.written n.written finish → Ended words o n finish.status finish.lab
+journal_ends words o n bytes input lab text finish ask took is built same end =
+    let its : InputOf bytes lab.input = rw built.0 is in
+    wrote text (end_status lab.end) (runs lab (shows_journal ask bytes took its same) built.1 refl end.0) end.1
+
+-- ---- runs of the laboratory of a seed
+
+pub drill_stopped : (words : List (List ℕ)) (o n : Outside) (seed : ℕ) (bytes : List ℕ) (stop : InputStop) (result : Result Finish NoMemory) → AskToDrill words seed → bytes ≡ made seed
+    → AnswersOrStops (input_of bytes) (Err stop) → StopsFor stop o.write_faults n.write_faults o.written n.written result → EndsOr words o n result
+drill_stopped words o n seed bytes (stops.Bad bad) (Ok finish) ask same is w =
+    let answer : input_of (made seed) ≡ Err bad = ap input_of (sym same) ∙ is in
+    let why : SaysWhy (input_of (made seed)) (bad_line bad) = rw answer refl in
+    wrote (bad_line bad) 2 (drops seed ask why refl w.0) w.1
+drill_stopped words o n seed bytes (stops.Bad bad) (Err e) ask same is w = w
+drill_stopped words o n seed bytes stops.Failed result ask same is w = absurd is
+drill_stopped words o n seed bytes stops.NoMemory result ask same is w = none_ends words o n result w
+
+pub drill_unbuilt : (words : List (List ℕ)) (o n : Outside) (seed : ℕ) (bytes : List ℕ) (input : LabInput) (finish : Finish) → AskToDrill words seed → bytes ≡ made seed → InputOf bytes input
+    → is_built input ≡ false → EndsUnbuilt o.write_faults n.write_faults o.written n.written finish → Ended words o n finish.status finish.lab
+drill_unbuilt words o n seed bytes input finish ask same is built end =
+    let answer : input_of (made seed) ≡ Ok input = ap input_of (sym same) ∙ is in
+    let why : SaysWhy (input_of (made seed)) not_built_text = rw answer (built, refl) in
+    wrote not_built_text 2 (drops seed ask why refl end.0) end.1
+
+pub summary_ends : (words : List (List ℕ)) (o n : Outside) (seed : ℕ) (bytes : List ℕ) (input : LabInput) (lab : Lab) (text : List ℕ) (finish : Finish) → AskToDrill words seed → bytes ≡ made seed → InputOf bytes input
+    → BuiltOr input (Ok (Some lab)) → text ≡ summary_text lab → EndsRun text lab o.write_faults n.write_faults o.written n.written finish → Ended words o n finish.status finish.lab
+summary_ends words o n seed bytes input lab text finish ask bytes_are is built same end =
+    let answer : InputOf (made seed) lab.input = ap input_of (sym bytes_are) ∙ is ∙ ap Ok (sym built.0) in
+    wrote text (end_status lab.end) (runs lab (shows_summary seed ask answer same) built.1 refl end.0) end.1
 
 -- ---- a laboratory is made
 

@@ -1,20 +1,24 @@
 -- How a command ends, case by case. `graft_main` says what holds of every end; here is what its parts give.
-use Rattle.std.specs.Prelude.{◌≡◌, ◌⊎◌, ℕ, List, Option, Some, None, Result, Ok, Err}
-use Rattle.graft_edge.specs.Outside.{FaultRose}
+use Rattle.std.specs.Prelude.{◌≡◌, ◌⊎◌, ℕ, List, false, Option, Some, None, Result, Ok, Err}
+use Rattle.graft_edge.specs.Outside.{FaultRose, Took, IsAtEnd}
 use Rattle.graft_edge.specs.declared.memory.NoMemory.{NoMemory}
 use Rattle.lab_tables.specs.declared.input.LabInput.{LabInput}
 use Rattle.lab_input.specs.declared.bad.BadInput.{BadInput}
+use Rattle.lab_input.specs.Labs.{input_of, InputOf}
 use Rattle.lab_words.specs.declared.job.Job.TheVariants.{Check, Make}
 use Rattle.lab_words.specs.Asked.{usage_text, Asks}
 use Rattle.lab_make.specs.Made.{made}
 use Rattle.lab_report.specs.BadText.{bad_line}
 use Rattle.lab_report.specs.declared.lab.Lab.{Lab}
+use Rattle.lab_report.specs.Journals.{journal_text}
 use Rattle.lab_report.specs.Report.{report_text}
+use Rattle.lab_report.specs.Summary.{summary_text}
 use Rattle.lab_run.specs.Runs.{RanLab}
 use Rattle.lab_top.specs.declared.finish.Finish.{Finish}
 use Rattle.lab_top.specs.declared.finish.InputStop.{InputStop}
 use Rattle.lab_top.specs.declared.finish.InputStop.TheVariants as stops
-use Rattle.lab_top.specs.Ends.{AreRefused, AskToRun, Reads, SaysWhy, Writes, end_status, verdict_text, verdict_status}
+use Rattle.lab_top.specs.Built.{is_built}
+use Rattle.lab_top.specs.Ends.{AreRefused, AskToRun, AskForJournal, RunsSource, AskToDrill, Reads, SaysWhy, Writes, end_status, not_built_text, verdict_text, verdict_status}
 
 -- what the source and the sink tell
 pub record Outside : Type 0 where
@@ -28,12 +32,33 @@ outside left read_faults written write_faults = record { left = left; read_fault
 
 -- ---- parts
 
--- The source is read as an input, or as none; or a read failed, or memory ran out.
+-- All bytes of a source were taken.
+pub record TookAll (before after : Option (List ℕ)) (bytes : List ℕ) : Type 0 where
+  pub took : Took before after bytes
+  pub end : IsAtEnd after
+
+-- Why a source gives no input: it has other bytes; or a read failed, or memory ran out.
+abbrev pub Stops : (before after : Option (List ℕ)) → (faults_before faults_after : ℕ) → InputStop → Type 0
+Stops before after faults_before faults_after (stops.Bad bad) = Reads before after (Err bad)
+Stops before after faults_before faults_after stops.Failed = FaultRose faults_before faults_after
+Stops before after faults_before faults_after stops.NoMemory = Unit {0}
+
+-- All bytes of the source, which may be an input.
+abbrev pub BytesOrStops : (before after : Option (List ℕ)) → (faults_before faults_after : ℕ) → Result (List ℕ) InputStop → Type 0
+BytesOrStops before after faults_before faults_after (Ok bytes) = TookAll before after bytes
+BytesOrStops before after faults_before faults_after (Err stop) = Stops before after faults_before faults_after stop
+
+-- The source is read as an input, or as none.
 abbrev pub ReadsOrStops : (before after : Option (List ℕ)) → (faults_before faults_after : ℕ) → Result LabInput InputStop → Type 0
 ReadsOrStops before after faults_before faults_after (Ok input) = Reads before after (Ok input)
-ReadsOrStops before after faults_before faults_after (Err (stops.Bad bad)) = Reads before after (Err bad)
-ReadsOrStops before after faults_before faults_after (Err stops.Failed) = FaultRose faults_before faults_after
-ReadsOrStops before after faults_before faults_after (Err stops.NoMemory) = Unit {0}
+ReadsOrStops before after faults_before faults_after (Err stop) = Stops before after faults_before faults_after stop
+
+-- Bytes are read as what they are; or memory ran out.
+abbrev pub AnswersOrStops : Result LabInput BadInput → Result LabInput InputStop → Type 0
+AnswersOrStops answer (Ok input) = answer ≡ Ok input
+AnswersOrStops answer (Err (stops.Bad bad)) = answer ≡ Err bad
+AnswersOrStops answer (Err stops.Failed) = ⊥
+AnswersOrStops answer (Err stops.NoMemory) = Unit {0}
 
 -- A text is written under its status, without a run; or memory ran out before.
 abbrev pub WritesOr : (text : List ℕ) → (planned : ℕ) → (faults_before faults_after : ℕ) → (before after : Option (List ℕ)) → Result Finish NoMemory → Type 0
@@ -48,11 +73,19 @@ abbrev pub FindsNone : (before after : Option (List ℕ)) → Result Finish NoMe
 FindsNone before after (Ok finish) = ⊥
 FindsNone before after (Err _) = after ≡ before
 
--- An input was run, and the report written; or memory ran out before.
-abbrev pub RunsOr : LabInput → (faults_before faults_after : ℕ) → (before after : Option (List ℕ)) → Result Finish NoMemory → Type 0
-RunsOr input faults_before faults_after before after (Ok finish) =
-    (end : Lab) × (finish.lab ≡ Some end) × (end.input ≡ input) × RanLab end × Writes (report_text end) (end_status end.end) faults_before faults_after before after finish.status
-RunsOr input faults_before faults_after before after (Err _) = after ≡ before
+-- An input was run, where the program can run it; or memory ran out.
+abbrev pub BuiltOr : LabInput → Result (Option Lab) NoMemory → Type 0
+BuiltOr input (Ok None) = is_built input ≡ false
+BuiltOr input (Ok (Some lab)) = (lab.input ≡ input) × RanLab lab
+BuiltOr input (Err _) = Unit {0}
+
+-- A text of a run is written under the status of its end.
+abbrev pub EndsRun : (text : List ℕ) → Lab → (faults_before faults_after : ℕ) → (before after : Option (List ℕ)) → Finish → Type 0
+EndsRun text lab faults_before faults_after before after finish = (finish.lab ≡ Some lab) × Writes text (end_status lab.end) faults_before faults_after before after finish.status
+
+-- What can't be run yet is refused.
+abbrev pub EndsUnbuilt : (faults_before faults_after : ℕ) → (before after : Option (List ℕ)) → Finish → Type 0
+EndsUnbuilt faults_before faults_after before after finish = (finish.lab ≡ None) × Writes not_built_text 2 faults_before faults_after before after finish.status
 
 -- A job ends whose source gave no input.
 abbrev pub StopsFor : InputStop → (faults_before faults_after : ℕ) → (before after : Option (List ℕ)) → Result Finish NoMemory → Type 0
@@ -62,22 +95,28 @@ StopsFor stops.NoMemory faults_before faults_after before after end = FindsNone 
 
 -- ---- ends
 
+-- What was run, and which text of the run it is: the report of what was read, its journal behind the bytes that were read, or the summary of a seed's laboratory.
+pub data Shows (words : List (List ℕ)) (left_before left_after : Option (List ℕ)) (end : Lab) (text : List ℕ) : Type 0 where
+  shows_report : AskToRun words → Reads left_before left_after (Ok end.input) → text ≡ report_text end → Shows words left_before left_after end text
+  shows_journal : AskForJournal words → (bytes : List ℕ) → TookAll left_before left_after bytes → InputOf bytes end.input → text ≡ journal_text bytes end.journal → Shows words left_before left_after end text
+  shows_summary : (seed : ℕ) → AskToDrill words seed → InputOf (made seed) end.input → text ≡ summary_text end → Shows words left_before left_after end text
+
 -- The text that is written under a planned status, and its cause.
 pub data Cause (words : List (List ℕ)) (left_before left_after : Option (List ℕ)) (text : List ℕ) (planned : ℕ) (lab : Option Lab) : Type 0 where
   usage : AreRefused words → text ≡ usage_text → planned ≡ 1 → lab ≡ None → Cause words left_before left_after text planned lab
   makes : (seed : ℕ) → Asks words (Make seed) → text ≡ made seed → planned ≡ 0 → lab ≡ None → Cause words left_before left_after text planned lab
   checks : (answer : Result LabInput BadInput) → Asks words Check → Reads left_before left_after answer → text ≡ verdict_text answer → planned ≡ verdict_status answer → lab ≡ None
       → Cause words left_before left_after text planned lab
-  refuses : (answer : Result LabInput BadInput) → AskToRun words → Reads left_before left_after answer → SaysWhy answer text → planned ≡ 2 → lab ≡ None
+  refuses : (answer : Result LabInput BadInput) → RunsSource words → Reads left_before left_after answer → SaysWhy answer text → planned ≡ 2 → lab ≡ None
       → Cause words left_before left_after text planned lab
-  runs : (end : Lab) → AskToRun words → Reads left_before left_after (Ok end.input) → RanLab end → text ≡ report_text end → planned ≡ end_status end.end → lab ≡ Some end
-      → Cause words left_before left_after text planned lab
+  drops : (seed : ℕ) → AskToDrill words seed → SaysWhy (input_of (made seed)) text → planned ≡ 2 → lab ≡ None → Cause words left_before left_after text planned lab
+  runs : (end : Lab) → Shows words left_before left_after end text → RanLab end → planned ≡ end_status end.end → lab ≡ Some end → Cause words left_before left_after text planned lab
 
 -- A text was written, whole or in part; or a read failed; or memory ran out.
 pub data Ended (words : List (List ℕ)) (before after : Outside) (status : ℕ) (lab : Option Lab) : Type 0 where
   wrote : (text : List ℕ) (planned : ℕ) → Cause words before.left after.left text planned lab
       → Writes text planned before.write_faults after.write_faults before.written after.written status → Ended words before after status lab
-  unread : AskToRun words ⊎ Asks words Check → status ≡ 4 → FaultRose before.read_faults after.read_faults → after.written ≡ before.written → lab ≡ None → Ended words before after status lab
+  unread : RunsSource words ⊎ Asks words Check → status ≡ 4 → FaultRose before.read_faults after.read_faults → after.written ≡ before.written → lab ≡ None → Ended words before after status lab
   no_memory : status ≡ 6 → after.written ≡ before.written → lab ≡ None → Ended words before after status lab
 
 -- The command ended; or memory ran out before anything was written.

@@ -6,12 +6,15 @@ use Rattle.lab_input.specs.declared.bad.BadInput.{BadInput}
 use Rattle.lab_top.specs.Built.{is_built}
 use Rattle.lab_input.specs.Labs.{input_of, InputOf, too_long}
 use Rattle.lab_words.specs.declared.job.Job.{Job}
-use Rattle.lab_words.specs.declared.job.Job.TheVariants.{Run, Make}
+use Rattle.lab_words.specs.declared.job.Job.TheVariants.{Run, Make, Drill, Journal}
 use Rattle.lab_words.specs.Asked.{Asks}
+use Rattle.lab_make.specs.Made.{made}
+use Rattle.lab_report.specs.declared.lab.Lab.{Lab}
 use Rattle.lab_report.specs.declared.lab.RunEnd.{RunEnd}
 use Rattle.lab_report.specs.declared.lab.RunEnd.TheVariants.{Settled, Unsettled, StreamFull, JournalFull}
 use Rattle.lab_report.specs.BadText.{bad_line}
 use Rattle.lab_report.specs.CheckText.{check_line}
+use Rattle.lab_report.specs.Journals.{journal_text}
 
 -- ---- words
 
@@ -19,13 +22,33 @@ use Rattle.lab_report.specs.CheckText.{check_line}
 abbrev pub AreRefused : List (List ℕ) → Type 0
 AreRefused words = (job : Job) → ¬ (Asks words job)
 
--- They ask for a run, by some number of workers.
+-- They ask for the report of a run, by some number of workers.
 abbrev pub AskToRun : List (List ℕ) → Type 0
 AskToRun words = (workers : ℕ) × Asks words (Run workers)
+
+-- They ask for its journal.
+abbrev pub AskForJournal : List (List ℕ) → Type 0
+AskForJournal words = (workers : ℕ) × Asks words (Journal workers)
+
+-- They ask for a run of what the source has.
+abbrev pub RunsSource : List (List ℕ) → Type 0
+RunsSource words = AskToRun words ⊎ AskForJournal words
+
+-- They ask for a run of the laboratory of this seed.
+abbrev pub AskToDrill : List (List ℕ) → ℕ → Type 0
+AskToDrill words seed = (workers : ℕ) × Asks words (Drill seed workers)
+
+-- They ask for a run.
+abbrev pub AskForLab : List (List ℕ) → Type 0
+AskForLab words = RunsSource words ⊎ ((seed : ℕ) × AskToDrill words seed)
 
 -- They ask for the laboratory of some seed.
 abbrev pub AskToMake : List (List ℕ) → Type 0
 AskToMake words = (seed : ℕ) × Asks words (Make seed)
+
+-- The source isn't read for them.
+abbrev pub AskUnread : List (List ℕ) → Type 0
+AskUnread words = AreRefused words ⊎ AskToMake words ⊎ ((seed : ℕ) × AskToDrill words seed)
 
 -- ---- the source
 
@@ -56,6 +79,10 @@ pub record TookBadInput (before after : Option (List ℕ)) (text : List ℕ) : T
   pub answer : Result LabInput BadInput
   pub read : Reads before after answer
   pub why : SaysWhy answer text
+
+-- What is to be checked or run is none, for the reason that the text says: what was taken from a source, or the laboratory of a seed.
+abbrev pub GaveBadInput : (words : List (List ℕ)) → (before after : Option (List ℕ)) → (text : List ℕ) → Type 0
+GaveBadInput words before after text = TookBadInput before after text ⊎ ((seed : ℕ) × AskToDrill words seed × SaysWhy (input_of (made seed)) text)
 
 -- ---- the sink
 
@@ -89,3 +116,11 @@ pub record Checks (left_before left_after : Option (List ℕ)) (faults_before fa
   pub answer : Result LabInput BadInput
   pub read : Reads left_before left_after answer
   pub wrote : Writes (verdict_text answer) (verdict_status answer) faults_before faults_after before after status
+
+-- All bytes of a source were taken, are the input that was run, and were written with the journal of the run behind them.
+pub record WritesJournal (left_before left_after : Option (List ℕ)) (lab : Lab) (faults_before faults_after : ℕ) (before after : Option (List ℕ)) (status : ℕ) : Type 0 where
+  pub bytes : List ℕ
+  pub took : Took left_before left_after bytes
+  pub end : IsAtEnd left_after
+  pub is : InputOf bytes lab.input
+  pub wrote : Writes (journal_text bytes lab.journal) (end_status lab.end) faults_before faults_after before after status

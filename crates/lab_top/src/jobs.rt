@@ -1,23 +1,22 @@
 //! What each job does.
 
-ghost use Rattle.std.specs.Prelude.{◌≡◌, ◌⊎◌, ◌≤◌, ◌<◌, ℕ, List, Err, true};
+ghost use Rattle.std.specs.Prelude.{◌≡◌, ◌⊎◌, ◌≤◌, ◌<◌, ℕ, List, Option};
 ghost use Rattle.lab_words.specs.declared.job.Job.TheVariants.{Check};
 ghost use Rattle.lab_words.specs.Asked.{Asks};
 ghost use Rattle.lab_make.specs.Made.{made};
-ghost use Rattle.lab_input.specs.Labs.{too_long as too_long_bad};
+ghost use Rattle.lab_input.specs.Labs.{input_of, too_long as too_long_bad};
 ghost use Rattle.node_configs.specs.Accepted.{IsAccepted};
-ghost use Rattle.lab_top.specs.Built.{is_built as is_built_lem};
-ghost use Rattle.lab_top.specs.Ends.{AskToRun, end_status};
-ghost use Rattle.lab_top.specs.Cases.{outside, ReadsOrStops, WritesOr, RunsOr, StopsFor, EndsOr};
+ghost use Rattle.lab_top.specs.Ends.{AskToRun, AskForJournal, AskToDrill, end_status};
+ghost use Rattle.lab_top.specs.Cases.{outside, BytesOrStops, ReadsOrStops, AnswersOrStops, WritesOr, BuiltOr, EndsRun, EndsUnbuilt, StopsFor, EndsOr};
 
 use crate::built::is_built;
 use crate::finish::{
     BAD_INPUT, DONE, Finish, InputStop, LIMIT, READ_FAILED, UNSETTLED, end_with, without_run,
 };
-use graft_edge::{Gate, NoMemory, ReadStop, Sink, Source, read_all};
+use graft_edge::{Gate, NoMemory, Octets, ReadStop, Sink, Source, read_all};
 use lab_input::{LabInput, LabStop, MOST_BYTES, read_lab, too_long};
 use lab_make::make_lab;
-use lab_report::{RunEnd, bad_text, check_text, report};
+use lab_report::{Lab, RunEnd, bad_text, check_text, journal_text, report, summary};
 use lab_run::run_lab;
 use std::alloc::Global;
 use std::thread::Threads;
@@ -34,20 +33,36 @@ fn too_long_stop(alloc: Global) -> InputStop
     }
 }
 
+/// All bytes of a source, if there are no more than an input may have.
+fn read_bytes<S: Source>(alloc: Global, source: &mut S) -> Result<Octets, InputStop>
+    ensures { BytesOrStops (S.left source.old) (S.left source.new) (S.faults source.old) (S.faults source.new) result }
+{
+    match read_all(alloc, source, MOST_BYTES) {
+        Ok(bytes) => Ok(bytes),
+        Err(ReadStop::Failed) => Err(InputStop::Failed),
+        Err(ReadStop::TooLong) => Err(too_long_stop(alloc)),
+        Err(ReadStop::NoMemory) => Err(InputStop::NoMemory),
+    }
+}
+
+/// The input that the bytes are.
+fn input_in(alloc: Global, bytes: &[u8]) -> Result<LabInput, InputStop>
+    ensures { AnswersOrStops (input_of bytes.now) result }
+{
+    match read_lab(alloc, bytes) {
+        Ok(input) => Ok(input),
+        Err(LabStop::Bad(bad)) => Err(InputStop::Bad(bad)),
+        Err(LabStop::NoMemory) => Err(InputStop::NoMemory),
+    }
+}
+
 /// What the bytes of a source are read as.
 fn read_source<S: Source>(alloc: Global, source: &mut S) -> Result<LabInput, InputStop>
     ensures { ReadsOrStops (S.left source.old) (S.left source.new) (S.faults source.old) (S.faults source.new) result }
 {
-    let bytes = match read_all(alloc, source, MOST_BYTES) {
-        Ok(bytes) => bytes,
-        Err(ReadStop::Failed) => return Err(InputStop::Failed),
-        Err(ReadStop::TooLong) => return Err(too_long_stop(alloc)),
-        Err(ReadStop::NoMemory) => return Err(InputStop::NoMemory),
-    };
-    match read_lab(alloc, &bytes) {
-        Ok(input) => Ok(input),
-        Err(LabStop::Bad(bad)) => Err(InputStop::Bad(bad)),
-        Err(LabStop::NoMemory) => Err(InputStop::NoMemory),
+    match read_bytes(alloc, source) {
+        Ok(bytes) => input_in(alloc, &bytes),
+        Err(stop) => Err(stop),
     }
 }
 
@@ -76,23 +91,37 @@ fn status_of(end: RunEnd) -> u8
     }
 }
 
-/// Runs an input and writes the report.
-fn run_input<R: Threads + Sync + AllocGlobal, K: Sink, G: Gate>(
+/// Writes a text of a run under the status of its end.
+fn end_run<K: Sink>(sink: &mut K, text: &[u8], lab: Lab) -> Finish
+    ensures { EndsRun text.now lab (K.faults sink.old) (K.faults sink.new) (K.written sink.old) (K.written sink.new) result }
+{
+    let status = status_of(lab.end);
+    end_with(sink, text, status, Some(lab))
+}
+
+/// Refuses an input that can't be run yet.
+fn end_unbuilt<K: Sink>(sink: &mut K) -> Finish
+    ensures { EndsUnbuilt (K.faults sink.old) (K.faults sink.new) (K.written sink.old) (K.written sink.new) result }
+{
+    end_with(sink, NOT_BUILT_TEXT.as_bytes(), BAD_INPUT, None)
+}
+
+/// Runs an input, if the program can.
+fn run_built<R: Threads + Sync + AllocGlobal, G: Gate>(
     rt: &R,
     input: LabInput,
     workers: usize,
-    sink: &mut K,
     gate: &G,
-) -> Result<Finish, NoMemory>
+) -> Result<Option<Lab>, NoMemory>
     requires accepted { IsAccepted input }
-    requires built { is_built_lem input ≡ true }
     requires workers { (1 ≤ workers) × (workers ≤ 8) }
-    ensures { RunsOr input (K.faults sink.old) (K.faults sink.new) (K.written sink.old) (K.written sink.new) result }
+    ensures { BuiltOr input result }
 {
+    if !is_built(&input) {
+        return Ok(None);
+    }
     let lab = run_lab(rt, rt.alloc(), input, workers, gate)?;
-    let text = report(rt.alloc(), &lab)?;
-    let status = status_of(lab.end);
-    Ok(end_with(sink, text.as_bytes(), status, Some(lab)))
+    Ok(Some(lab))
 }
 
 /// Reads an input from the source, runs it and writes the report.
@@ -111,10 +140,70 @@ pub(crate) fn run_job<R: Threads + Sync + AllocGlobal, S: Source, K: Sink, G: Ga
         Ok(input) => input,
         Err(stop) => return end_stopped(alloc, sink, stop),
     };
-    if !is_built(&input) {
-        return Ok(end_with(sink, NOT_BUILT_TEXT.as_bytes(), BAD_INPUT, None));
+    match run_built(rt, input, workers, gate)? {
+        Some(lab) => {
+            let text = report(alloc, &lab)?;
+            Ok(end_run(sink, text.as_bytes(), lab))
+        }
+        None => Ok(end_unbuilt(sink)),
     }
-    run_input(rt, input, workers, sink, gate)
+}
+
+/// Reads an input from the source, runs it and writes it with its journal.
+pub(crate) fn journal_job<R: Threads + Sync + AllocGlobal, S: Source, K: Sink, G: Gate>(
+    rt: &R,
+    source: &mut S,
+    sink: &mut K,
+    workers: usize,
+    gate: &G,
+) -> Result<Finish, NoMemory>
+    requires workers { (1 ≤ workers) × (workers ≤ 8) }
+    ensures { (words : List (List ℕ)) → AskForJournal words → EndsOr words (outside (S.left source.old) (S.faults source.old) (K.written sink.old) (K.faults sink.old)) (outside (S.left source.new) (S.faults source.new) (K.written sink.new) (K.faults sink.new)) result }
+{
+    let alloc = rt.alloc();
+    let bytes = match read_bytes(alloc, source) {
+        Ok(bytes) => bytes,
+        Err(stop) => return end_stopped(alloc, sink, stop),
+    };
+    let input = match input_in(alloc, &bytes) {
+        Ok(input) => input,
+        Err(stop) => return end_stopped(alloc, sink, stop),
+    };
+    match run_built(rt, input, workers, gate)? {
+        Some(lab) => {
+            let text = journal_text(alloc, &bytes, lab.journal.as_slice())?;
+            Ok(end_run(sink, &text, lab))
+        }
+        None => Ok(end_unbuilt(sink)),
+    }
+}
+
+/// Runs the laboratory of a seed and writes the summary.
+pub(crate) fn drill_job<R: Threads + Sync + AllocGlobal, K: Sink, G: Gate>(
+    rt: &R,
+    sink: &mut K,
+    seed: u32,
+    workers: usize,
+    gate: &G,
+) -> Result<Finish, NoMemory>
+    requires lowest { 1 ≤ seed }
+    requires highest { seed ≤ 9999 }
+    requires workers { (1 ≤ workers) × (workers ≤ 8) }
+    ensures { (words : List (List ℕ)) (left : Option (List ℕ)) (faults : ℕ) → AskToDrill words seed → EndsOr words (outside left faults (K.written sink.old) (K.faults sink.old)) (outside left faults (K.written sink.new) (K.faults sink.new)) result }
+{
+    let alloc = rt.alloc();
+    let bytes = make_lab(alloc, seed)?;
+    let input = match input_in(alloc, &bytes) {
+        Ok(input) => input,
+        Err(stop) => return end_stopped(alloc, sink, stop),
+    };
+    match run_built(rt, input, workers, gate)? {
+        Some(lab) => {
+            let text = summary(alloc, &lab)?;
+            Ok(end_run(sink, text.as_bytes(), lab))
+        }
+        None => Ok(end_unbuilt(sink)),
+    }
 }
 
 /// Reads an input from the source and writes whether it is one.

@@ -5,13 +5,15 @@ ghost use Rattle.graft_edge.specs.Outside.{FaultRose, Appended, AppendedFront};
 ghost use Rattle.lab_words.specs.declared.job.Job.TheVariants.{Check, Make};
 ghost use Rattle.lab_words.specs.Asked.{usage_text, Asks};
 ghost use Rattle.lab_make.specs.Made.{made};
+ghost use Rattle.lab_input.specs.Labs.{InputOf};
 ghost use Rattle.lab_report.specs.Report.{report_text};
+ghost use Rattle.lab_report.specs.Summary.{summary_text};
 ghost use Rattle.lab_run.specs.Runs.{RanLab};
-ghost use Rattle.lab_top.specs.Ends.{AreRefused, end_status, AskToRun, AskToMake, TookInput, TookBadInput, IsStatus, Writes, Checks};
+ghost use Rattle.lab_top.specs.Ends.{AreRefused, AskToRun, AskForJournal, RunsSource, AskToDrill, AskForLab, AskToMake, AskUnread, TookInput, GaveBadInput, IsStatus, Writes, WritesJournal, Checks, end_status};
 ghost use Rattle.lab_top.specs.Cases.{outside, EndsOr, Ended};
 
 use crate::finish::{Finish, NO_MEMORY, USAGE, end_with, without_run};
-use crate::jobs::{check_job, make_job, run_job};
+use crate::jobs::{check_job, drill_job, journal_job, make_job, run_job};
 use graft_edge::{Gate, NoMemory, Sink, Source, Words};
 use lab_words::{Job, USAGE_TEXT, WordStop, read_words};
 use std::thread::Threads;
@@ -24,7 +26,7 @@ fn do_job<R: Threads + Sync + AllocGlobal, S: Source, K: Sink, G: Gate>(
     sink: &mut K,
     gate: &G,
 ) -> Result<Finish, NoMemory>
-    ensures unread { AreRefused words.now ⊎ AskToMake words.now → source.new ≡ source.old }
+    ensures unread { AskUnread words.now → source.new ≡ source.old }
     ensures ended { EndsOr words.now (outside (S.left source.old) (S.faults source.old) (K.written sink.old) (K.faults sink.old)) (outside (S.left source.new) (S.faults source.new) (K.written sink.new) (K.faults sink.new)) result }
 {
     let alloc = rt.alloc();
@@ -32,6 +34,8 @@ fn do_job<R: Threads + Sync + AllocGlobal, S: Source, K: Sink, G: Gate>(
         Ok(Job::Run { workers }) => run_job(rt, source, sink, workers, gate),
         Ok(Job::Check) => check_job(alloc, source, sink),
         Ok(Job::Make { seed }) => make_job(alloc, sink, seed),
+        Ok(Job::Drill { seed, workers }) => drill_job(rt, sink, seed, workers, gate),
+        Ok(Job::Journal { workers }) => journal_job(rt, source, sink, workers, gate),
         Err(WordStop::Usage) => Ok(end_with(sink, USAGE_TEXT.as_bytes(), USAGE, None)),
         Err(WordStop::NoMemory) => Err(NoMemory),
     }
@@ -45,7 +49,7 @@ fn finish_of<R: Threads + Sync + AllocGlobal, S: Source, K: Sink, G: Gate>(
     sink: &mut K,
     gate: &G,
 ) -> Finish
-    ensures unread { AreRefused words.now ⊎ AskToMake words.now → source.new ≡ source.old }
+    ensures unread { AskUnread words.now → source.new ≡ source.old }
     ensures ended { Ended words.now (outside (S.left source.old) (S.faults source.old) (K.written sink.old) (K.faults sink.old)) (outside (S.left source.new) (S.faults source.new) (K.written sink.new) (K.faults sink.new)) result.status result.lab }
 {
     match do_job(rt, words, source, sink, gate) {
@@ -55,8 +59,9 @@ fn finish_of<R: Threads + Sync + AllocGlobal, S: Source, K: Sink, G: Gate>(
 }
 
 /// Does what the words of a command ask for. `run` reads an input from the source to its end, runs it and
-/// writes the report to the sink; each actor's turn passes the gate first. `check` reads an input and writes
-/// whether it is one. `make` writes the laboratory of a seed. Other words are refused with the usage.
+/// writes the report to the sink; each actor's turn passes the gate first. `journal` writes the input and the
+/// journal of its run in place of a report. `check` reads an input and writes whether it is one. `make` writes the
+/// laboratory of a seed; `drill` runs it and writes the summary. Other words are refused with the usage.
 pub fn graft_main<R, S, K, G>(
     rt: &R,
     words: &Words,
@@ -71,10 +76,10 @@ where
     G: Gate,
     ensures statuses { IsStatus result.status }
 
-    // Words that ask for no job are refused. The source isn't read for them, nor for `make`.
+    // Words that ask for no job are refused. The source isn't read for them, nor for `make` and `drill`.
     ensures usage { AreRefused words.now → (result.status ≡ 6) ⊎ Writes usage_text 1 (K.faults sink.old) (K.faults sink.new) (K.written sink.old) (K.written sink.new) result.status }
     ensures refused { result.status ≡ 1 → AreRefused words.now }
-    ensures unread { AreRefused words.now ⊎ AskToMake words.now → source.new ≡ source.old }
+    ensures unread { AskUnread words.now → source.new ≡ source.old }
 
     // `make` writes the laboratory of its seed.
     ensures made { (seed : ℕ) → Asks words.now (Make seed) → (result.status ≡ 6) ⊎ Writes (made seed) 0 (K.faults sink.old) (K.faults sink.new) (K.written sink.old) (K.written sink.new) result.status }
@@ -83,8 +88,8 @@ where
     ensures checked { Asks words.now Check → (result.status ≡ 4) ⊎ (result.status ≡ 6) ⊎ Checks (S.left source.old) (S.left source.new) (K.faults sink.old) (K.faults sink.new) (K.written sink.old) (K.written sink.new) result.status }
 
     // An input is refused only where the bytes are none, or none that can be run yet, and then a line says why.
-    ensures bad_input { result.status ≡ 2 → (text : _) × TookBadInput (S.left source.old) (S.left source.new) text × Appended (K.written sink.old) (K.written sink.new) text }
-    ensures bad_input_unwritten { AskToRun words.now → result.status ≡ 5 → result.lab ≡ None → (text : _) × TookBadInput (S.left source.old) (S.left source.new) text × AppendedFront (K.written sink.old) (K.written sink.new) text }
+    ensures bad_input { result.status ≡ 2 → (text : _) × GaveBadInput words.now (S.left source.old) (S.left source.new) text × Appended (K.written sink.old) (K.written sink.new) text }
+    ensures bad_input_unwritten { AskForLab words.now → result.status ≡ 5 → result.lab ≡ None → (text : _) × GaveBadInput words.now (S.left source.old) (S.left source.new) text × AppendedFront (K.written sink.old) (K.written sink.new) text }
 
     // A read or a write failed only where its count of faults shows it.
     ensures read_failed { result.status ≡ 4 → FaultRose (S.faults source.old) (S.faults source.new) }
@@ -92,19 +97,25 @@ where
     ensures nothing_written { (result.status ≡ 4) ⊎ (result.status ≡ 6) → K.written sink.new ≡ K.written sink.old }
 
     // A run is there only where it was asked for, came to its end and its text was built: it is the run of the
-    // bytes that were read.
-    ensures ended { AskToRun words.now → (result.status ≡ 0) ⊎ (result.status ≡ 3) ⊎ (result.status ≡ 7) → IsSome result.lab }
+    // bytes that were read, or of the laboratory of the seed.
+    ensures ended { AskForLab words.now → (result.status ≡ 0) ⊎ (result.status ≡ 3) ⊎ (result.status ≡ 7) → IsSome result.lab }
     ensures no_run { AreRefused words.now ⊎ AskToMake words.now ⊎ Asks words.now Check → result.lab ≡ None }
-    ensures ran { OnSome result.lab (AskToRun words.now × ((result.status ≡ 0) ⊎ (result.status ≡ 3) ⊎ (result.status ≡ 5) ⊎ (result.status ≡ 7))) }
-    ensures input { IfSome result.lab (λ lab. TookInput (S.left source.old) (S.left source.new) lab.input) }
+    ensures ran { OnSome result.lab (AskForLab words.now × ((result.status ≡ 0) ⊎ (result.status ≡ 3) ⊎ (result.status ≡ 5) ⊎ (result.status ≡ 7))) }
+    ensures input { IfSome result.lab (λ lab. RunsSource words.now → TookInput (S.left source.old) (S.left source.new) lab.input) }
+    ensures drilled { IfSome result.lab (λ lab. (seed : ℕ) → AskToDrill words.now seed → InputOf (made seed) lab.input) }
 
-    // Its journal is that of a run of the input's laboratory, over whatever its workers and links did, and the lab is what is seen of the world that the run leads to. At every
-    // moment each peering has one session, held by one router or one moving capsule, with one legal story of which the bytes each way are the first part; a refused graft returns it unchanged; and where
-    // the run is settled, every table solves the decision equations for the placement after accepted grafts.
+    // Its journal is that of a run of the input's laboratory, whatever its workers and links did, and the lab is
+    // what is seen of the world that the run leads to. At every moment each peering has one session, held by one
+    // router or one moving capsule, with one legal story of which the bytes each way are the first part; a refused
+    // graft leaves it unchanged; and where the run is settled, every table solves the decision equations for the
+    // placement after the accepted grafts.
     ensures headline { IfSome result.lab RanLab }
 
-    // Its report is written whole, under the status of its end, or a write failed and a front of it stands.
-    ensures reported { IfSome result.lab (λ lab. Writes (report_text lab) (end_status lab.end) (K.faults sink.old) (K.faults sink.new) (K.written sink.old) (K.written sink.new) result.status) }
+    // Its text is written whole, under the status of its end, or a write failed and a front of it stands: a report,
+    // a summary, or the input with the journal behind it.
+    ensures reported { IfSome result.lab (λ lab. AskToRun words.now → Writes (report_text lab) (end_status lab.end) (K.faults sink.old) (K.faults sink.new) (K.written sink.old) (K.written sink.new) result.status) }
+    ensures summed { IfSome result.lab (λ lab. ((seed : ℕ) × AskToDrill words.now seed) → Writes (summary_text lab) (end_status lab.end) (K.faults sink.old) (K.faults sink.new) (K.written sink.old) (K.written sink.new) result.status) }
+    ensures journaled { IfSome result.lab (λ lab. AskForJournal words.now → WritesJournal (S.left source.old) (S.left source.new) lab (K.faults sink.old) (K.faults sink.new) (K.written sink.old) (K.written sink.new) result.status) }
 {
     finish_of(rt, words, source, sink, gate)
 }

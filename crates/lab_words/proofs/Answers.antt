@@ -1,5 +1,5 @@
 -- The job that is read is the one that is asked for.
-use Rattle.std.proofs.Common.{◌≡◌, ℕ, ◌+◌, ◌*◌, ◌-◌, ◌<◌, ◌≤◌, ◌≢◌, List, [], ◌∷◌, length, ap, sym, ◌∙◌, refl, inl, inr, arith, codes, subst}
+use Rattle.std.proofs.Common.{◌≡◌, ℕ, ◌+◌, ◌*◌, ◌-◌, ◌<◌, ◌≤◌, List, [], ◌∷◌, length, ap, sym, ◌∙◌, refl, inl, inr, arith, codes, subst}
 use Rattle.std.specs.Prelude.{Bool, true, false, ◌&&◌, ◌==◌, ◌⊎◌, nat_le, if◌then◌else◌, is_some, Option, Some, None, Result, Ok, Err, IfOk}
 use Rattle.std.specs.Bool.{Decides}
 use Rattle.std.specs.Char.{digit_value}
@@ -12,11 +12,11 @@ use Rattle.std.proofs.lemmas.Str.Parse.{digit_from_value}
 use Rattle.clap.specs.Words.{Text, Row, Kinds, first_of}
 use Rattle.clap.specs.declared.error.kind.ErrorKind.{ErrorKind}
 use Rattle.lab_words.specs.declared.job.Job.{Job}
-use Rattle.lab_words.specs.declared.job.Job.TheVariants.{Run, Check, Make}
+use Rattle.lab_words.specs.declared.job.Job.TheVariants.{Run, Check, Make, Drill, Journal}
 use Rattle.lab_words.specs.declared.job.WordStop.{WordStop}
 use Rattle.lab_words.specs.declared.job.WordStop.TheVariants.{Usage, NoMemory}
 use Rattle.lab_words.specs.Asked.{Given, given_in, line_of, faults_of, rows_read, IsSeedText, IsSeed, AreWorkers, IsJob, Asks}
-use Rattle.lab_words.specs.Reading.{digits_after, some_above_0, seed_of, workers_of, seed_in, workers_in, run_of, make_of, run_with, check_with, make_with, job_named, job_of, job_in_rows, job_by, answer_of}
+use Rattle.lab_words.specs.Reading.{digits_after, some_above_0, seed_of, workers_of, seed_in, workers_in, run_of, make_of, drill_of, journal_of, run_with, check_with, make_with, drill_with, journal_with, job_named, job_of, job_in_rows, job_by, answer_of}
 
 -- the value, or none where there is no such value
 abbrev Finds : {A : Type 0} → (A → Type 0) → Option A → Type 0
@@ -104,65 +104,116 @@ abbrev Answers : (Job → Type 0) → Result Job WordStop → Type 0
 Answers Is (Ok job) = Is job
 Answers Is (Err e) = (e ≡ Usage) × ((job : Job) → ¬ (Is job))
 
-no_job : (g : Given) → ((w : ℕ) → ¬ (IsJob g (Run w))) → ¬ (IsJob g Check) → ((n : ℕ) → ¬ (IsJob g (Make n))) → (job : Job) → ¬ (IsJob g job)
-no_job g run check make (Run w) = run w
-no_job g run check make Check = check
-no_job g run check make (Make n) = make n
-
--- names of different lengths are different
-two_names : (job a b : Text) → job ≡ a → Some job ≡ Some b → length a ≡ length b
-two_names job a b e f = let same : job ≡ b = cc in sym (ap length e) ∙ ap length same
+some_is : (a b : Text) → Some a ≡ Some b → a ≡ b
+some_is a b e = cc
 
 no_none : (x : Text) → Some x ≡ None → ⊥
 no_none x e = let f : ⊥ = cc in f
 
-no_run : (job a : Text) → job ≡ a → length a ≢ 3 → Some job ≡ Some (codes "run") → ⊥
-no_run job a e ne f = ne (two_names job a (codes "run") e f)
+abbrev name_of : Job → Text
+name_of (Run w) = codes "run"
+name_of Check = codes "check"
+name_of (Make n) = codes "make"
+name_of (Drill n w) = codes "drill"
+name_of (Journal w) = codes "journal"
 
-no_check : (job a : Text) → job ≡ a → length a ≢ 5 → Some job ≡ Some (codes "check") → ⊥
-no_check job a e ne f = ne (two_names job a (codes "check") e f)
+has_name : (g : Given) (job : Job) → IsJob g job → g.job ≡ Some (name_of job)
+has_name g (Run w) h = h.0
+has_name g Check h = h.0
+has_name g (Make n) h = h.0
+has_name g (Drill n w) h = h.0
+has_name g (Journal w) h = h.0
 
-no_make : (job a : Text) → job ≡ a → length a ≢ 4 → Some job ≡ Some (codes "make") → ⊥
-no_make job a e ne f = ne (two_names job a (codes "make") e f)
+-- a job of another name isn't asked for
+no_other : (g : Given) (name : Text) (job : Job) → g.job ≡ Some name → bytes_eq name (name_of job) ≡ false → ¬ (IsJob g job)
+no_other g name job is other h = false≢true (sym other ∙ (bytes_eq-Decides name (name_of job)).1 (some_is name (name_of job) (sym is ∙ has_name g job h)))
+
+only_run : (g : Given) → g.job ≡ Some (codes "run") → ((w : ℕ) → ¬ (IsJob g (Run w))) → (job : Job) → ¬ (IsJob g job)
+only_run g is never (Run w) = never w
+only_run g is never Check = no_other g (codes "run") Check is refl
+only_run g is never (Make n) = no_other g (codes "run") (Make n) is refl
+only_run g is never (Drill n w) = no_other g (codes "run") (Drill n w) is refl
+only_run g is never (Journal w) = no_other g (codes "run") (Journal w) is refl
+
+only_check : (g : Given) → g.job ≡ Some (codes "check") → ¬ (IsJob g Check) → (job : Job) → ¬ (IsJob g job)
+only_check g is never (Run w) = no_other g (codes "check") (Run w) is refl
+only_check g is never Check = never
+only_check g is never (Make n) = no_other g (codes "check") (Make n) is refl
+only_check g is never (Drill n w) = no_other g (codes "check") (Drill n w) is refl
+only_check g is never (Journal w) = no_other g (codes "check") (Journal w) is refl
+
+only_make : (g : Given) → g.job ≡ Some (codes "make") → ((n : ℕ) → ¬ (IsJob g (Make n))) → (job : Job) → ¬ (IsJob g job)
+only_make g is never (Run w) = no_other g (codes "make") (Run w) is refl
+only_make g is never Check = no_other g (codes "make") Check is refl
+only_make g is never (Make n) = never n
+only_make g is never (Drill n w) = no_other g (codes "make") (Drill n w) is refl
+only_make g is never (Journal w) = no_other g (codes "make") (Journal w) is refl
+
+only_drill : (g : Given) → g.job ≡ Some (codes "drill") → ((n w : ℕ) → ¬ (IsJob g (Drill n w))) → (job : Job) → ¬ (IsJob g job)
+only_drill g is never (Run w) = no_other g (codes "drill") (Run w) is refl
+only_drill g is never Check = no_other g (codes "drill") Check is refl
+only_drill g is never (Make n) = no_other g (codes "drill") (Make n) is refl
+only_drill g is never (Drill n w) = never n w
+only_drill g is never (Journal w) = no_other g (codes "drill") (Journal w) is refl
+
+only_journal : (g : Given) → g.job ≡ Some (codes "journal") → ((w : ℕ) → ¬ (IsJob g (Journal w))) → (job : Job) → ¬ (IsJob g job)
+only_journal g is never (Run w) = no_other g (codes "journal") (Run w) is refl
+only_journal g is never Check = no_other g (codes "journal") Check is refl
+only_journal g is never (Make n) = no_other g (codes "journal") (Make n) is refl
+only_journal g is never (Drill n w) = no_other g (codes "journal") (Drill n w) is refl
+only_journal g is never (Journal w) = never w
 
 run_found : (job : Text) (number workers : Option Text) → job ≡ codes "run" → (r : Option ℕ) → Finds (AreWorkers workers) r → Answers (IsJob (given (Some job) number workers)) (if is_some number then Err Usage else run_of r)
-run_found job (Some n) workers e r found = (refl, no_job (given (Some job) (Some n) workers) (λ w h. no_none n h.1) (λ h. no_none n h.1) (λ k h. no_make job (codes "run") e (omega arith) h.0))
+run_found job (Some n) workers e r found = (refl, only_run (given (Some job) (Some n) workers) (ap Some e) (λ w h. no_none n h.1))
 run_found job None workers e (Some w) found = (ap Some e, refl, found)
-run_found job None workers e None found = (refl, no_job (given (Some job) None workers) (λ w h. found w h.2) (λ h. no_check job (codes "run") e (omega arith) h.0) (λ k h. no_make job (codes "run") e (omega arith) h.0))
+run_found job None workers e None found = (refl, only_run (given (Some job) None workers) (ap Some e) (λ w h. found w h.2))
 
 check_found : (job : Text) (number workers : Option Text) → job ≡ codes "check" → Answers (IsJob (given (Some job) number workers)) (check_with number workers)
-check_found job (Some n) workers e = (refl, no_job (given (Some job) (Some n) workers) (λ w h. no_none n h.1) (λ h. no_none n h.1) (λ k h. no_make job (codes "check") e (omega arith) h.0))
-check_found job None (Some w) e = (refl, no_job (given (Some job) None (Some w)) (λ k h. no_run job (codes "check") e (omega arith) h.0) (λ h. no_none w h.2) (λ k h. no_none w h.2))
+check_found job (Some n) workers e = (refl, only_check (given (Some job) (Some n) workers) (ap Some e) (λ h. no_none n h.1))
+check_found job None (Some w) e = (refl, only_check (given (Some job) None (Some w)) (ap Some e) (λ h. no_none w h.2))
 check_found job None None e = (ap Some e, refl, refl)
 
 make_found : (job : Text) (number workers : Option Text) → job ≡ codes "make" → (r : Option ℕ) → Finds (IsSeed number) r → Answers (IsJob (given (Some job) number workers)) (if is_some workers then Err Usage else make_of r)
-make_found job number (Some t) e r found = (refl, no_job (given (Some job) number (Some t)) (λ w h. no_run job (codes "make") e (omega arith) h.0) (λ h. no_none t h.2) (λ k h. no_none t h.2))
+make_found job number (Some t) e r found = (refl, only_make (given (Some job) number (Some t)) (ap Some e) (λ n h. no_none t h.2))
 make_found job number None e (Some n) found = (ap Some e, found, refl)
-make_found job number None e None found = (refl, no_job (given (Some job) number None) (λ w h. no_run job (codes "make") e (omega arith) h.0) (λ h. no_check job (codes "make") e (omega arith) h.0) (λ k h. found k h.1))
+make_found job number None e None found = (refl, only_make (given (Some job) number None) (ap Some e) (λ n h. found n h.1))
 
-some_is : (a b : Text) → Some a ≡ Some b → a ≡ b
-some_is a b e = cc
+drill_found : (job : Text) (number workers : Option Text) → job ≡ codes "drill" → (s r : Option ℕ) → Finds (IsSeed number) s → Finds (AreWorkers workers) r → Answers (IsJob (given (Some job) number workers)) (drill_of s r)
+drill_found job number workers e (Some n) (Some w) seed found = (ap Some e, seed, found)
+drill_found job number workers e (Some n) None seed found = (refl, only_drill (given (Some job) number workers) (ap Some e) (λ k w h. found w h.2))
+drill_found job number workers e None r seed found = (refl, only_drill (given (Some job) number workers) (ap Some e) (λ k w h. seed k h.1))
 
-named : (job : Text) (number workers : Option Text) (run check make : Bool) → Decides run (job ≡ codes "run") → Decides check (job ≡ codes "check") → Decides make (job ≡ codes "make")
-    → Answers (IsJob (given (Some job) number workers)) (if run then run_with number workers else (if check then check_with number workers else (if make then make_with number workers else Err Usage)))
-named job number workers true check make r c m = run_found job number workers (r.0 refl) (workers_in workers) (given_workers_found workers)
-named job number workers false true make r c m = check_found job number workers (c.0 refl)
-named job number workers false false true r c m = make_found job number workers (m.0 refl) (seed_in number) (given_seed_found number)
-named job number workers false false false r c m = (
-  refl,
-  no_job (given (Some job) number workers)
-      (λ w h. absurd (false≢true (r.1 (some_is job (codes "run") h.0))))
-      (λ h. absurd (false≢true (c.1 (some_is job (codes "check") h.0))))
-      (λ k h. absurd (false≢true (m.1 (some_is job (codes "make") h.0)))),
-)
+journal_found : (job : Text) (number workers : Option Text) → job ≡ codes "journal" → (r : Option ℕ) → Finds (AreWorkers workers) r → Answers (IsJob (given (Some job) number workers)) (if is_some number then Err Usage else journal_of r)
+journal_found job (Some n) workers e r found = (refl, only_journal (given (Some job) (Some n) workers) (ap Some e) (λ w h. no_none n h.1))
+journal_found job None workers e (Some w) found = (ap Some e, refl, found)
+journal_found job None workers e None found = (refl, only_journal (given (Some job) None workers) (ap Some e) (λ w h. found w h.2))
+
+differs : (job name : Text) (b : Bool) → Decides b (job ≡ name) → b ≡ false → Some job ≡ Some name → ⊥
+differs job name b is f e = false≢true (sym f ∙ is.1 (some_is job name e))
+
+named : (job : Text) (number workers : Option Text) (run check make drill journal : Bool) → Decides run (job ≡ codes "run") → Decides check (job ≡ codes "check") → Decides make (job ≡ codes "make") → Decides drill (job ≡ codes "drill") → Decides journal (job ≡ codes "journal")
+    → Answers (IsJob (given (Some job) number workers)) (if run then run_with number workers else (if check then check_with number workers else (if make then make_with number workers
+    else (if drill then drill_with number workers else (if journal then journal_with number workers else Err Usage)))))
+named job number workers true check make drill journal r c m d j = run_found job number workers (r.0 refl) (workers_in workers) (given_workers_found workers)
+named job number workers false true make drill journal r c m d j = check_found job number workers (c.0 refl)
+named job number workers false false true drill journal r c m d j = make_found job number workers (m.0 refl) (seed_in number) (given_seed_found number)
+named job number workers false false false true journal r c m d j = drill_found job number workers (d.0 refl) (seed_in number) (workers_in workers) (given_seed_found number) (given_workers_found workers)
+named job number workers false false false false true r c m d j = journal_found job number workers (j.0 refl) (workers_in workers) (given_workers_found workers)
+named job number workers false false false false false r c m d j = (refl, none_of) where
+  none_of : (asked : Job) → ¬ (IsJob (given (Some job) number workers) asked)
+  none_of (Run w) h = differs job (codes "run") false r refl h.0
+  none_of Check h = differs job (codes "check") false c refl h.0
+  none_of (Make n) h = differs job (codes "make") false m refl h.0
+  none_of (Drill n w) h = differs job (codes "drill") false d refl h.0
+  none_of (Journal w) h = differs job (codes "journal") false j refl h.0
 
 none_no : (x : Text) → None ≡ Some x → ⊥
 none_no x e = let f : ⊥ = cc in f
 
 job_found : (job number workers : Option Text) → Answers (IsJob (given job number workers)) (job_of job number workers)
-job_found None number workers = (refl, no_job (given None number workers) (λ w h. none_no (codes "run") h.0) (λ h. none_no (codes "check") h.0) (λ k h. none_no (codes "make") h.0))
-job_found (Some job) number workers = named job number workers (bytes_eq job (codes "run")) (bytes_eq job (codes "check")) (bytes_eq job (codes "make"))
-    (bytes_eq-Decides job (codes "run")) (bytes_eq-Decides job (codes "check")) (bytes_eq-Decides job (codes "make"))
+job_found None number workers = (refl, λ job h. none_no (name_of job) (has_name (given None number workers) job h))
+job_found (Some job) number workers = named job number workers (bytes_eq job (codes "run")) (bytes_eq job (codes "check")) (bytes_eq job (codes "make")) (bytes_eq job (codes "drill")) (bytes_eq job (codes "journal"))
+    (bytes_eq-Decides job (codes "run")) (bytes_eq-Decides job (codes "check")) (bytes_eq-Decides job (codes "make")) (bytes_eq-Decides job (codes "drill")) (bytes_eq-Decides job (codes "journal"))
 
 -- ---- lines
 

@@ -3,11 +3,11 @@ use Rattle.std.specs.Prelude.{◌≡◌, ℕ, ◌+◌, ◌<◌, ◌≤◌, true,
 use Rattle.std.specs.Str.Parse.{IsNumeral, digits_value}
 use Rattle.clap.specs.Words.{App, Row, Rule, Text, first_of, matches_of, new_app, new_rule, with_rule, fault_of, Kinds}
 use Rattle.lab_words.specs.declared.job.Job.{Job}
-use Rattle.lab_words.specs.declared.job.Job.TheVariants.{Run, Check, Make}
+use Rattle.lab_words.specs.declared.job.Job.TheVariants.{Run, Check, Make, Drill, Journal}
 
 -- the line that tells how the program is called
 abbrev pub usage_text : List ℕ
-usage_text = codes "usage: graftlab run|check|make N|drill N [--workers W]" ++ 10 ∷ []
+usage_text = codes "usage: graftlab run|check|make N|drill N|journal [--workers W]" ++ 10 ∷ []
 
 -- ---- the command that `clap` reads: a text `job`, maybe a text `number`, and an option `--workers` with a text
 
@@ -62,11 +62,14 @@ abbrev pub AreWorkers : Option Text → ℕ → Type 0
 AreWorkers None workers = workers ≡ 2
 AreWorkers (Some text) workers = (1 ≤ workers) × (workers ≤ 8) × (text ≡ (48 + workers) ∷ [])
 
--- `run` may stand with `--workers`, `check` stands alone, and `make` stands with a number.
+-- `run` and `journal` may stand with `--workers`, `check` stands alone, `make` stands with a number, and `drill` with a number and maybe
+-- with `--workers`.
 abbrev pub IsJob : Given → Job → Type 0
 IsJob given (Run workers) = (given.job ≡ Some (codes "run")) × (given.number ≡ None) × AreWorkers given.workers workers
 IsJob given Check = (given.job ≡ Some (codes "check")) × (given.number ≡ None) × (given.workers ≡ None)
 IsJob given (Make seed) = (given.job ≡ Some (codes "make")) × IsSeed given.number seed × (given.workers ≡ None)
+IsJob given (Drill seed workers) = (given.job ≡ Some (codes "drill")) × IsSeed given.number seed × AreWorkers given.workers workers
+IsJob given (Journal workers) = (given.job ≡ Some (codes "journal")) × (given.number ≡ None) × AreWorkers given.workers workers
 
 -- The words ask for the job: `clap` takes them, and what it reads is this job.
 abbrev pub Asks : List Text → Job → Type 0

@@ -3,7 +3,7 @@ use Rattle.std.specs.Prelude.{ℕ, ◌&&◌, ◌==◌, ◌+◌, ◌*◌, ◌-◌
 use Rattle.std.specs.Str.{bytes_eq}
 use Rattle.clap.specs.Words.{Row, Text, Kinds, first_of}
 use Rattle.lab_words.specs.declared.job.Job.{Job}
-use Rattle.lab_words.specs.declared.job.Job.TheVariants.{Run, Check, Make}
+use Rattle.lab_words.specs.declared.job.Job.TheVariants.{Run, Check, Make, Drill, Journal}
 use Rattle.lab_words.specs.declared.job.WordStop.{WordStop}
 use Rattle.lab_words.specs.declared.job.WordStop.TheVariants.{Usage}
 use Rattle.lab_words.specs.Asked.{faults_of, rows_read}
@@ -40,6 +40,15 @@ abbrev pub make_of : Option ℕ → Result Job WordStop
 make_of (Some seed) = Ok (Make seed)
 make_of None = Err Usage
 
+abbrev pub drill_of : Option ℕ → Option ℕ → Result Job WordStop
+drill_of (Some seed) (Some workers) = Ok (Drill seed workers)
+drill_of (Some seed) None = Err Usage
+drill_of None workers = Err Usage
+
+abbrev pub journal_of : Option ℕ → Result Job WordStop
+journal_of (Some workers) = Ok (Journal workers)
+journal_of None = Err Usage
+
 abbrev pub run_with : Option Text → Option Text → Result Job WordStop
 run_with number workers = if is_some number then Err Usage else run_of (workers_in workers)
 
@@ -49,12 +58,20 @@ check_with number workers = if is_some number then Err Usage else (if is_some wo
 abbrev pub make_with : Option Text → Option Text → Result Job WordStop
 make_with number workers = if is_some workers then Err Usage else make_of (seed_in number)
 
+abbrev pub drill_with : Option Text → Option Text → Result Job WordStop
+drill_with number workers = drill_of (seed_in number) (workers_in workers)
+
+abbrev pub journal_with : Option Text → Option Text → Result Job WordStop
+journal_with number workers = if is_some number then Err Usage else journal_of (workers_in workers)
+
 -- the job by its name
 abbrev pub job_named : Text → Option Text → Option Text → Result Job WordStop
 job_named job number workers =
     if bytes_eq job (codes "run") then run_with number workers
     else (if bytes_eq job (codes "check") then check_with number workers
-    else (if bytes_eq job (codes "make") then make_with number workers else Err Usage))
+    else (if bytes_eq job (codes "make") then make_with number workers
+    else (if bytes_eq job (codes "drill") then drill_with number workers
+    else (if bytes_eq job (codes "journal") then journal_with number workers else Err Usage))))
 
 abbrev pub job_of : Option Text → Option Text → Option Text → Result Job WordStop
 job_of None number workers = Err Usage

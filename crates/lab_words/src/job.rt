@@ -14,6 +14,10 @@ pub enum Job {
     Check,
     /// Write the laboratory of a seed of 1 to 9,999.
     Make { seed: u32 },
+    /// Run the laboratory of a seed of 1 to 9,999 with 1 to 8 workers, and sum it up.
+    Drill { seed: u32, workers: usize },
+    /// Run the laboratory of the source with 1 to 8 workers, and write its journal behind it.
+    Journal { workers: usize },
 }
 
 /// Why the words give no job.
@@ -27,7 +31,7 @@ pub enum WordStop {
 }
 
 /// The line that tells how the program is called.
-pub const USAGE_TEXT: &str = "usage: graftlab run|check|make N|drill N [--workers W]\n";
+pub const USAGE_TEXT: &str = "usage: graftlab run|check|make N|drill N|journal [--workers W]\n";
 
 /// A law: the line is that of the definition.
 pub fn usage_is_as_told()

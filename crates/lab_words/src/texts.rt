@@ -1,7 +1,7 @@
 //! What single words say, and the job that the words of a command name.
 
 ghost use Rattle.std.specs.Prelude.{◌≡◌, ◌≤◌, length, option_map};
-ghost use Rattle.lab_words.specs.Reading.{digits_after, seed_of, seed_in, workers_of, workers_in, job_named, job_of};
+ghost use Rattle.lab_words.specs.Reading.{digits_after, seed_of, seed_in, workers_of, workers_in, run_with, check_with, make_with, drill_with, journal_with, job_named, job_of};
 
 use crate::job::{Job, WordStop};
 
@@ -69,36 +69,89 @@ fn seed_in(text: Option<&str>) -> Option<u32>
     }
 }
 
+/// The job `run`, which takes no number.
+fn run_with(number: Option<&str>, workers: Option<&str>) -> Result<Job, WordStop>
+    ensures { result ≡ run_with (option_map (λ s. s.now) number.entry) (option_map (λ s. s.now) workers.entry) }
+{
+    if number.is_some() {
+        return Err(WordStop::Usage);
+    }
+    match workers_in(workers) {
+        Some(workers) => Ok(Job::Run { workers }),
+        None => Err(WordStop::Usage),
+    }
+}
+
+/// The job `check`, which stands alone.
+fn check_with(number: Option<&str>, workers: Option<&str>) -> Result<Job, WordStop>
+    ensures { result ≡ check_with (option_map (λ s. s.now) number.entry) (option_map (λ s. s.now) workers.entry) }
+{
+    if number.is_some() {
+        return Err(WordStop::Usage);
+    }
+    if workers.is_some() {
+        return Err(WordStop::Usage);
+    }
+    Ok(Job::Check)
+}
+
+/// The job `make`, which takes a number alone.
+fn make_with(number: Option<&str>, workers: Option<&str>) -> Result<Job, WordStop>
+    ensures { result ≡ make_with (option_map (λ s. s.now) number.entry) (option_map (λ s. s.now) workers.entry) }
+{
+    if workers.is_some() {
+        return Err(WordStop::Usage);
+    }
+    match seed_in(number) {
+        Some(seed) => Ok(Job::Make { seed }),
+        None => Err(WordStop::Usage),
+    }
+}
+
+/// The job `drill`, which takes a number.
+fn drill_with(number: Option<&str>, workers: Option<&str>) -> Result<Job, WordStop>
+    ensures { result ≡ drill_with (option_map (λ s. s.now) number.entry) (option_map (λ s. s.now) workers.entry) }
+{
+    let Some(seed) = seed_in(number) else {
+        return Err(WordStop::Usage);
+    };
+    match workers_in(workers) {
+        Some(workers) => Ok(Job::Drill { seed, workers }),
+        None => Err(WordStop::Usage),
+    }
+}
+
+/// The job `journal`, which takes no number.
+fn journal_with(number: Option<&str>, workers: Option<&str>) -> Result<Job, WordStop>
+    ensures { result ≡ journal_with (option_map (λ s. s.now) number.entry) (option_map (λ s. s.now) workers.entry) }
+{
+    if number.is_some() {
+        return Err(WordStop::Usage);
+    }
+    match workers_in(workers) {
+        Some(workers) => Ok(Job::Journal { workers }),
+        None => Err(WordStop::Usage),
+    }
+}
+
 /// The job of this name, where the other words are those that it takes.
 fn job_named(job: &str, number: Option<&str>, workers: Option<&str>) -> Result<Job, WordStop>
     ensures { result ≡ job_named job.now (option_map (λ s. s.now) number.entry) (option_map (λ s. s.now) workers.entry) }
 {
     if job == "run" {
-        if number.is_some() {
-            return Err(WordStop::Usage);
-        }
-        return match workers_in(workers) {
-            Some(workers) => Ok(Job::Run { workers }),
-            None => Err(WordStop::Usage),
-        };
+        return run_with(number, workers);
     }
     if job == "check" {
-        if number.is_some() {
-            return Err(WordStop::Usage);
-        }
-        if workers.is_some() {
-            return Err(WordStop::Usage);
-        }
-        return Ok(Job::Check);
+        return check_with(number, workers);
     }
     if job == "make" {
-        if workers.is_some() {
-            return Err(WordStop::Usage);
-        }
-        return match seed_in(number) {
-            Some(seed) => Ok(Job::Make { seed }),
-            None => Err(WordStop::Usage),
-        };
+        return make_with(number, workers);
+    }
+    if job == "drill" {
+        return drill_with(number, workers);
+    }
+    if job == "journal" {
+        return journal_with(number, workers);
     }
     Err(WordStop::Usage)
 }

@@ -2,7 +2,7 @@ use Rattle.std.proofs.Common.{ap, refl, subst}
 use Rattle.std.specs.Prelude.{Err}
 use Rattle.lab_words.specs.Asked.{Asks}
 use Rattle.lab_top.specs.Cases.{usage, wrote}
-use Rattle.lab_top.proofs.Asking.{seed_is_small, workers_are_few}
+use Rattle.lab_top.proofs.Asking.{seed_is_small, workers_are_few, drill_is_small, drill_is_above, drill_are_few, journal_are_few}
 use Rattle.lab_top.proofs.Parts.{made_ends}
 use Rattle.lab_top.proofs.top.do_job.Goals as goal
 
@@ -22,3 +22,22 @@ returns-in-Err-Usage-clause-ended g c =
 
 pub run_job-requires-clause-workers : goal.run_job-requires-clause-workers
 run_job-requires-clause-workers g c κs within = workers_are_few c.args.words.now _ (subst (λ job. Asks c.args.words.now job) c.in-Ok-Run.field-0-is c.in-Ok-Run.ensures.asked)
+
+pub journal_job-requires-clause-workers : goal.journal_job-requires-clause-workers
+journal_job-requires-clause-workers g c κs within = journal_are_few c.args.words.now _ (subst (λ job. Asks c.args.words.now job) c.in-Ok-Journal.field-0-is c.in-Ok-Journal.ensures.asked)
+
+pub returns-in-Ok-Journal-clause-ended : goal.returns-in-Ok-Journal-clause-ended
+returns-in-Ok-Journal-clause-ended g c = c.journal_job.ensures c.args.words.now (c.in-Ok-Journal.workers, subst (λ job. Asks c.args.words.now job) c.in-Ok-Journal.field-0-is c.in-Ok-Journal.ensures.asked)
+
+pub drill_job-requires-clause-lowest : goal.drill_job-requires-clause-lowest
+drill_job-requires-clause-lowest g c κs within = drill_is_above c.args.words.now _ _ (subst (λ job. Asks c.args.words.now job) c.in-Ok-Drill.field-0-is c.in-Ok-Drill.ensures.asked)
+
+pub drill_job-requires-clause-highest : goal.drill_job-requires-clause-highest
+drill_job-requires-clause-highest g c κs within = drill_is_small c.args.words.now _ _ (subst (λ job. Asks c.args.words.now job) c.in-Ok-Drill.field-0-is c.in-Ok-Drill.ensures.asked)
+
+pub drill_job-requires-clause-workers : goal.drill_job-requires-clause-workers
+drill_job-requires-clause-workers g c κs within = drill_are_few c.args.words.now _ _ (subst (λ job. Asks c.args.words.now job) c.in-Ok-Drill.field-0-is c.in-Ok-Drill.ensures.asked)
+
+pub returns-in-Ok-Drill-clause-ended : goal.returns-in-Ok-Drill-clause-ended
+returns-in-Ok-Drill-clause-ended g c =
+    c.drill_job.ensures c.args.words.now _ _ (c.in-Ok-Drill.workers, subst (λ job. Asks c.args.words.now job) c.in-Ok-Drill.field-0-is c.in-Ok-Drill.ensures.asked)

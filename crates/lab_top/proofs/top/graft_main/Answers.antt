@@ -1,4 +1,4 @@
-use Rattle.lab_top.proofs.Facts.{statuses, usage_told, refused, made_told, checked_told, bad_input, bad_unwritten, read_failed, write_failed, nothing_written, run_ended, no_run, ran, input_taken, headline, reported}
+use Rattle.lab_top.proofs.Facts.{statuses, usage_told, refused, made_told, checked_told, bad_input, bad_unwritten, read_failed, write_failed, nothing_written, run_ended, no_run, ran, input_taken, drilled, headline, reported, summed, journaled}
 use Rattle.lab_top.proofs.top.graft_main.Goals as goal
 
 pub returns-clause-statuses : goal.returns-clause-statuses
@@ -48,3 +48,12 @@ returns-clause-headline g c = headline _ _ _ _ _ c.finish_of.ensures.ended
 
 pub returns-clause-reported : goal.returns-clause-reported
 returns-clause-reported g c = reported _ _ _ _ _ c.finish_of.ensures.ended
+
+pub returns-clause-drilled : goal.returns-clause-drilled
+returns-clause-drilled g c = drilled _ _ _ _ _ c.finish_of.ensures.ended
+
+pub returns-clause-summed : goal.returns-clause-summed
+returns-clause-summed g c = summed _ _ _ _ _ c.finish_of.ensures.ended
+
+pub returns-clause-journaled : goal.returns-clause-journaled
+returns-clause-journaled g c = journaled _ _ _ _ _ c.finish_of.ensures.ended

@@ -1,7 +1,7 @@
 use Rattle.std.proofs.Common.{ap}
 use Rattle.std.specs.Prelude.{Err}
 use Rattle.lab_top.proofs.Facts.{too_long_stops}
-use Rattle.lab_top.proofs.jobs.read_source.Goals as goal
+use Rattle.lab_top.proofs.jobs.read_bytes.Goals as goal
 
 pub returns-in-Err-TooLong : goal.returns-in-Err-TooLong
 returns-in-Err-TooLong g c =
