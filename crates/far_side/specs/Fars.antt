@@ -8,7 +8,7 @@ use Rattle.graft_model.specs.First.{first_far}
 use Rattle.graft_runs.specs.Actors.{FarSide, FarIs}
 use Rattle.graft_actors.specs.Acts.{OwnPart}
 use Rattle.far_side.specs.Says.{bytes_of}
-use Rattle.far_side.specs.Parts.{far_part, own_part, say_by}
+use Rattle.far_side.specs.Parts.{far_part, own_part, say_by, HasLinks}
 use Rattle.far_side.specs.Takes.{Took}
 use Rattle.far_side.specs.Turned.{Turned}
 use Rattle.far_side.specs.declared.config.FarConfig.{FarConfig}
@@ -45,6 +45,7 @@ pub record IsConfigOf (setup : Setup) (config : FarConfig) : Type 0 where
 pub record IsNew (setup : Setup) (config : FarConfig) (far : Far) : Type 0 where
   pub is : own far ≡ record { setup = setup; name = FarSide config.peering.0; part = FarIs (first_far (slice_get setup.peerings config.peering.0)) }
   pub at_turn : far.fields.remote.at_turn ≡ 0
+  pub links : HasLinks far.fields
   pub homeward : (far.fields.homeward.plans ≡ []) × (far.fields.homeward.put ≡ 0)
   pub remoteward : (far.fields.remoteward.plans ≡ []) × (far.fields.remoteward.put ≡ 0)
   pub turns : far.fields.turns ≡ 0

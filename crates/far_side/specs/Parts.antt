@@ -41,6 +41,11 @@ pub record Leads (link : LinkValue) (to : Way) (p first other : ℕ) : Type 0 wh
   pub seq_first : link.seq_first ≡ first
   pub ack_first : link.ack_first ≡ other
 
+-- both links are those of its peering, one each way
+pub record HasLinks (f : Fields) : Type 0 where
+  pub homeward : (f.homeward.way ≡ Home) × (f.homeward.peering ≡ f.peering.0)
+  pub remoteward : (f.remoteward.way ≡ Remote) × (f.remoteward.peering ≡ f.peering.0)
+
 pub record Keeps (f : Fields) : Type 0 where
   -- what it begins with is its laboratory's
   pub routers : f.routers ≡ routers_in f.known.setup

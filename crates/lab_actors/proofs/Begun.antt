@@ -56,6 +56,7 @@ module _ (setup : Setup) (faults : List Fault) (peering : PeeringId) (config : F
     fresh = record {
       turns = new.turns;
       at_turn = new.at_turn;
+      links = new.links;
       homeward = new.homeward;
       remoteward = new.remoteward;
       beat = beat_is;

@@ -8,6 +8,7 @@ use Rattle.graft_steps.specs.declared.order.GraftIds.{GraftIds}
 use Rattle.graft_model.specs.Setups.{Setup, beat_of}
 use Rattle.router_core.specs.Places.{RunsAt}
 use Rattle.router_core.specs.declared.router as routers
+use Rattle.far_side.specs.Parts.{HasLinks}
 use Rattle.far_side.specs.declared.far as fars
 use Rattle.world_nodes.specs.declared.node.Node.{Node}
 use Rattle.world_nodes.specs.declared.node.Node.TheVariants.{Router, Far, Operator}
@@ -17,10 +18,11 @@ pub record IsFreshRouter (router : routers.Router.Router) : Type 0 where
   pub turns : router.fields.turns ≡ 0
   pub at_turn : (p : ℕ) (s : RunningSession) (o : Option GraftIds) → RunsAt router.fields.places.items p s o → s.acked_at_turn ≡ 0
 
--- No turn was made, nothing was put into a link, the timer is the peering's, and the plan has the fates of these faults.
+-- No turn was made, both links are the peering's and nothing was put into them, the timer is the peering's, and the plan has the fates of these faults.
 pub record IsFreshFar (setup : Setup) (faults : List Fault) (far : fars.Far.Far) : Type 0 where
   pub turns : far.fields.turns ≡ 0
   pub at_turn : far.fields.remote.at_turn ≡ 0
+  pub links : HasLinks far.fields
   pub homeward : (far.fields.homeward.plans ≡ []) × (far.fields.homeward.put ≡ 0)
   pub remoteward : (far.fields.remoteward.plans ≡ []) × (far.fields.remoteward.put ≡ 0)
   pub beat : option_map beat_of (slice_get setup.peerings far.fields.peering.0) ≡ Some far.fields.beat
