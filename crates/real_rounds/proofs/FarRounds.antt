@@ -1,0 +1,274 @@
+-- Takes of a far side, one after another, and then its turn are a real round.
+use Rattle.std.proofs.Common.{◌≡◌, ◌≤◌, ◌<◌, ◌+◌, ◌∙◌, ℕ, zero, suc, Bool, true, false, List, [], ◌∷◌, ◌++◌, length, map, nat_lt, if◌then◌else◌, refl, ap, sym, subst, inl, inr, arith}
+use Rattle.std.specs.Prelude.{◌⊎◌, ◌%◌, ◌^◌, Some, option_map, slice_get, filter}
+use Rattle.std.specs.List.{AllByRecursion}
+use Rattle.std.proofs.Math.Path.{subst⁻¹}
+use Rattle.std.proofs.lemmas.Bool.{lt-ltb, le-ltb}
+use Rattle.std.proofs.lemmas.List.{map-append}
+use Rattle.ring_net.specs.Deeds.{Deed}
+use Rattle.link_bag.specs.declared.plan.Fault.{Fault}
+use Rattle.link_bag.specs.declared.plan.Fate.{Fate}
+use Rattle.link_bag.specs.Planned.{fate_in, fate_of}
+use Rattle.tcp_seq.specs.Endpoint.{Endpoint, next_length, again_length}
+use Rattle.tcp_seq.specs.declared.segment.Way.{Way}
+use Rattle.tcp_seq.specs.declared.segment.Way.TheVariants.{Home, Remote}
+use Rattle.graft_model.specs.Setups.{Setup, beat_of}
+use Rattle.graft_model.specs.Steps.{FarEvent, Send, Beat}
+use Rattle.graft_actors.specs.Emissions.{Tally, nothing}
+use Rattle.far_side.specs.Links as links
+use Rattle.far_side.specs.Links.{home_events, remote_events, left_of, LinkValue}
+use Rattle.far_side.specs.Parts.{far_part}
+use Rattle.far_side.specs.Passes as passes
+use Rattle.far_side.specs.Passes.{fates_in, plans_put, SameRemote, SameLink, again_events, FreshEvents, answer_events}
+use Rattle.far_side.specs.Remotes.{RemoteValue}
+use Rattle.far_side.specs.Turned.{Turned}
+use Rattle.far_side.specs.Turns.{FarRound, AreOf}
+use Rattle.far_side.specs.declared.fields.Fields.{Fields}
+use Rattle.far_side.specs.declared.link.InLink.{InLink}
+use Rattle.world_nodes.specs.Nodes.{Mail}
+use Rattle.real_rounds.specs.Calls.{FarTurnsKeepLinks, HasLinks}
+use Rattle.real_rounds.specs.Ends.{IsFew, GoesOn}
+use Rattle.real_rounds.specs.Fars.{IsSending, Lying, Links, ArePut, PointAt, IsDue, Beats, FarTurn, RealFar, is_take}
+use Rattle.real_rounds.proofs.FarTakes.{TookFar, far_append, far_coded-append, fates_by, fates_put}
+
+-- ---- what stands in links
+
+abbrev pub links_of : Fields → Links
+links_of f = record { home = record { plans = f.homeward.plans; put = f.homeward.put }; remote = record { plans = f.remoteward.plans; put = f.remoteward.put } }
+
+-- a far side at a mark after so many rounds
+pub record FarAt (faults : List Fault) (n : ℕ) (f : Fields) : Type 0 where
+  pub turns : f.turns ≡ n
+  pub level : f.remote.at_turn ≡ f.remote.end.acked
+  pub links : HasLinks f
+  pub beat : option_map beat_of (slice_get f.known.setup.peerings f.peering.0) ≡ Some f.beat
+  pub fates : (way : Way) (segment : ℕ) → fate_in f.plan f.peering way segment ≡ fate_of faults f.peering way segment
+
+-- the plan's fates are those of the faults
+fates_are : (faults : List Fault) (f : Fields) (link : LinkValue) (way : Way) → ((segment : ℕ) → fate_in f.plan f.peering way segment ≡ fate_of faults f.peering way segment) → link.way ≡ way → link.peering ≡ f.peering.0
+    → fates_in f.plan link ≡ (λ k. fate_of faults f.peering way k)
+fates_are faults f link way same leads own = (λ i n. fate_in f.plan (record { 0 = own i }) (leads i) n) ∙ (λ i n. same n i)
+
+point_all : (fate : ℕ → Fate) (router pointer from n : ℕ) → router ≡ pointer → PointAt pointer (plans_put fate router from n)
+point_all fate router pointer from zero is = tt
+point_all fate router pointer from (suc n) is = (is, point_all fate router pointer (from + 1) n is)
+
+-- ---- what is sent
+
+again_sends : (r : RemoteValue) → AllByRecursion IsSending (again_events r)
+again_sends r = by_flags (nat_lt r.at_turn r.end.acked) (nat_lt 0 (again_length r.end))
+  where
+    by_flags : (b c : Bool) → AllByRecursion IsSending (if b then [] else (if c then Send r.end.acked (again_length r.end) ∷ [] else []))
+    by_flags true c = tt
+    by_flags false true = (tt, tt)
+    by_flags false false = tt
+
+again_few : (r : RemoteValue) → length (again_events r) ≤ 1
+again_few r = by_flags (nat_lt r.at_turn r.end.acked) (nat_lt 0 (again_length r.end)) (Send r.end.acked (again_length r.end))
+  where
+    by_flags : (b c : Bool) (e : FarEvent) → length (if b then [] else (if c then e ∷ [] else [])) ≤ 1
+    by_flags true c e = omega arith
+    by_flags false true e = omega arith
+    by_flags false false e = omega arith
+
+-- where nothing was acknowledged since the last turn, what is outstanding is sent again
+again_once : (r : RemoteValue) → r.at_turn ≡ r.end.acked → r.end.acked < r.end.emitted → length (again_events r) ≡ 1
+again_once r level out =
+    ap (λ (b : Bool). length (if b then [] else (if nat_lt 0 (again_length r.end) then Send r.end.acked (again_length r.end) ∷ [] else []))) (le-ltb r.at_turn r.end.acked (omega (arith, level)))
+    ∙ ap (λ (b : Bool). length (if b then Send r.end.acked (again_length r.end) ∷ [] else [])) (lt-ltb 0 (again_length r.end) (omega (arith, out)))
+
+answer_sends : (e : Endpoint) → AllByRecursion IsSending (answer_events e)
+answer_sends e = by_flag e.owed
+  where
+    by_flag : (b : Bool) → AllByRecursion IsSending (if b then Send e.emitted 0 ∷ [] else [])
+    by_flag true = (tt, tt)
+    by_flag false = tt
+
+answer_few : (e : Endpoint) → length (answer_events e) ≤ 1
+answer_few e = by_flag e.owed (Send e.emitted 0)
+  where
+    by_flag : (b : Bool) (x : FarEvent) → length (if b then x ∷ [] else []) ≤ 1
+    by_flag true x = omega arith
+    by_flag false x = omega arith
+
+fresh_sends : (e f : Endpoint) (events : List FarEvent) → FreshEvents e events f → AllByRecursion IsSending events
+fresh_sends e f [] fresh = tt
+fresh_sends e f (event ∷ events) fresh = (subst⁻¹ IsSending fresh.1 tt, fresh_sends (record e { emitted = e.emitted + next_length e }) f events fresh.2)
+
+fresh_acked : (e f : Endpoint) (events : List FarEvent) → FreshEvents e events f → f.acked ≡ e.acked
+fresh_acked e f [] fresh = ap (λ (x : Endpoint). x.acked) fresh.1
+fresh_acked e f (event ∷ events) fresh = fresh_acked (record e { emitted = e.emitted + next_length e }) f events fresh.2
+
+beaten_acked : (a b : Fields) (events : List FarEvent) → passes.Beats a events b → b.remote.end.acked ≡ a.remote.end.acked
+beaten_acked a b events (inl h) = ap (λ (x : Fields). x.remote.end.acked) h.2
+beaten_acked a b events (inr h) = ap (λ (x : Fields). x.remote.end.acked) h.2
+
+goes_on : (a r c : Endpoint) (t : Tally) → a.acked ≤ r.acked → r.emitted ≡ a.emitted → c.acked ≡ r.acked → (a.acked ≡ r.acked → r.acked < r.emitted → t.again ≡ 1) → GoesOn a c t
+goes_on a r c t le emitted acked again out = elim (compare a.acked r.acked le) [
+  | inl rose ↦ inl (omega (arith, rose, acked))
+  | inr is ↦ inr (again is (omega (arith, out, is, emitted)))
+]
+  where
+    compare : (x y : ℕ) → x ≤ y → (x < y) ⊎ (x ≡ y)
+    compare x y h = grind (arith, h)
+
+-- ---- the round
+
+module _ (keep : FarTurnsKeepLinks) (faults : List Fault) (a b c : Fields) (ds es : List (Deed Mail)) (took : TookFar a ds b) (turned : Turned b es c) (n : ℕ) (at : FarAt faults n a) where
+  abbrev pub rest : List FarEvent
+  rest = again_events turned.reached ++ (turned.beats ++ (turned.fresh ++ answer_events turned.sent))
+
+  abbrev pub turn : List FarEvent
+  turn = home_events b.pointer.0 b.homeward.plans ++ (remote_events b.remoteward.plans ++ rest)
+
+  abbrev pub tally : Tally
+  tally = record { again = length (again_events turned.reached); answers = length (answer_events turned.sent) }
+
+  abbrev count : ℕ
+  count = length (again_events turned.reached) + (length turned.fresh + length (answer_events turned.sent))
+
+  second : FarRound a.known.setup a.peering.0 (far_part b) nothing turn (far_part c) tally
+  second = subst (λ (s : Setup). FarRound s a.peering.0 (far_part b) nothing turn (far_part c) tally) took.setup
+      (subst (λ (k : ℕ). FarRound b.known.setup k (far_part b) nothing turn (far_part c) tally) (ap (λ k. k.0) took.peering) turned.round)
+
+  number_is : c.turns ≡ n + 1
+  number_is = omega (arith, turned.turns, took.turns, at.turns)
+
+  pointer_is : b.pointer.0 ≡ c.pointer.0
+  pointer_is = sym (ap (λ (x : Fields). x.pointer.0) turned.same)
+
+  peering_is : c.peering ≡ a.peering
+  peering_is = ap (λ (x : Fields). x.peering) turned.same ∙ took.peering
+
+  reached_at_turn : turned.reached.at_turn ≡ a.remote.end.acked
+  reached_at_turn = ap (λ (x : RemoteValue). x.at_turn) turned.is_reached.is ∙ took.at_turn ∙ at.level
+
+  end_acked : c.remote.end.acked ≡ turned.reached.end.acked
+  end_acked = ap (λ (x : Endpoint). x.acked) turned.end ∙ fresh_acked turned.beaten.remote.end turned.sent turned.fresh turned.is_fresh ∙ beaten_acked turned.before turned.beaten turned.beats turned.is_beat
+      ∙ ap (λ (x : RemoteValue). x.end.acked) turned.is_before.0
+
+  stood : GoesOn a.remote.end c.remote.end tally
+  stood = goes_on a.remote.end turned.reached.end c.remote.end tally (omega (arith, turned.is_reached.acked, took.acked)) (turned.is_reached.emitted ∙ took.emitted) end_acked
+      (λ same out. again_once turned.reached (reached_at_turn ∙ same) out)
+
+  -- the timer
+  due : passes.IsDue turned.before → IsDue a.known.setup a.peering.0 (n + 1) (far_part b)
+  due d = record {
+    beat = turned.before.beat;
+    is = at.beat ∙ ap (λ (k : ℕ). Some k) (sym (turned.is_before.2 ∙ took.beat));
+    some = d.some;
+    multiple = subst (λ (k : ℕ). k % turned.before.beat ≡ 0) round_is d.multiple;
+    later = omega (arith, d.later, turned.is_before.4, round_is);
+    few = omega (arith, d.few, turned.is_before.3);
+    fits = subst (λ (k : ℕ). k + 19 ≤ 2 ^ 20) stream_is d.room;
+  }
+    where
+      round_is : turned.before.turns ≡ n + 1
+      round_is = omega (arith, turned.is_before.1, took.turns, at.turns)
+
+      stream_is : length turned.before.remote.end.stream ≡ length b.remote.end.stream
+      stream_is = ap (λ (x : RemoteValue). length x.end.stream) turned.is_before.0 ∙ ap (λ (xs : List ℕ). length xs) turned.is_reached.stream
+
+  undue : IsDue a.known.setup a.peering.0 (n + 1) (far_part b) → passes.IsDue turned.before
+  undue d = record {
+    some = omega (arith, d.some, beat_is);
+    multiple = subst (λ (k : ℕ). turned.before.turns % k ≡ 0) (sym beat_is) (subst (λ (k : ℕ). k % d.beat ≡ 0) (sym round_is) d.multiple);
+    later = omega (arith, d.later, turned.is_before.4, round_is);
+    few = omega (arith, d.few, turned.is_before.3);
+    room = subst (λ (k : ℕ). k + 19 ≤ 2 ^ 20) (sym stream_is) d.fits;
+  }
+    where
+      same : {x y : ℕ} → Some x ≡ Some y → x ≡ y
+      same h = cc
+
+      beat_is : turned.before.beat ≡ d.beat
+      beat_is = turned.is_before.2 ∙ took.beat ∙ same (sym at.beat ∙ d.is)
+
+      round_is : turned.before.turns ≡ n + 1
+      round_is = omega (arith, turned.is_before.1, took.turns, at.turns)
+
+      stream_is : length turned.before.remote.end.stream ≡ length b.remote.end.stream
+      stream_is = ap (λ (x : RemoteValue). length x.end.stream) turned.is_before.0 ∙ ap (λ (xs : List ℕ). length xs) turned.is_reached.stream
+
+  said : Beats a.known.setup a.peering.0 (n + 1) (far_part b) turned.beats
+  said = elim (turned.is_beat) [
+    | inl h ↦ inl (due h.0, h.1 ∙ ap (λ (k : ℕ). Beat k ∷ []) (let e : turned.before.turns ≡ n + 1 = omega (arith, turned.is_before.1, took.turns, at.turns) in e))
+    | inr h ↦ inr (λ d. h.0 (undue d), h.1)
+  ]
+
+  turn_is : turn ≡ home_events c.pointer.0 a.homeward.plans ++ (remote_events (a.remoteward.plans ++ took.took) ++ rest)
+  turn_is = λ i. home_events (pointer_is i) (took.homeward i).plans ++ (remote_events (took.plans i) ++ rest)
+
+  turns : FarTurn a.known.setup a.peering.0 (n + 1) (far_part b) c.pointer.0 a.homeward.plans (a.remoteward.plans ++ took.took) turn
+  turns = record {
+    again = again_events turned.reached;
+    beats = turned.beats;
+    fresh = turned.fresh;
+    answers = answer_events turned.sent;
+    is = turn_is;
+    sends = (again_sends turned.reached, fresh_sends turned.beaten.remote.end turned.sent turned.fresh turned.is_fresh, answer_sends turned.sent);
+    said = said;
+    count = count;
+    count_is = refl;
+  }
+
+  -- the links
+  abbrev sent : List InLink
+  sent = plans_put (fates_in b.plan b.homeward) b.pointer.0 b.homeward.put count
+
+  home_fates : fates_in b.plan b.homeward ≡ (λ k. fate_of faults a.peering Home k)
+  home_fates = (λ i. fates_in (took.plan i) (took.homeward i)) ∙ fates_are faults a a.homeward Home (at.fates Home) at.links.homeward.0 at.links.homeward.1
+
+  are_sent : ArePut faults a.peering.0 Home a.homeward.put count sent
+  are_sent = record { fates = fates_put (fates_in b.plan b.homeward) b.pointer.0 b.homeward.put count ∙ (λ i. fates_by (home_fates i) (took.homeward i).put count) }
+
+  are_taken : ArePut faults a.peering.0 Remote a.remoteward.put (length (filter is_take took.events)) took.took
+  are_taken = record { fates = took.fates ∙ (λ i. fates_by (fates_are faults a a.remoteward Remote (at.fates Remote) at.links.remoteward.0 at.links.remoteward.1 i) a.remoteward.put (length (filter is_take took.events))) }
+
+  pub real_far : RealFar a.known.setup faults a.peering.0 (n + 1) (far_part a) (links_of a) (took.events ++ turn) (far_part c) (links_of c)
+  unfolding turns
+  real_far = record {
+    taken = took.events;
+    turn = turn;
+    parts = refl;
+    takes = took.takes;
+    mid = far_part b;
+    tally = tally;
+    first = took.round;
+    second = second;
+    rested = turned.rested;
+    few = record { again = again_few turned.reached; answers = answer_few turned.sent };
+    sends = stood;
+    took = took.took;
+    are_taken = are_taken;
+    turns = turns;
+    sent = sent;
+    are_sent = (are_sent, point_all (fates_in b.plan b.homeward) b.pointer.0 c.pointer.0 b.homeward.put count pointer_is);
+    home = λ i. record { plans = (turned.homeward ∙ (λ j. left_of (took.homeward j).plans ++ sent)) i; put = (turned.put ∙ (λ j. (took.homeward j).put + count)) i };
+    remote = λ i. record { plans = (turned.remoteward.0 ∙ (λ j. left_of (took.plans j))) i; put = (turned.remoteward.1 ∙ took.put) i };
+  }
+
+  pub far_coded : AreOf (took.events ++ turn) (ds ++ es)
+  far_coded = far_coded-append took.events turn ds es took.coded turned.events
+
+  pub far_after : FarAt faults (n + 1) c
+  far_after = record {
+    turns = number_is;
+    level = turned.at_turn ∙ sym end_acked;
+    links = record {
+      homeward = ((keep b c es turned).0.way ∙ ap (λ (l : LinkValue). l.way) took.homeward ∙ at.links.homeward.0,
+          (keep b c es turned).0.peering ∙ ap (λ (l : LinkValue). l.peering) took.homeward ∙ at.links.homeward.1 ∙ own);
+      remoteward = ((keep b c es turned).1.way ∙ took.link.way ∙ at.links.remoteward.0, (keep b c es turned).1.peering ∙ took.link.peering ∙ at.links.remoteward.1 ∙ own);
+    };
+    beat = (λ i. option_map beat_of (slice_get (setup_is i).peerings (peering_is i).0)) ∙ at.beat ∙ ap (λ (k : ℕ). Some k) (sym (ap (λ (x : Fields). x.beat) turned.same ∙ took.beat));
+    fates = λ way segment. (λ i. fate_in (plan_is i) (peering_is i) way segment) ∙ at.fates way segment ∙ (λ i. fate_of faults (sym peering_is i) way segment);
+  }
+    where
+      own : a.peering.0 ≡ c.peering.0
+      own = sym (ap (λ k. k.0) peering_is)
+
+      setup_is : c.known.setup ≡ a.known.setup
+      setup_is = ap (λ (x : Fields). x.known.setup) turned.same ∙ took.setup
+
+      plan_is : c.plan ≡ a.plan
+      plan_is = ap (λ (x : Fields). x.plan) turned.same ∙ took.plan

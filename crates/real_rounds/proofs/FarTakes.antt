@@ -1,0 +1,232 @@
+-- Takes of a far side, one after another.
+use Rattle.std.proofs.Common.{◌≡◌, ◌≢◌, ◌+◌, ◌∙◌, ℕ, zero, suc, List, [], ◌∷◌, ◌++◌, length, map, refl, ap, sym, subst, inl, inr, arith, append_assoc, length-append}
+use Rattle.std.specs.Prelude.{Option, Some, None, option_map, filter}
+use Rattle.std.specs.List.{AllByRecursion, range_with_len}
+use Rattle.std.proofs.Math.Path.{subst⁻¹}
+use Rattle.std.proofs.lemmas.List.{append-nil, map-append}
+use Rattle.std.proofs.lemmas.List.Elements.{filter-append}
+use Rattle.ring_net.specs.declared.entry.JournalEntry.{JournalEntry}
+use Rattle.ring_net.specs.Deeds.{Deed, Replay, TakesFirst}
+use Rattle.ring_net.proofs.Replays.{all-append}
+use Rattle.link_bag.specs.declared.plan.Fate.{Fate}
+use Rattle.link_bag.specs.Planned.{fate_in}
+use Rattle.graft_model.specs.Codes.{far_code}
+use Rattle.graft_model.specs.Parts.{FarPart}
+use Rattle.graft_model.specs.FarRows.{FarTaken, FarSent}
+use Rattle.graft_model.specs.Setups.{Setup}
+use Rattle.graft_model.specs.Steps.{far_row, FarEvent, Say, Send, Take, Pass, Reach, Lose, Point, Beat}
+use Rattle.graft_runs.specs.Actors.{FarSide, FarIs}
+use Rattle.graft_runs.specs.Makes.{HasCode, makes_as, MakesRow, taken_by_far, sent_by_far}
+use Rattle.graft_actors.specs.Acts.{OwnPart, ActsAs, acts}
+use Rattle.graft_actors.specs.Emissions.{Tally, nothing}
+use Rattle.router_core.specs.Parts.{carried}
+use Rattle.far_side.specs.Parts.{far_part, own_part}
+use Rattle.far_side.specs.Passes.{SameLink, fates_in, plans_put}
+use Rattle.far_side.specs.Takes.{Took, taken_in}
+use Rattle.far_side.specs.Turns.{FarRound, AreOf, CarefulFar, far_tally}
+use Rattle.far_side.specs.declared.fields.Fields.{Fields}
+use Rattle.far_side.specs.declared.link.InLink.{InLink}
+use Rattle.world_nodes.specs.Nodes.{Mail}
+use Rattle.real_rounds.specs.Calls.{FarTakesAreOne, FarTakesKeepLinks}
+use Rattle.real_rounds.specs.Fars.{IsTaking, is_take}
+use Rattle.real_rounds.proofs.RouterDeeds.{IsKept}
+
+-- ---- events after events
+
+pub far_append : (setup : Setup) (p : ℕ) (a b c : FarPart) (t u w : Tally) (es fs : List FarEvent) → FarRound setup p a t es b u → FarRound setup p b u fs c w → FarRound setup p a t (es ++ fs) c w
+far_append setup p a b c t u w [] fs h k = subst (λ (x : FarPart). FarRound setup p x t fs c w) h.0 (subst (λ (x : Tally). FarRound setup p b x fs c w) h.1 k)
+far_append setup p a b c t u w (e ∷ es) fs (taken, sent, m, row, careful, rest) k = (taken, sent, m, row, careful, far_append setup p m b c (far_tally a e t) u w es fs rest k)
+
+pub far_coded-append : {I : Type 0} (es fs : List FarEvent) (ds gs : List (Deed I)) → AreOf es ds → AreOf fs gs → AreOf (es ++ fs) (ds ++ gs)
+far_coded-append [] fs [] gs h k = k
+far_coded-append [] fs (d ∷ ds) gs h k = absurd h
+far_coded-append (e ∷ es) fs [] gs h k = absurd h
+far_coded-append (e ∷ es) fs (d ∷ ds) gs h k = (h.0, far_coded-append es fs ds gs h.1 k)
+
+-- ---- fates
+
+abbrev pub fates_by : (ℕ → Fate) → (from n : ℕ) → List (Fate × ℕ)
+fates_by fate from n = map (λ k. (fate k, 0)) (range_with_len (from + 1) n)
+
+pub fates_put : (fate : ℕ → Fate) (router from n : ℕ) → map (λ (x : InLink). (x.fate, x.turns)) (plans_put fate router from n) ≡ fates_by fate from n
+fates_put fate router from zero = refl
+fates_put fate router from (suc n) = ap (λ (xs : List (Fate × ℕ)). (fate (from + 1), 0) ∷ xs) (fates_put fate router (from + 1) n)
+
+pub fates_then : (fate : ℕ → Fate) (from m n k next : ℕ) → k ≡ m + n → next ≡ from + m → fates_by fate from k ≡ fates_by fate from m ++ fates_by fate next n
+fates_then fate from zero n k next e f =
+    ap (λ (i : ℕ). fates_by fate from i) (let h : k ≡ n = omega (arith, e) in h) ∙ ap (λ (i : ℕ). fates_by fate i n) (let h : from ≡ next = omega (arith, f) in h)
+fates_then fate from (suc m) n zero next e f = absurd (omega (arith, e))
+fates_then fate from (suc m) n (suc k) next e f = ap (λ (xs : List (Fate × ℕ)). (fate (from + 1), 0) ∷ xs) (fates_then fate (from + 1) m n k next (omega (arith, e)) (omega (arith, f)))
+
+-- ---- one take
+
+counts : (event : FarEvent) (d : Deed Mail) → HasCode (far_code event) d.entry → taken_in (d ∷ []) ≡ length (filter is_take (event ∷ []))
+counts (Say step) d coded = rw (coded.kind) refl
+counts (Send from len) d coded = rw (coded.kind) refl
+counts (Take router) d coded = rw (coded.kind) refl
+counts (Pass index keep router) d coded = rw (coded.kind) refl
+counts (Reach index keep) d coded = rw (coded.kind) refl
+counts (Lose way index) d coded = rw (coded.kind) refl
+counts (Point router) d coded = rw (coded.kind) refl
+counts (Beat round) d coded = rw (coded.kind) refl
+
+taking_row : (setup : Setup) (p : ℕ) (event : FarEvent) (a b : FarPart) (taken : Option FarTaken) (sent : List FarSent) → far_row setup p event a taken sent b → taken ≢ None → IsTaking event
+taking_row setup p (Say step) a b taken sent row some = tt
+taking_row setup p (Send from len) a b taken sent row some = absurd (some row.takes)
+taking_row setup p (Take router) a b taken sent row some = tt
+taking_row setup p (Pass index keep router) a b taken sent row some = absurd (some row.takes)
+taking_row setup p (Reach index keep) a b taken sent row some = absurd (some row.takes)
+taking_row setup p (Lose way index) a b taken sent row some = absurd (some row.takes)
+taking_row setup p (Point router) a b taken sent row some = tt
+taking_row setup p (Beat round) a b taken sent row some = absurd (some row.takes)
+
+-- a taking event sends nothing, so that there is nothing to be careful of, nor to count
+taking_careful : (event : FarEvent) (a : FarPart) → IsTaking event → CarefulFar a event
+taking_careful (Say step) a taking = tt
+taking_careful (Send from len) a taking = absurd taking
+taking_careful (Take router) a taking = tt
+taking_careful (Pass index keep router) a taking = absurd taking
+taking_careful (Reach index keep) a taking = absurd taking
+taking_careful (Lose way index) a taking = absurd taking
+taking_careful (Point router) a taking = tt
+taking_careful (Beat round) a taking = absurd taking
+
+taking_tally : (event : FarEvent) (a : FarPart) (t : Tally) → IsTaking event → t ≡ far_tally a event t
+taking_tally (Say step) a t taking = refl
+taking_tally (Send from len) a t taking = absurd taking
+taking_tally (Take router) a t taking = refl
+taking_tally (Pass index keep router) a t taking = absurd taking
+taking_tally (Reach index keep) a t taking = absurd taking
+taking_tally (Lose way index) a t taking = absurd taking
+taking_tally (Point router) a t taking = refl
+taking_tally (Beat round) a t taking = absurd taking
+
+-- ---- several takes
+
+-- What takes leave: their events, each of which takes an item, and what is put into the link to the remote.
+pub record TookFar (a : Fields) (ds : List (Deed Mail)) (b : Fields) : Type 0 where
+  pub setup : b.known.setup ≡ a.known.setup
+  pub peering : b.peering ≡ a.peering
+  pub events : List FarEvent
+  pub coded : AreOf events ds
+  pub round : FarRound a.known.setup a.peering.0 (far_part a) nothing events (far_part b) nothing
+  pub takes : AllByRecursion IsTaking events
+  pub took : List InLink
+  pub fates : map (λ (x : InLink). (x.fate, x.turns)) took ≡ fates_by (fates_in a.plan a.remoteward) a.remoteward.put (length (filter is_take events))
+  pub plans : b.remoteward.plans ≡ a.remoteward.plans ++ took
+  pub put : b.remoteward.put ≡ a.remoteward.put + length (filter is_take events)
+  pub link : SameLink a.remoteward b.remoteward
+  pub homeward : b.homeward ≡ a.homeward
+  pub acked : b.remote.end.acked ≡ a.remote.end.acked
+  pub emitted : b.remote.end.emitted ≡ a.remote.end.emitted
+  pub at_turn : b.remote.at_turn ≡ a.remote.at_turn
+  pub turns : b.turns ≡ a.turns
+  pub beat : b.beat ≡ a.beat
+  pub plan : b.plan ≡ a.plan
+
+pub far_none : (a : Fields) → TookFar a [] a
+far_none a = record {
+  setup = refl;
+  peering = refl;
+  events = [];
+  coded = tt;
+  round = (refl, refl);
+  takes = tt;
+  took = [];
+  fates = refl;
+  plans = sym (append-nil a.remoteward.plans);
+  put = omega arith;
+  link = record { way = refl; peering = refl; seq_first = refl; ack_first = refl };
+  homeward = refl;
+  acked = refl;
+  emitted = refl;
+  at_turn = refl;
+  turns = refl;
+  beat = refl;
+  plan = refl;
+}
+
+some_taken : {A B : Type 0} (f : A → B) (x : B) (o : Option A) → Some x ≡ option_map f o → o ≢ None
+some_taken f x None e h = absurd cc
+some_taken f x (Some y) e h = absurd cc
+
+-- the row of the one event of a take
+module _ (a b : Fields) (d : Deed Mail) (from : ℕ) (item : Mail) (first : d.taken ≡ Some (from, item)) (act : ActsAs carried (own_part a) d.entry d.taken d.sent (own_part b)) (kept : d.entry.kind ≢ 0) where
+  abbrev Row : Type 0
+  Row = (event : FarEvent) × (taken : Option FarTaken) × (sent : List FarSent) × HasCode (far_code event) d.entry × far_row a.known.setup a.peering.0 event (far_part a) taken sent (far_part b) × IsTaking event
+
+  row_of : (o : Option (ℕ × Mail)) → o ≡ Some (from, item) → ActsAs carried (own_part a) d.entry o d.sent (own_part b) → Row
+  row_of None e act = absurd cc
+  row_of (Some x) e act = elim act.does [
+    | inl makes ↦ (makes.row.event, makes.row.took, makes.row.gave, makes.row.coded, makes.row.holds,
+        taking_row a.known.setup a.peering.0 makes.row.event (far_part a) (far_part b) makes.row.took makes.row.gave makes.row.holds (some_taken _ _ makes.row.took makes.row.is_taken))
+    | inr drops ↦ absurd (kept drops.kind)
+  ]
+
+  one_row : Row
+  one_row = row_of d.taken first act
+
+one_more : (a b : Fields) (from : ℕ) (item : Mail) (d : Deed Mail) → FarTakesKeepLinks → Took a from item (d ∷ []) b → d.taken ≡ Some (from, item) → ActsAs carried (own_part a) d.entry d.taken d.sent (own_part b) → d.entry.kind ≢ 0 → TookFar a (d ∷ []) b
+one_more a b from item d links took first act kept =
+    let (event, taken, sent, code, row, taking) = one_row a b d from item first act kept in
+    let n : taken_in (d ∷ []) ≡ length (filter is_take (event ∷ [])) = counts event d code in
+    record {
+      setup = ap (λ (x : Fields). x.known.setup) took.same;
+      peering = ap (λ (x : Fields). x.peering) took.same;
+      events = event ∷ [];
+      coded = (code, tt);
+      round = (taken, sent, far_part b, row, taking_careful event (far_part a) taking, (refl, taking_tally event (far_part a) nothing taking));
+      takes = (taking, tt);
+      took = plans_put (fates_in a.plan a.remoteward) a.pointer.0 a.remoteward.put (taken_in (d ∷ []));
+      fates = fates_put (fates_in a.plan a.remoteward) a.pointer.0 a.remoteward.put (taken_in (d ∷ [])) ∙ ap (λ (k : ℕ). fates_by (fates_in a.plan a.remoteward) a.remoteward.put k) n;
+      plans = took.plans;
+      put = took.put ∙ ap (λ (k : ℕ). a.remoteward.put + k) n;
+      link = links a b from item (d ∷ []) took;
+      homeward = ap (λ (x : Fields). x.homeward) took.same;
+      acked = ap (λ x. x.end.acked) took.remote;
+      emitted = ap (λ x. x.end.emitted) took.remote;
+      at_turn = ap (λ x. x.at_turn) took.remote;
+      turns = ap (λ (x : Fields). x.turns) took.same;
+      beat = ap (λ (x : Fields). x.beat) took.same;
+      plan = ap (λ (x : Fields). x.plan) took.same;
+    }
+
+pub far_one : FarTakesAreOne → FarTakesKeepLinks → (a b : Fields) (n from : ℕ) (item : Mail) (ds : List (Deed Mail)) → Took a from item ds b → TakesFirst from item ds → Replay (acts carried) n (own_part a) ds (own_part b) → AllByRecursion IsKept ds
+    → TookFar a ds b
+far_one law links a b n from item [] took first replay kept = absurd first
+far_one law links a b n from item (d ∷ []) took first replay kept =
+    one_more a b from item d links took first.0 (subst⁻¹ (λ (x : OwnPart). ActsAs carried (own_part a) d.entry d.taken d.sent x) replay.2 replay.1) kept.0
+far_one law links a b n from item (d ∷ e ∷ ds) took first replay kept = absurd (let h = law a b from item (d ∷ e ∷ ds) took in omega (arith, h))
+
+-- the fates of a link depend on its way and peering alone
+same_fates : (a b : Fields) → b.plan ≡ a.plan → SameLink a.remoteward b.remoteward → fates_in b.plan b.remoteward ≡ fates_in a.plan a.remoteward
+same_fates a b plan link = λ i n. fate_in (plan i) (record { 0 = link.peering i }) (link.way i) n
+
+pub far_then : (a b c : Fields) (ds es : List (Deed Mail)) → TookFar a ds b → TookFar b es c → TookFar a (ds ++ es) c
+far_then a b c ds es x y = record {
+  setup = y.setup ∙ x.setup;
+  peering = y.peering ∙ x.peering;
+  events = x.events ++ y.events;
+  coded = far_coded-append x.events y.events ds es x.coded y.coded;
+  round = far_append a.known.setup a.peering.0 (far_part a) (far_part b) (far_part c) nothing nothing nothing x.events y.events x.round
+      (subst (λ (s : Setup). FarRound s a.peering.0 (far_part b) nothing y.events (far_part c) nothing) x.setup
+      (subst (λ (k : ℕ). FarRound b.known.setup k (far_part b) nothing y.events (far_part c) nothing) (ap (λ k. k.0) x.peering) y.round));
+  takes = all-append IsTaking x.events y.events x.takes y.takes;
+  took = x.took ++ y.took;
+  fates = map-append (λ (l : InLink). (l.fate, l.turns)) x.took y.took
+      ∙ (λ i. x.fates i ++ (y.fates ∙ ap (λ (f : ℕ → Fate). fates_by f b.remoteward.put (length (filter is_take y.events))) (same_fates a b x.plan x.link)) i)
+      ∙ sym (fates_then (fates_in a.plan a.remoteward) a.remoteward.put (length (filter is_take x.events)) (length (filter is_take y.events)) (length (filter is_take (x.events ++ y.events))) b.remoteward.put many x.put);
+  plans = y.plans ∙ ap (λ (xs : List InLink). xs ++ y.took) x.plans ∙ append_assoc a.remoteward.plans x.took y.took;
+  put = omega (arith, y.put, x.put, many);
+  link = record { way = y.link.way ∙ x.link.way; peering = y.link.peering ∙ x.link.peering; seq_first = y.link.seq_first ∙ x.link.seq_first; ack_first = y.link.ack_first ∙ x.link.ack_first };
+  homeward = y.homeward ∙ x.homeward;
+  acked = y.acked ∙ x.acked;
+  emitted = y.emitted ∙ x.emitted;
+  at_turn = y.at_turn ∙ x.at_turn;
+  turns = y.turns ∙ x.turns;
+  beat = y.beat ∙ x.beat;
+  plan = y.plan ∙ x.plan;
+}
+  where
+    many : length (filter is_take (x.events ++ y.events)) ≡ length (filter is_take x.events) + length (filter is_take y.events)
+    many = ap (λ (xs : List FarEvent). length xs) (filter-append is_take x.events y.events) ∙ length-append (filter is_take x.events) (filter is_take y.events)

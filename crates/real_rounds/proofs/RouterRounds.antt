@@ -1,0 +1,237 @@
+-- Takes of a router, one after another, and then its turn are a real round.
+use Rattle.std.proofs.Common.{◌≡◌, ◌≢◌, ◌≤◌, ◌<◌, ◌+◌, ℕ, List, [], ◌∷◌, ◌++◌, length, refl, ap, sym, subst, ◌∙◌, inl, inr, arith}
+use Rattle.std.specs.Prelude.{◌⊎◌, Option}
+use Rattle.std.specs.List.{AllByRecursion}
+use Rattle.std.proofs.Math.Path.{subst⁻¹}
+use Rattle.ring_net.specs.Deeds.{Deed, Replay, TakesNone, TakesFirst}
+use Rattle.graft_steps.specs.declared.order.GraftIds.{GraftIds}
+use Rattle.bgp_session.specs.Running.{RunningSession}
+use Rattle.bgp_session.specs.Steps.{MayPass}
+use Rattle.session_value.specs.Sessions.{SessionValue}
+use Rattle.graft_model.specs.Parts as model
+use Rattle.graft_model.specs.Parts.{RouterPart}
+use Rattle.graft_model.specs.RouterRows.{IsLive}
+use Rattle.graft_model.specs.Setups.{Setup}
+use Rattle.graft_model.specs.Steps.{RouterEvent}
+use Rattle.graft_actors.specs.Acts.{acts}
+use Rattle.graft_actors.specs.Emissions.{Tally, nothing}
+use Rattle.router_core.specs.Parts.{router_part, own_part, carried}
+use Rattle.router_core.specs.Places.{place_at, place_of, RunsAt}
+use Rattle.router_core.specs.Rested.{RestedRouter}
+use Rattle.router_core.specs.Rounds.{AreOf, RouterRound, SameRouter}
+use Rattle.router_core.specs.Takes.{Took, TakesRows, Stays}
+use Rattle.router_core.specs.Turned.{Turned, TurnsSession, NoPuts, NoRounds, rounds_on}
+use Rattle.router_core.specs.declared.fields.Fields.{Fields}
+use Rattle.router_core.specs.declared.place.Place.{Place}
+use Rattle.router_core.specs.declared.place.Place.TheVariants.{Vacant, Live, Shadow}
+use Rattle.router_core.proofs.Dids.{same_router, router_then, are_of-append, round_at}
+use Rattle.router_core.proofs.RoundLists.{rounds_on-append, no_puts_then}
+use Rattle.world_nodes.specs.Nodes.{Mail}
+use Rattle.real_rounds.specs.Calls.{TakesAreCalm, TurnsPassOne}
+use Rattle.real_rounds.specs.Ends.{IsFew, GoesOn}
+use Rattle.real_rounds.specs.Routers.{RouterGoes, HasLive, Stands, HoldRuns, RealRouter}
+use Rattle.real_rounds.proofs.RouterDeeds.{IsKept, took_welcome}
+use Rattle.real_rounds.proofs.RouterRows.{LandsNobody, live_start, no_rounds_there}
+use Rattle.real_rounds.proofs.RouterWays.{goes_of, goes_append, through_both}
+
+-- ---- places
+
+-- a session that is live in the model runs
+pub runs_at : (f : Fields) (p : ℕ) (s : SessionValue) (o : Option model.Order) → IsLive (router_part f) p s o → (v : RunningSession) × (q : Option GraftIds) × RunsAt f.places.items p v q × (v.session ≡ s)
+runs_at f p s o live = by_place (place_at f.places.items p) refl
+  where
+    same : (v : RunningSession) (q : Option model.Order) → model.Live v.session q ≡ model.Live s o → v.session ≡ s
+    same v q e = cc
+
+    by_place : (x : Place) → place_at f.places.items p ≡ x → (v : RunningSession) × (q : Option GraftIds) × RunsAt f.places.items p v q × (v.session ≡ s)
+    by_place Vacant e = absurd (let h : model.Vacant ≡ model.Live s o = ap place_of (sym e) ∙ live.is in cc)
+    by_place (Live v q) e = (v, q, record { is = e }, same v _ (ap place_of (sym e) ∙ live.is))
+    by_place (Shadow away) e = absurd (let h : model.Shadow away.graft ≡ model.Live s o = ap place_of (sym e) ∙ live.is in cc)
+
+live_at : (f : Fields) (p : ℕ) (v : RunningSession) (q : Option GraftIds) → RunsAt f.places.items p v q → HasLive p (router_part f)
+live_at f p v q runs = (v.session, _, record { is = ap place_of runs.is })
+
+some_running : (f : Fields) (p : ℕ) → HasLive p (router_part f) → (v : RunningSession) × (q : Option GraftIds) × RunsAt f.places.items p v q
+some_running f p (s, o, live) = let x = runs_at f p s o live in (x.0, x.1, x.2)
+
+-- ---- several takes
+
+stays_then : (s v u : RunningSession) → Stays s v → Stays v u → Stays s u
+stays_then s v u x y = record { acked = omega (arith, x.acked, y.acked); emitted = y.emitted ∙ x.emitted; at_turn = y.at_turn ∙ x.at_turn }
+
+same_running : (f : Fields) (p : ℕ) (s u : RunningSession) (o q : Option GraftIds) → RunsAt f.places.items p s o → RunsAt f.places.items p u q → u ≡ s
+same_running f p s u o q x y = let e : Live s o ≡ Live u q = sym x.is ∙ y.is in cc
+
+-- What takes leave: their events, in which no round passes and nothing is put, and the sessions that stay.
+pub record TookRouter (a : Fields) (ds : List (Deed Mail)) (b : Fields) : Type 0 where
+  pub router : SameRouter a b
+  pub turns : b.turns ≡ a.turns
+  pub events : List RouterEvent
+  pub moments : List RouterPart
+  pub coded : AreOf events ds
+  pub goes : RouterGoes a.known.setup a.number.0 (router_part a) (λ p. nothing) events moments (router_part b) (λ p. nothing)
+  pub no_rounds : NoRounds events
+  pub no_puts : NoPuts events
+  pub stays : (p : ℕ) (s u : RunningSession) (o q : Option GraftIds) → RunsAt a.places.items p s o → RunsAt b.places.items p u q → AllByRecursion (HasLive p) (router_part a ∷ moments) → Stays s u
+
+pub took_none : (a : Fields) → TookRouter a [] a
+took_none a = record {
+  router = same_router a;
+  turns = refl;
+  events = [];
+  moments = [];
+  coded = tt;
+  goes = (refl, refl);
+  no_rounds = λ p. refl;
+  no_puts = tt;
+  stays = λ p s u o q x y all. (let e : u ≡ s = same_running a p s u o q x y in
+    record { acked = omega (arith, ap (λ (v : RunningSession). v.session.end.acked) e); emitted = ap (λ (v : RunningSession). v.session.end.emitted) e; at_turn = ap (λ (v : RunningSession). v.acked_at_turn) e });
+}
+
+pub took_one : TakesAreCalm → (a b : Fields) (n from : ℕ) (item : Mail) (ds : List (Deed Mail)) → Took a from item ds b → TakesFirst from item ds → Replay (acts carried) n (own_part a) ds (own_part b) → AllByRecursion IsKept ds
+    → TookRouter a ds b
+took_one law a b n from item ds took first replay kept =
+    let welcome = took_welcome n (own_part a) (own_part b) from item ds first replay kept in
+    let rows : TakesRows a ds b = took.rows welcome in
+    let goes = goes_of a.known.setup a.number.0 (router_part a) (router_part b) (λ p. nothing) (λ p. nothing) rows.events (rows.round (λ p. nothing)) in
+    let calm = law a b from item ds took welcome in
+    record {
+      router = took.router;
+      turns = took.turns;
+      events = rows.events;
+      moments = goes.0;
+      coded = rows.coded;
+      goes = goes.1;
+      no_rounds = calm.0;
+      no_puts = calm.1;
+      stays = λ p s u o q x y all. rows.stays p s u o q x y;
+    }
+
+goes_at : (a b : Fields) (t u : ℕ → Tally) (es : List RouterEvent) (ms : List RouterPart) (x y : RouterPart) → SameRouter a b → RouterGoes b.known.setup b.number.0 x t es ms y u → RouterGoes a.known.setup a.number.0 x t es ms y u
+goes_at a b t u es ms x y same h =
+    subst (λ (s : Setup). RouterGoes s a.number.0 x t es ms y u) same.setup (subst (λ (n : ℕ). RouterGoes b.known.setup n x t es ms y u) (ap (λ k. k.0) same.number) h)
+
+pub took_then : (a b c : Fields) (ds es : List (Deed Mail)) → TookRouter a ds b → TookRouter b es c → TookRouter a (ds ++ es) c
+took_then a b c ds es x y = record {
+  router = router_then a b c x.router y.router;
+  turns = y.turns ∙ x.turns;
+  events = x.events ++ y.events;
+  moments = x.moments ++ y.moments;
+  coded = are_of-append x.events y.events ds es x.coded y.coded;
+  goes = goes_append a.known.setup a.number.0 (router_part a) (router_part b) (router_part c) (λ p. nothing) (λ p. nothing) (λ p. nothing) x.events y.events x.moments y.moments x.goes
+      (goes_at a b (λ p. nothing) (λ p. nothing) y.events y.moments (router_part b) (router_part c) x.router y.goes);
+  no_rounds = λ p. rounds_on-append p x.events y.events ∙ ap (λ (xs : List ℕ). xs ++ rounds_on p y.events) (x.no_rounds p) ∙ y.no_rounds p;
+  no_puts = no_puts_then x.events y.events x.no_puts y.no_puts;
+  stays = λ p s u o q before after all. (
+    let both = through_both (HasLive p) a.known.setup a.number.0 (router_part a) (router_part b) (λ p. nothing) (λ p. nothing) x.events x.moments y.moments x.goes all in
+    let mid = some_running b p both.1.0 in
+    stays_then s mid.0 u (x.stays p s mid.0 o mid.1 before mid.2 both.0) (y.stays p mid.0 u mid.1 q mid.2 after both.1));
+}
+
+-- ---- the round
+
+-- a router at a mark after so many rounds: what was acknowledged at each session's last retransmission turn is what is acknowledged
+pub record RouterAt (n : ℕ) (f : Fields) : Type 0 where
+  pub turns : f.turns ≡ n
+  pub level : (p : ℕ) (s : RunningSession) (o : Option GraftIds) → RunsAt f.places.items p s o → s.acked_at_turn ≡ s.session.end.acked
+
+-- what is outstanding at the start goes on
+goes_on : (s m u : RunningSession) (t : Tally) → s.acked_at_turn ≡ s.session.end.acked → Stays s m → u.session.end.acked ≡ m.session.end.acked
+    → (m.acked_at_turn ≡ m.session.end.acked → m.session.end.acked < m.session.end.emitted → t.again ≡ 1) → GoesOn s.session.end u.session.end t
+goes_on s m u t level stays same again out = elim (compare s.session.end.acked m.session.end.acked stays.acked) [
+  | inl rose ↦ inl (omega (arith, rose, same))
+  | inr is ↦ inr (again (stays.at_turn ∙ level ∙ is) (omega (arith, out, is, stays.emitted)))
+]
+  where
+    compare : (a b : ℕ) → a ≤ b → (a < b) ⊎ (a ≡ b)
+    compare a b h = grind (arith, h)
+
+-- On a session that stands through the round, and whose hold time runs, a round may pass in the turn.
+abbrev pub MayPassThen : (start mid end : Fields) → List RouterPart → Type 0
+MayPassThen a b c moments = (p : ℕ) (s u : SessionValue) → Stands p (router_part a) moments (router_part c) s u → HoldRuns s → HoldRuns u → length s.end.stream ≤ 1044461
+    → (m : RunningSession) (o : Option GraftIds) → RunsAt b.places.items p m o → MayPass m.session c.turns
+
+module _ (pass : TurnsPassOne) (a b c : Fields) (ds es : List (Deed Mail)) (took : TookRouter a ds b) (turned : Turned b es c) (calm : AllByRecursion LandsNobody turned.events) (n : ℕ) (at : RouterAt n a) where
+  turn_round : RouterRound a.known.setup a.number.0 (router_part b) (λ p. nothing) turned.events (router_part c) turned.tally
+  turn_round = round_at a b (λ p. nothing) turned.tally turned.events (router_part b) (router_part c) took.router turned.round
+
+  pub turn_parts : (ms : List RouterPart) × RouterGoes a.known.setup a.number.0 (router_part b) (λ p. nothing) turned.events ms (router_part c) turned.tally
+  turn_parts = goes_of a.known.setup a.number.0 (router_part b) (router_part c) (λ p. nothing) turned.tally turned.events turn_round
+
+  number_is : c.turns ≡ n + 1
+  number_is = omega (arith, turned.turns, took.turns, at.turns)
+
+  goes : RouterGoes a.known.setup a.number.0 (router_part a) (λ p. nothing) (took.events ++ turned.events) (took.moments ++ turn_parts.0) (router_part c) turned.tally
+  goes = goes_append a.known.setup a.number.0 (router_part a) (router_part b) (router_part c) (λ p. nothing) (λ p. nothing) turned.tally took.events turned.events took.moments turn_parts.0 took.goes turn_parts.1
+
+  rested : RestedRouter a.known.setup a.number.0 (router_part c)
+  rested = subst (λ (s : Setup). RestedRouter s a.number.0 (router_part c)) took.router.setup
+      (subst (λ (k : ℕ). RestedRouter b.known.setup k (router_part c)) (ap (λ k. k.0) took.router.number) turned.rested)
+
+  -- the session that stands there, at the start, before the turn and at the end
+  stood : (p : ℕ) (s u : SessionValue) → Stands p (router_part a) (took.moments ++ turn_parts.0) (router_part c) s u → GoesOn s.end u.end (turned.tally p)
+  stood p s u st =
+      let both = through_both (HasLive p) a.known.setup a.number.0 (router_part a) (router_part b) (λ p. nothing) (λ p. nothing) took.events took.moments turn_parts.0 took.goes st.throughout in
+      let (v, v_order, v_at, v_is) = runs_at a p s st.first_order st.starts in
+      let (m, m_order, m_at) = some_running b p both.1.0 in
+      let (w, w_order, w_at, w_is) = runs_at c p u st.last_order st.ends in
+      let on : TurnsSession c.turns p turned.events (turned.tally p) m w = turned.sessions p m w m_order w_order m_at w_at in
+      subst (λ (x : SessionValue). GoesOn x.end u.end (turned.tally p)) v_is (subst (λ (x : SessionValue). GoesOn v.session.end x.end (turned.tally p)) w_is
+      (goes_on v m w (turned.tally p) (at.level p v v_order v_at) (took.stays p v m v_order m_order v_at m_at both.0) on.acked on.again))
+
+  rounds_are : (p : ℕ) → rounds_on p (took.events ++ turned.events) ≡ rounds_on p turned.events
+  rounds_are p = rounds_on-append p took.events turned.events ∙ ap (λ (xs : List ℕ). xs ++ rounds_on p turned.events) (took.no_rounds p)
+
+  pub numbered : (p : ℕ) → AllByRecursion (λ k. k ≡ n + 1) (rounds_on p (took.events ++ turned.events))
+  numbered p = subst⁻¹ (λ (xs : List ℕ). AllByRecursion (λ k. k ≡ n + 1) xs) (rounds_are p) (by_place (place_at b.places.items p) refl)
+    where
+      absent : (x : Place) → place_at b.places.items p ≡ x → ((v : RunningSession) (q : Option GraftIds) → x ≢ Live v q) → AllByRecursion (λ k. k ≡ n + 1) (rounds_on p turned.events)
+      absent x e none = subst⁻¹ (λ (xs : List ℕ). AllByRecursion (λ k. k ≡ n + 1) xs)
+          (no_rounds_there a.known.setup a.number.0 (router_part b) (router_part c) (λ p. nothing) turned.tally turned.events turn_round calm p
+          (λ live. (let some = some_running b p live in none some.0 some.1 (sym e ∙ some.2.is)))) tt
+
+      by_place : (x : Place) → place_at b.places.items p ≡ x → AllByRecursion (λ k. k ≡ n + 1) (rounds_on p turned.events)
+      by_place Vacant e = absent Vacant e (λ v q h. absurd cc)
+      by_place (Live v q) e = elim (pass b c es turned p v q (record { is = e })) [
+        | inl h ↦ subst⁻¹ (λ (xs : List ℕ). AllByRecursion (λ k. k ≡ n + 1) xs) h.1 (number_is, tt)
+        | inr h ↦ subst⁻¹ (λ (xs : List ℕ). AllByRecursion (λ k. k ≡ n + 1) xs) h.1 tt
+      ]
+      by_place (Shadow away) e = absent (Shadow away) e (λ v q h. absurd cc)
+
+  ticks : MayPassThen a b c (took.moments ++ turn_parts.0) → (p : ℕ) (s u : SessionValue) → Stands p (router_part a) (took.moments ++ turn_parts.0) (router_part c) s u → HoldRuns s → HoldRuns u → length s.end.stream ≤ 1044461
+      → rounds_on p (took.events ++ turned.events) ≡ (n + 1) ∷ []
+  ticks may p s u st starts ends room =
+      let both = through_both (HasLive p) a.known.setup a.number.0 (router_part a) (router_part b) (λ p. nothing) (λ p. nothing) took.events took.moments turn_parts.0 took.goes st.throughout in
+      let (m, m_order, m_at) = some_running b p both.1.0 in
+      rounds_are p ∙ elim (pass b c es turned p m m_order m_at) [
+        | inl h ↦ h.1 ∙ ap (λ (k : ℕ). k ∷ []) number_is
+        | inr h ↦ absurd (h.0 (may p s u st starts ends room m m_order m_at))
+      ]
+
+  pub real_router : MayPassThen a b c (took.moments ++ turn_parts.0) → RealRouter a.known.setup a.number.0 (n + 1) (router_part a) (took.events ++ turned.events) (router_part c)
+  real_router may = record {
+    taken = took.events;
+    turn = turned.events;
+    parts = refl;
+    tally = turned.tally;
+    moments = took.moments ++ turn_parts.0;
+    goes = goes;
+    rested = rested;
+    few = λ p. record { again = (turned.few p).0; answers = (turned.few p).1 };
+    sends = stood;
+    numbered = numbered;
+    order = turned.in_order;
+    ticks = ticks may;
+  }
+
+  pub router_coded : AreOf (took.events ++ turned.events) (ds ++ es)
+  router_coded = are_of-append took.events turned.events ds es took.coded turned.coded
+
+  pub router_after : RouterAt (n + 1) c
+  router_after = record {
+    turns = number_is;
+    level = λ p u q runs. (
+      let before = some_running b p (live_start a.known.setup a.number.0 (router_part b) (router_part c) (λ p. nothing) turned.tally turned.events turn_round calm p (live_at c p u q runs)) in
+      let on : TurnsSession c.turns p turned.events (turned.tally p) before.0 u = turned.sessions p before.0 u before.1 q before.2 runs in
+      on.at_turn ∙ sym on.acked);
+  }

@@ -1,0 +1,59 @@
+-- What is used of single calls beside what their contracts say.
+use Rattle.std.specs.Prelude.{ℕ, ◌≡◌, ◌⊎◌, List, [], ◌∷◌, length, Option}
+use Rattle.ring_net.specs.Deeds.{Deed}
+use Rattle.graft_steps.specs.declared.item.Item.{Item}
+use Rattle.graft_steps.specs.declared.order.GraftIds.{GraftIds}
+use Rattle.tcp_seq.specs.declared.segment.Way.TheVariants.{Home, Remote}
+use Rattle.bgp_session.specs.Running.{RunningSession}
+use Rattle.bgp_session.specs.Steps.{MayPass}
+use Rattle.graft_actors.specs.Acts.{IsWelcome}
+use Rattle.router_core.specs.Parts.{own_part, carried}
+use Rattle.router_core.specs.Places.{RunsAt}
+use Rattle.router_core.specs.Takes as router_takes
+use Rattle.router_core.specs.Turned as router_turns
+use Rattle.router_core.specs.Turned.{NoRounds, NoPuts, rounds_on}
+use Rattle.router_core.specs.declared.fields as router_fields
+use Rattle.far_side.specs.Takes as far_takes
+use Rattle.far_side.specs.Turned as far_turns
+use Rattle.far_side.specs.Passes.{SameLink}
+use Rattle.far_side.specs.declared.fields as far_fields
+use Rattle.world_nodes.specs.declared.node.Node.{Node}
+use Rattle.world_nodes.specs.declared.node.Node.TheVariants.{Router, Far, Operator}
+
+-- while a router takes an item, no round passes on a session, and no UPDATE is put
+abbrev pub TakesAreCalm : Type 0
+TakesAreCalm = (old new : router_fields.Fields.Fields) (from : ℕ) (item : Item RunningSession) (deeds : List (Deed (Item RunningSession))) (took : router_takes.Took old from item deeds new)
+    (welcome : IsWelcome carried (own_part old) from item) → NoRounds (took.rows welcome).events × NoPuts (took.rows welcome).events
+
+-- a router's turn passes one round on each session that is live at its start, where one may pass, and else none
+abbrev pub TurnsPassOne : Type 0
+TurnsPassOne = (old new : router_fields.Fields.Fields) (deeds : List (Deed (Item RunningSession))) (turned : router_turns.Turned old deeds new) (p : ℕ) (s : RunningSession) (o : Option GraftIds) → RunsAt old.places.items p s o
+    → (MayPass s.session new.turns × (rounds_on p turned.events ≡ new.turns ∷ [])) ⊎ ((¬ MayPass s.session new.turns) × (rounds_on p turned.events ≡ []))
+
+-- a far side's take is one event
+abbrev pub FarTakesAreOne : Type 0
+FarTakesAreOne = (old new : far_fields.Fields.Fields) (from : ℕ) (item : Item RunningSession) (deeds : List (Deed (Item RunningSession))) → far_takes.Took old from item deeds new → length deeds ≡ 1
+
+-- its links lead where they led
+abbrev pub FarTakesKeepLinks : Type 0
+FarTakesKeepLinks = (old new : far_fields.Fields.Fields) (from : ℕ) (item : Item RunningSession) (deeds : List (Deed (Item RunningSession))) → far_takes.Took old from item deeds new → SameLink old.remoteward new.remoteward
+
+abbrev pub FarTurnsKeepLinks : Type 0
+FarTurnsKeepLinks = (old new : far_fields.Fields.Fields) (deeds : List (Deed (Item RunningSession))) → far_turns.Turned old deeds new → SameLink old.homeward new.homeward × SameLink old.remoteward new.remoteward
+
+pub record CallsSay : Type 0 where
+  pub takes : TakesAreCalm
+  pub turns : TurnsPassOne
+  pub far_takes : FarTakesAreOne
+  pub links_taking : FarTakesKeepLinks
+  pub links_turning : FarTurnsKeepLinks
+
+-- the links of a far side are those of its peering, one each way
+pub record HasLinks (fields : far_fields.Fields.Fields) : Type 0 where
+  pub homeward : (fields.homeward.way ≡ Home) × (fields.homeward.peering ≡ fields.peering.0)
+  pub remoteward : (fields.remoteward.way ≡ Remote) × (fields.remoteward.peering ≡ fields.peering.0)
+
+abbrev pub IsLinked : Node → Type 0
+IsLinked (Router router) = Unit {0}
+IsLinked (Far far) = HasLinks far.fields
+IsLinked (Operator operator) = Unit {0}

@@ -1,0 +1,44 @@
+-- What an actor's journal holds between two marks, and what is taken from which channel.
+use Rattle.std.specs.Prelude.{ℕ, ◌-◌, ◌==◌, if◌then◌else◌, Bool, true, false, List, [], ◌∷◌, take, drop, count_by, Option, Some, None}
+use Rattle.std.specs.List.{list_any}
+use Rattle.ring_net.specs.declared.entry.JournalEntry.{JournalEntry}
+use Rattle.journal_merge.specs.Merges.{entries_by}
+use Rattle.graft_model.specs.declared.kind.EventKind.{EventKind}
+use Rattle.graft_model.specs.declared.kind.EventKind.TheVariants as kinds
+use Rattle.graft_model.specs.Codes.{Code, number_of}
+use Rattle.graft_runs.specs.Actors.{ActorName, Router, FarSide, Operator}
+use Rattle.graft_runs.specs.Makes.{HasCode}
+use Rattle.run_marks.specs.Marks.{before}
+
+-- the entries of an actor behind a mark and before the next one
+abbrev pub between : List JournalEntry → (mark next : List ℕ) → ℕ → List JournalEntry
+between journal mark next k = take (before next k - before mark k) (drop (before mark k) (entries_by k journal))
+
+-- the entries are those of these events, in their order
+abbrev pub AreCoded : {E : Type 0} → (E → Code) → List E → List JournalEntry → Type 0
+AreCoded code [] [] = Unit {0}
+AreCoded code (event ∷ events) (entry ∷ entries) = HasCode (code event) entry × AreCoded code events entries
+AreCoded code events entries = ⊥
+
+-- ---- from whom an entry's event took an item
+
+abbrev pub is_one_of : List EventKind → JournalEntry → Bool
+is_one_of these entry = list_any (λ kind. number_of kind == entry.kind) these
+
+-- A router takes segments from a far side, all that other routers tell and move from these, and orders from the operator; a far side takes what goes outward from a router, and steps from the
+-- operator; and the operator takes reports from a router.
+abbrev pub sender_of : JournalEntry → Option ActorName
+sender_of entry = if is_one_of (kinds.Arrive ∷ kinds.Stray ∷ []) entry then Some (FarSide entry.a)
+    else if is_one_of (kinds.Hear ∷ kinds.Land ∷ kinds.TurnBack ∷ kinds.Return ∷ kinds.Clear ∷ kinds.Take ∷ kinds.Point ∷ kinds.Note ∷ []) entry then Some (Router entry.a)
+    else if is_one_of (kinds.Admit ∷ kinds.Say ∷ []) entry then Some Operator
+    else None
+
+abbrev pub is_name : ActorName → Option ActorName → Bool
+is_name (Router q) (Some (Router r)) = q == r
+is_name (FarSide p) (Some (FarSide q)) = p == q
+is_name Operator (Some Operator) = true
+is_name name other = false
+
+-- how many of the entries took an item from this actor
+abbrev pub taken_from : ActorName → List JournalEntry → ℕ
+taken_from x entries = count_by (λ entry. is_name x (sender_of entry)) entries

@@ -1,0 +1,118 @@
+-- A far side's round: what its links deliver by the plan of faults, and what the remote sends.
+use Rattle.std.specs.Prelude.{ℕ, ◌≡◌, ◌<◌, ◌≤◌, ◌+◌, ◌%◌, ◌^◌, ◌⊎◌, Bool, true, false, List, [], ◌∷◌, ◌++◌, length, map, filter, Some, option_map, slice_get}
+use Rattle.std.specs.List.{AllByRecursion, range_with_len}
+use Rattle.link_bag.specs.declared.plan.Fault.{Fault}
+use Rattle.link_bag.specs.declared.plan.Fate.{Fate}
+use Rattle.link_bag.specs.Planned.{fate_of}
+use Rattle.tcp_seq.specs.declared.segment.Way.{Way}
+use Rattle.tcp_seq.specs.declared.segment.Way.TheVariants.{Home, Remote}
+use Rattle.graft_model.specs.Setups.{Setup, beat_of}
+use Rattle.graft_model.specs.Parts.{FarPart}
+use Rattle.graft_model.specs.Steps.{FarEvent, Say, Send, Take, Point, Beat}
+use Rattle.graft_actors.specs.Emissions.{Tally, nothing, IsRested}
+use Rattle.far_side.specs.Links.{home_events, remote_events, left_of}
+use Rattle.far_side.specs.Turns.{FarRound}
+use Rattle.far_side.specs.declared.link.InLink.{InLink}
+use Rattle.real_rounds.specs.Ends.{IsFew, GoesOn}
+
+-- ---- kinds of events
+
+abbrev pub is_take : FarEvent → Bool
+is_take (Take router) = true
+is_take event = false
+
+-- one that takes an item
+abbrev pub IsTaking : FarEvent → Type 0
+IsTaking (Say step) = Unit {0}
+IsTaking (Take router) = Unit {0}
+IsTaking (Point router) = Unit {0}
+IsTaking event = ⊥
+
+abbrev pub IsSending : FarEvent → Type 0
+IsSending (Send from len) = Unit {0}
+IsSending event = ⊥
+
+-- ---- what lies in a link
+
+-- What the plan still holds for each segment that lies in a link, and how many were put there so far.
+pub record Lying : Type 0 where
+  pub plans : List InLink
+  pub put : ℕ
+
+abbrev pub nothing_lies : Lying
+nothing_lies = record { plans = []; put = 0 }
+
+pub record Links : Type 0 where
+  pub home : Lying
+  pub remote : Lying
+
+abbrev pub empty_links : Links
+empty_links = record { home = nothing_lies; remote = nothing_lies }
+
+-- the fates, by the plan of faults, of the next segments of a link, so many after so many others, each put now
+abbrev pub fates_put : List Fault → ℕ → Way → (from n : ℕ) → List (Fate × ℕ)
+fates_put faults p way from n = map (λ k. (fate_of faults (record { 0 = p }) way k, 0)) (range_with_len (from + 1) n)
+
+-- so many segments more are in a link, each with its fate by its number
+pub record ArePut (faults : List Fault) (p : ℕ) (way : Way) (from n : ℕ) (new : List InLink) : Type 0 where
+  pub fates : map (λ x. (x.fate, x.turns)) new ≡ fates_put faults p way from n
+
+-- each of them knows the router that the link points at now
+abbrev pub PointAt : ℕ → List InLink → Type 0
+PointAt router plans = AllByRecursion (λ x. x.pointed.0 ≡ router) plans
+
+-- ---- the timer
+
+-- The remote is to say a KEEPALIVE in this round, and has room for it.
+pub record IsDue (setup : Setup) (p round : ℕ) (part : FarPart) : Type 0 where
+  pub beat : ℕ
+  pub is : option_map beat_of (slice_get setup.peerings p) ≡ Some beat
+  pub some : 0 < beat
+  pub multiple : round % beat ≡ 0
+  pub later : part.last_beat < round
+  pub few : part.beats < 27594
+  pub fits : length part.end.stream + 19 ≤ 2 ^ 20
+
+-- it says one exactly where it is to
+abbrev pub Beats : Setup → ℕ → ℕ → FarPart → List FarEvent → Type 0
+Beats setup p round part events = (IsDue setup p round part × (events ≡ Beat round ∷ [])) ⊎ ((¬ IsDue setup p round part) × (events ≡ []))
+
+-- ---- a round
+
+-- What is done in a turn, in this order: the links deliver, keep and lose by the plan, an old slice is sent again, the timer has the remote say a KEEPALIVE, all that is new is sent, and an owed
+-- answer is given.
+pub record FarTurn (setup : Setup) (p round : ℕ) (part : FarPart) (pointer : ℕ) (home remote : List InLink) (events : List FarEvent) : Type 0 where
+  pub again : List FarEvent
+  pub beats : List FarEvent
+  pub fresh : List FarEvent
+  pub answers : List FarEvent
+  pub is : events ≡ home_events pointer home ++ (remote_events remote ++ (again ++ (beats ++ (fresh ++ answers))))
+  pub sends : AllByRecursion IsSending again × AllByRecursion IsSending fresh × AllByRecursion IsSending answers
+  pub said : Beats setup p round part beats
+  -- how many segments it puts into the link to home
+  pub count : ℕ
+  pub count_is : count ≡ length again + (length fresh + length answers)
+
+-- The events of a far side's round: those of its takes, and then its turn. Each is by its row, and each segment that is sent is an old slice, a new one or an owed answer (`FarRound`). At the end
+-- all is sent that may be. The round has this number, counted from 1.
+pub record RealFar (setup : Setup) (faults : List Fault) (p round : ℕ) (start : FarPart) (before : Links) (events : List FarEvent) (end : FarPart) (after : Links) : Type 0 where
+  pub taken : List FarEvent
+  pub turn : List FarEvent
+  pub parts : events ≡ taken ++ turn
+  pub takes : AllByRecursion IsTaking taken
+  pub mid : FarPart
+  pub tally : Tally
+  pub first : FarRound setup p start nothing taken mid nothing
+  pub second : FarRound setup p mid nothing turn end tally
+  pub rested : IsRested end.end
+  pub few : IsFew tally
+  pub sends : GoesOn start.end end.end tally
+  -- segments that were taken in are put into the link to the remote before the turn, and those that the remote sends into the link to home in it
+  pub took : List InLink
+  pub are_taken : ArePut faults p Remote before.remote.put (length (filter is_take taken)) took
+  pub turns : FarTurn setup p round mid end.pointer before.home.plans (before.remote.plans ++ took) turn
+  pub sent : List InLink
+  pub are_sent : ArePut faults p Home before.home.put turns.count sent × PointAt end.pointer sent
+  -- what is left of each link
+  pub home : after.home ≡ record { plans = left_of before.home.plans ++ sent; put = before.home.put + turns.count }
+  pub remote : after.remote ≡ record { plans = left_of (before.remote.plans ++ took); put = before.remote.put + length (filter is_take taken) }

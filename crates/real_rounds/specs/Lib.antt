@@ -1,0 +1,7 @@
+pub mod Entries
+pub mod Ends
+pub mod Routers
+pub mod Fars
+pub mod Whole
+pub mod Calls
+pub mod Laws

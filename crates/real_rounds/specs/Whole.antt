@@ -1,0 +1,59 @@
+-- All rounds of a run.
+use Rattle.std.specs.Prelude.{ℕ, ◌≡◌, ◌<◌, ◌≤◌, ◌+◌, List, length, min, Some, slice_get}
+use Rattle.ring_net.specs.declared.entry.JournalEntry.{JournalEntry}
+use Rattle.link_bag.specs.declared.plan.Fault.{Fault}
+use Rattle.graft_model.specs.Codes.{router_code, far_code, operator_code}
+use Rattle.graft_model.specs.Parts.{World}
+use Rattle.graft_model.specs.Setups.{Setup, routers_in, peerings_in}
+use Rattle.graft_model.specs.Steps.{RouterEvent, FarEvent, OperatorEvent, Event, ByRouter, ByFar, ByOperator}
+use Rattle.graft_runs.specs.Actors.{ActorName, Router, FarSide, Operator, number_in, IsActor}
+use Rattle.graft_runs.specs.Seen.{channel_of}
+use Rattle.run_marks.specs.Marks.{IsWorldAtMark}
+use Rattle.real_rounds.specs.Entries.{between, AreCoded, taken_from}
+use Rattle.real_rounds.specs.Routers.{RealRouter, RealOperator}
+use Rattle.real_rounds.specs.Fars.{Links, empty_links, RealFar}
+
+-- ---- one round
+
+-- the entries of an actor in a round
+abbrev pub Slices : Type 0
+Slices = ℕ → List JournalEntry
+
+pub record RouterDid (setup : Setup) (r round : ℕ) (start : World) (slices : Slices) (end : World) : Type 0 where
+  pub events : List RouterEvent
+  pub coded : AreCoded router_code events (slices (number_in setup (Router r)))
+  pub real : RealRouter setup r round (start.router r) events (end.router r)
+
+pub record FarDid (setup : Setup) (faults : List Fault) (p round : ℕ) (start : World) (before : Links) (slices : Slices) (end : World) (after : Links) : Type 0 where
+  pub events : List FarEvent
+  pub coded : AreCoded far_code events (slices (number_in setup (FarSide p)))
+  pub real : RealFar setup faults p round (start.far p) before events (end.far p) after
+
+pub record OperatorDid (setup : Setup) (start : World) (slices : Slices) (end : World) : Type 0 where
+  pub events : List OperatorEvent
+  pub coded : AreCoded operator_code events (slices (number_in setup Operator))
+  pub real : RealOperator setup start.operator events end.operator
+
+-- One round of this number, from the world at a mark to the world at the next one.
+pub record RealRound (setup : Setup) (faults : List Fault) (round : ℕ) (start : World) (before : ℕ → Links) (slices : Slices) (end : World) (after : ℕ → Links) : Type 0 where
+  pub routers : (r : ℕ) → r < routers_in setup → RouterDid setup r round start slices end
+  pub far_sides : (p : ℕ) → p < peerings_in setup → FarDid setup faults p round start (before p) slices end (after p)
+  pub operator : OperatorDid setup start slices end
+
+-- Of each channel, the lesser of 256 and what it holds at the start is taken in two rounds, at least.
+abbrev pub Drains : Setup → World → Slices → Slices → Type 0
+Drains setup start one other = (x y : ActorName) → IsActor setup x → IsActor setup y
+    → min 256 (length (channel_of start (Some x) (Some y))) ≤ taken_from x (one (number_in setup y)) + taken_from x (other (number_in setup y))
+
+-- ---- all rounds
+
+-- The rounds of a run between its marks, the first of which stands before all entries, by a plan of faults.
+pub record RealRounds (setup : Setup) (faults : List Fault) (journal : List JournalEntry) (marks : List (List ℕ)) : Type 0 where
+  pub world : ℕ → World
+  pub links : (k p : ℕ) → Links
+  pub worlds : (k : ℕ) (mark : List ℕ) → slice_get marks k ≡ Some mark → IsWorldAtMark setup journal mark (world k)
+  pub empty : (p : ℕ) → links 0 p ≡ empty_links
+  pub each : (k : ℕ) (mark next : List ℕ) → slice_get marks k ≡ Some mark → slice_get marks (k + 1) ≡ Some next
+      → RealRound setup faults (k + 1) (world k) (links k) (between journal mark next) (world (k + 1)) (links (k + 1))
+  pub drains : (k : ℕ) (mark next last : List ℕ) → slice_get marks k ≡ Some mark → slice_get marks (k + 1) ≡ Some next → slice_get marks (k + 2) ≡ Some last
+      → Drains setup (world k) (between journal mark next) (between journal next last)
