@@ -1,8 +1,7 @@
 -- What is taken from a channel in two rounds.
-use Rattle.std.proofs.Common.{◌≡◌, ◌≤◌, ◌<◌, ◌+◌, ◌∙◌, ℕ, zero, suc, List, [], ◌∷◌, ◌++◌, ◌==◌, length, map, Bool, true, false, if◌then◌else◌, refl, ap, sym, subst, inl, inr, arith, length-append}
+use Rattle.std.proofs.Common.{◌≡◌, ◌≤◌, ◌+◌, ◌∙◌, ℕ, List, [], ◌∷◌, ◌==◌, length, map, Bool, true, false, if◌then◌else◌, refl, ap, sym, subst, inl, inr, arith, length-append}
 use Rattle.std.specs.Prelude.{◌⊎◌, Option, Some, None, min}
 use Rattle.std.specs.List.{AllByRecursion, count_by}
-use Rattle.std.proofs.Math.Path.{subst⁻¹}
 use Rattle.std.proofs.lemmas.Bool.Decides.{eqb_tells, nat_tests}
 use Rattle.std.proofs.lemmas.List.{length-map}
 use Rattle.std.proofs.lemmas.List.Sums.{sum_by-cons}
@@ -97,8 +96,8 @@ taken_are setup x n p q [] known of replay kept = refl
 taken_are setup x n p q (note ∷ notes) known of replay kept =
     length-append (gets (number_in setup x) note) (taken_from (number_in setup x) notes)
     ∙ (λ i. one_taken setup x note.deed.entry note.stamp note.deed.taken known
-        (subst (λ (s : Setup). IsSentBy s note.deed.entry note.deed.taken) of (act_sent p replay.0 note.deed.entry note.deed.taken note.deed.sent replay.1 kept.0)) i
-        + taken_are setup x n replay.0 q notes known (replay.1.setup ∙ of) replay.2 kept.1 i)
+    (subst (λ (s : Setup). IsSentBy s note.deed.entry note.deed.taken) of (act_sent p replay.0 note.deed.entry note.deed.taken note.deed.sent replay.1 kept.0)) i
+    + taken_are setup x n replay.0 q notes known (replay.1.setup ∙ of) replay.2 kept.1 i)
     ∙ sym (count_cons (λ entry. is_name x (sender_of entry)) note.deed.entry (entries_of notes))
 
 -- ---- what a channel of the world holds
@@ -134,8 +133,11 @@ channel_is setup v w seen edges itself x y x_known y_known = by_edge (talks (Som
         let is : map (thing_of carried setup) (map (λ (z : Stamped Mail). z.item) (v.channel (number_in setup x) (number_in setup y))) ≡ channel_of w (Some x) (Some y) =
         ap (λ items. map (thing_of carried setup) items) (sym (seen.is.channels (number_in setup x) (number_in setup y) edge))
         ∙ seen.sees.sees.channels (number_in setup x) (number_in setup y) ∙ (λ i. channel_of w (there setup x x_known i) (there setup y y_known i)) in
-        inr (edge, sym (length-map (v.channel (number_in setup x) (number_in setup y)) (λ (z : Stamped Mail). z.item))
-        ∙ sym (length-map (map (λ (z : Stamped Mail). z.item) (v.channel (number_in setup x) (number_in setup y))) (thing_of carried setup)) ∙ ap (λ (ts : List Thing). length ts) is)
+        inr (
+          edge,
+          sym (length-map (v.channel (number_in setup x) (number_in setup y)) (λ (z : Stamped Mail). z.item))
+              ∙ sym (length-map (map (λ (z : Stamped Mail). z.item) (v.channel (number_in setup x) (number_in setup y))) (thing_of carried setup)) ∙ ap (λ (ts : List Thing). length ts) is,
+        )
 
 -- of what is there before the first round, what the two take
 pub drained : (had u s first second ring : ℕ) → had ≤ u → min 256 u ≤ first + ring → s ≡ ring → s ≤ second → min 256 had ≤ first + second

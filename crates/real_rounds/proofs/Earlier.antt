@@ -1,9 +1,9 @@
 -- The Ticks of a session that is live at a mark have the numbers of rounds before it.
-use Rattle.std.proofs.Common.{◌≡◌, ◌≤◌, ◌<◌, ◌+◌, ◌∙◌, ℕ, zero, suc, Bool, true, false, List, [], ◌∷◌, ◌++◌, map, refl, ap, sym, subst, inl, inr, arith, if◌then◌else◌}
-use Rattle.std.specs.Prelude.{◌⊎◌, ◌==◌, filter}
+use Rattle.std.proofs.Common.{◌≡◌, ◌≤◌, ◌<◌, ◌+◌, ◌∙◌, ℕ, zero, suc, Bool, true, false, List, [], ◌∷◌, ◌++◌, refl, ap, sym, subst, arith, if◌then◌else◌}
+use Rattle.std.specs.Prelude.{◌==◌}
 use Rattle.std.specs.List.{AllByRecursion}
 use Rattle.std.proofs.Math.Path.{subst⁻¹}
-use Rattle.std.proofs.lemmas.Bool.Decides.{eqb_tells, nat_tests}
+use Rattle.std.proofs.lemmas.Bool.Decides.{nat_tests}
 use Rattle.link_bag.specs.declared.plan.Fault.{Fault}
 use Rattle.ring_net.specs.declared.entry.JournalEntry.{JournalEntry}
 use Rattle.ring_net.specs.Deeds.{Deed, deeds, entries_of}
@@ -13,14 +13,13 @@ use Rattle.journal_merge.specs.Merges.{Interleaves, entries_by, upto}
 use Rattle.graft_model.specs.declared.kind.EventKind.TheVariants as kinds
 use Rattle.graft_model.specs.Codes.{number_of, router_code}
 use Rattle.graft_model.specs.First.{first_world}
-use Rattle.graft_model.specs.Setups.{Setup, IsSetup, routers_in, peerings_in}
+use Rattle.graft_model.specs.Setups.{Setup, routers_in}
 use Rattle.graft_model.specs.Steps.{RouterEvent, Put, Emit, Arrive, Stray, Got, Decide, Tell, Hear, Admit, Refuse, Freeze, Leave, Land, TurnBack, Return, Clear, Tick, Event, ByRouter, ByFar, ByOperator}
-use Rattle.graft_runs.specs.Makes.{HasCode}
 use Rattle.graft_runs.specs.Laws.{IsEntryOf, AreEntriesOf}
 use Rattle.router_core.specs.Parts.{carried}
 use Rattle.router_core.specs.Rounds as router_rounds
 use Rattle.router_core.specs.Turned.{round_on, rounds_on}
-use Rattle.run_marks.specs.Marks.{before, operator_in, MarksStandForWorlds}
+use Rattle.run_marks.specs.Marks.{before, MarksStandForWorlds}
 use Rattle.run_marks.proofs.Marks.{up_to_mark}
 use Rattle.world_runs.specs.Runs.{Ran}
 use Rattle.world_runs.specs.Laws.{NothingWasDropped}
@@ -28,7 +27,7 @@ use Rattle.world_nodes.specs.Fresh.{IsFresh}
 use Rattle.world_nodes.specs.Nodes.{Mail, own}
 use Rattle.world_nodes.specs.Ways.{Stand, Begins}
 use Rattle.world_nodes.specs.declared.node.Node.{Node}
-use Rattle.real_rounds.specs.Calls.{CallsSay, IsLinked}
+use Rattle.real_rounds.proofs.Calls.{CallsSay}
 use Rattle.real_rounds.specs.Entries.{AreCoded}
 use Rattle.real_rounds.proofs.Leading as leading
 use Rattle.real_rounds.proofs.Leading.{next_is}
@@ -36,7 +35,7 @@ use Rattle.real_rounds.proofs.LegActors as actors
 use Rattle.real_rounds.proofs.LegActors.{TicksAreEarlier}
 use Rattle.real_rounds.proofs.Legs.{Legs}
 use Rattle.real_rounds.proofs.RouterRounds as router_proofs
-use Rattle.real_rounds.proofs.RouterWays.{all_front, all_back}
+use Rattle.real_rounds.proofs.Lists.{all_back}
 use Rattle.real_rounds.proofs.Slices.{entries_in_deeds, router_coded}
 use Rattle.real_rounds.proofs.TickLaws.{EarlyPlace, NotLate, NotLateEvent, early_run, early_first}
 
@@ -80,10 +79,10 @@ coded_below m [] (x ∷ xs) coded all = absurd coded
 coded_below m (e ∷ es) [] coded all = absurd coded
 coded_below m (e ∷ es) (x ∷ xs) coded all = (
   λ kind. (
-    let tick = tick_of e (sym coded.0.kind ∙ kind) in
-    let b_is : x.b ≡ tick.1 = coded.0.b ∙ ap (λ (event : RouterEvent). (router_code event).b) tick.2 in
-    let m_is : tick.1 ≡ m = first_is m tick.0 tick.1 (rounds_on tick.0 es) (subst (λ (event : RouterEvent). AllByRecursion (λ i. i ≡ m) (round_on tick.0 event ++ rounds_on tick.0 es)) tick.2 (all tick.0)) in
-    omega (arith, b_is, m_is)),
+      let tick = tick_of e (sym coded.0.kind ∙ kind) in
+      let b_is : x.b ≡ tick.1 = coded.0.b ∙ ap (λ (event : RouterEvent). (router_code event).b) tick.2 in
+      let m_is : tick.1 ≡ m = first_is m tick.0 tick.1 (rounds_on tick.0 es) (subst (λ (event : RouterEvent). AllByRecursion (λ i. i ≡ m) (round_on tick.0 event ++ rounds_on tick.0 es)) tick.2 (all tick.0)) in
+      omega (arith, b_is, m_is)),
   coded_below m es xs coded.1 (λ p. all_back (λ i. i ≡ m) (round_on p e) (rounds_on p es) (all p)),
 )
 
@@ -124,10 +123,10 @@ not_late n (Tick p round) h = h p round refl
 
 event_not_late : (setup : Setup) (n : ℕ) (event : Event) (entry : JournalEntry) → IsEntryOf setup event entry → (entry.actor < routers_in setup → TickBelow n entry) → NotLateEvent n event
 event_not_late setup n (ByRouter r event) entry is below = not_late n event (λ p round e. (
-  let kind : entry.kind ≡ number_of kinds.Tick = is.coded.kind ∙ ap (λ (x : RouterEvent). number_of (router_code x).kind) e in
-  let b_is : entry.b ≡ round = is.coded.b ∙ ap (λ (x : RouterEvent). (router_code x).b) e in
-  let l : entry.b < n = below (let r_in = is.there in let maker = is.maker in omega (arith, r_in, maker)) kind in
-  omega (arith, l, b_is)))
+    let kind : entry.kind ≡ number_of kinds.Tick = is.coded.kind ∙ ap (λ (x : RouterEvent). number_of (router_code x).kind) e in
+    let b_is : entry.b ≡ round = is.coded.b ∙ ap (λ (x : RouterEvent). (router_code x).b) e in
+    let l : entry.b < n = below (let r_in = is.there in let maker = is.maker in omega (arith, r_in, maker)) kind in
+    omega (arith, l, b_is)))
 event_not_late setup n (ByFar p event) entry is below = tt
 event_not_late setup n (ByOperator event) entry is below = tt
 
@@ -139,16 +138,16 @@ events_not_late setup n (e ∷ es) (x ∷ xs) are all = (event_not_late setup n 
 
 -- ---- at a mark
 
-module _ (law : CallsSay) (setup : Setup) (faults : List Fault) (a b : Stand) (begins : Begins setup a) (fresh : AllByRecursion (IsFresh setup faults) begins.actors) (linked : AllByRecursion IsLinked begins.actors) (d : Node)
-    (d_fresh : IsFresh setup faults d) (d_linked : IsLinked d) (legs : Legs setup a b) (journal : List JournalEntry) (merge : Interleaves b.view.journal journal) (b_ran : Ran own carried setup b.view) (worlds : MarksStandForWorlds own carried)
+module _ (law : CallsSay) (setup : Setup) (faults : List Fault) (a b : Stand) (begins : Begins setup a) (fresh : AllByRecursion (IsFresh setup faults) begins.actors) (d : Node)
+    (d_fresh : IsFresh setup faults d) (legs : Legs setup a b) (journal : List JournalEntry) (merge : Interleaves b.view.journal journal) (b_ran : Ran own carried setup b.view) (worlds : MarksStandForWorlds own carried)
     (dropped : NothingWasDropped) where
   ticks_below : (k : ℕ) → k ≤ legs.made → (r : ℕ) → r < routers_in setup → AllByRecursion (TickBelow (k + 1)) ((legs.at k).journal r)
   ticks_below zero k_in r r_in = subst⁻¹ (λ (es : List JournalEntry). AllByRecursion (TickBelow (0 + 1)) es) (ap (λ (v : View Node Mail). v.journal r) legs.first ∙ begins.new.journals r) tt
   ticks_below (suc k) k_in r r_in =
       let in_leg : k < legs.made = omega (arith, k_in) in
-      let (x, x_is) = actors.router_at law setup faults a b begins fresh linked d d_fresh d_linked legs journal merge b_ran worlds dropped k (omega (arith, k_in)) r r_in in
-      let (c, c_is, ph) = actors.router_leg law setup faults a b begins fresh linked d d_fresh d_linked legs journal merge b_ran worlds dropped k in_leg r r_in x x_is in
-      let at = actors.router_level law setup faults a b begins fresh linked d d_fresh d_linked legs journal merge b_ran worlds dropped k (omega (arith, k_in)) r r_in x x_is in
+      let (x, x_is) = actors.router_at law setup faults a b begins fresh d d_fresh legs journal merge b_ran worlds dropped k (omega (arith, k_in)) r r_in in
+      let (c, c_is, ph) = actors.router_leg law setup faults a b begins fresh d d_fresh legs journal merge b_ran worlds dropped k in_leg r r_in x x_is in
+      let at = actors.router_level law setup faults a b begins fresh d d_fresh legs journal merge b_ran worlds dropped k (omega (arith, k_in)) r r_in x x_is in
       let events : List RouterEvent = ph.takes.events ++ ph.turns.events in
       let coded : AreCoded router_code events (entries_of ((legs.phase k in_leg).notes r)) =
       subst (λ (es : List JournalEntry). AreCoded router_code events es) (entries_in_deeds ((legs.phase k in_leg).notes r))
@@ -163,11 +162,11 @@ module _ (law : CallsSay) (setup : Setup) (faults : List Fault) (a b : Stand) (b
       (subst⁻¹ (λ (es : List JournalEntry). AllByRecursion (TickBelow ((k + 1) + 1)) es) ((legs.phase k in_leg).journals r)
       (all-append (TickBelow ((k + 1) + 1)) ((legs.from k).journal r) (entries_of ((legs.phase k in_leg).notes r)) old new))
 
-  pub ticks_earlier : TicksAreEarlier law setup faults a b begins fresh linked d d_fresh d_linked legs journal merge b_ran worlds dropped
+  pub ticks_earlier : TicksAreEarlier law setup faults a b begins fresh d d_fresh legs journal merge b_ran worlds dropped
   ticks_earlier k k_in r p s o is =
       let here = leading.world_at setup a b begins legs journal merge b_ran worlds dropped k in
       let cut : Interleaves (legs.at k).journal (upto (before (legs.mark k)) journal) = up_to_mark (legs.at k) b.view (legs.mark k) journal (legs.is_mark k) merge in
       let all = merged_all (TickBelow (k + 1)) (routers_in setup) (upto (before (legs.mark k)) journal)
-          (λ q q_in. subst⁻¹ (λ (es : List JournalEntry). AllByRecursion (TickBelow (k + 1)) es) (cut.each q) (ticks_below k k_in q q_in)) in
+      (λ q q_in. subst⁻¹ (λ (es : List JournalEntry). AllByRecursion (TickBelow (k + 1)) es) (cut.each q) (ticks_below k k_in q q_in)) in
       let early = early_run (k + 1) setup here.1.events (first_world setup) here.0 here.1.run (events_not_late setup (k + 1) here.1.events (upto (before (legs.mark k)) journal) here.1.entries_of all) (early_first (k + 1) setup) in
       subst (EarlyPlace (k + 1)) is (early.places r p)

@@ -1,10 +1,9 @@
 -- Takes of a far side, one after another, and then its turn are a real round.
-use Rattle.std.proofs.Common.{◌≡◌, ◌≤◌, ◌<◌, ◌+◌, ◌∙◌, ℕ, zero, suc, Bool, true, false, List, [], ◌∷◌, ◌++◌, length, map, nat_lt, if◌then◌else◌, refl, ap, sym, subst, inl, inr, arith}
+use Rattle.std.proofs.Common.{◌≡◌, ◌≤◌, ◌<◌, ◌+◌, ◌∙◌, ℕ, zero, suc, Bool, true, false, List, [], ◌∷◌, ◌++◌, length, nat_lt, if◌then◌else◌, refl, ap, sym, subst, inl, inr, arith}
 use Rattle.std.specs.Prelude.{◌⊎◌, ◌%◌, ◌^◌, Some, option_map, slice_get, filter}
 use Rattle.std.specs.List.{AllByRecursion}
 use Rattle.std.proofs.Math.Path.{subst⁻¹}
 use Rattle.std.proofs.lemmas.Bool.{lt-ltb, le-ltb}
-use Rattle.std.proofs.lemmas.List.{map-append}
 use Rattle.ring_net.specs.Deeds.{Deed}
 use Rattle.link_bag.specs.declared.plan.Fault.{Fault}
 use Rattle.link_bag.specs.declared.plan.Fate.{Fate}
@@ -15,9 +14,8 @@ use Rattle.tcp_seq.specs.declared.segment.Way.TheVariants.{Home, Remote}
 use Rattle.graft_model.specs.Setups.{Setup, beat_of}
 use Rattle.graft_model.specs.Steps.{FarEvent, Send, Beat}
 use Rattle.graft_actors.specs.Emissions.{Tally, nothing}
-use Rattle.far_side.specs.Links as links
 use Rattle.far_side.specs.Links.{home_events, remote_events, left_of, LinkValue}
-use Rattle.far_side.specs.Parts.{far_part}
+use Rattle.far_side.specs.Parts.{far_part, HasLinks}
 use Rattle.far_side.specs.Passes as passes
 use Rattle.far_side.specs.Passes.{fates_in, plans_put, SameRemote, SameLink, again_events, FreshEvents, answer_events}
 use Rattle.far_side.specs.Remotes.{RemoteValue}
@@ -26,10 +24,11 @@ use Rattle.far_side.specs.Turns.{FarRound, AreOf}
 use Rattle.far_side.specs.declared.fields.Fields.{Fields}
 use Rattle.far_side.specs.declared.link.InLink.{InLink}
 use Rattle.world_nodes.specs.Nodes.{Mail}
-use Rattle.real_rounds.specs.Calls.{FarTurnsKeepLinks, HasLinks}
-use Rattle.real_rounds.specs.Ends.{IsFew, GoesOn}
-use Rattle.real_rounds.specs.Fars.{IsSending, Lying, Links, ArePut, PointAt, IsDue, Beats, FarTurn, RealFar, is_take}
-use Rattle.real_rounds.proofs.FarTakes.{TookFar, far_append, far_coded-append, fates_by, fates_put}
+use Rattle.real_rounds.proofs.Calls.{FarTurnsKeepLinks}
+use Rattle.real_rounds.specs.Ends.{GoesOn}
+use Rattle.real_rounds.specs.Fars.{IsSending, Links, ArePut, PointAt, IsDue, Beats, FarTurn, RealFar, is_take}
+use Rattle.real_rounds.proofs.Goes.{goes_on}
+use Rattle.real_rounds.proofs.FarTakes.{TookFar, far_coded-append, fates_by, fates_put}
 
 -- ---- what stands in links
 
@@ -102,15 +101,6 @@ fresh_acked e f (event ∷ events) fresh = fresh_acked (record e { emitted = e.e
 beaten_acked : (a b : Fields) (events : List FarEvent) → passes.Beats a events b → b.remote.end.acked ≡ a.remote.end.acked
 beaten_acked a b events (inl h) = ap (λ (x : Fields). x.remote.end.acked) h.2
 beaten_acked a b events (inr h) = ap (λ (x : Fields). x.remote.end.acked) h.2
-
-goes_on : (a r c : Endpoint) (t : Tally) → a.acked ≤ r.acked → r.emitted ≡ a.emitted → c.acked ≡ r.acked → (a.acked ≡ r.acked → r.acked < r.emitted → t.again ≡ 1) → GoesOn a c t
-goes_on a r c t le emitted acked again out = elim (compare a.acked r.acked le) [
-  | inl rose ↦ inl (omega (arith, rose, acked))
-  | inr is ↦ inr (again is (omega (arith, out, is, emitted)))
-]
-  where
-    compare : (x y : ℕ) → x ≤ y → (x < y) ⊎ (x ≡ y)
-    compare x y h = grind (arith, h)
 
 -- ---- the round
 
@@ -256,8 +246,10 @@ module _ (keep : FarTurnsKeepLinks) (faults : List Fault) (a b c : Fields) (ds e
     turns = number_is;
     level = turned.at_turn ∙ sym end_acked;
     links = record {
-      homeward = ((keep b c es turned).0.way ∙ ap (λ (l : LinkValue). l.way) took.homeward ∙ at.links.homeward.0,
-          (keep b c es turned).0.peering ∙ ap (λ (l : LinkValue). l.peering) took.homeward ∙ at.links.homeward.1 ∙ own);
+      homeward = (
+        (keep b c es turned).0.way ∙ ap (λ (l : LinkValue). l.way) took.homeward ∙ at.links.homeward.0,
+        (keep b c es turned).0.peering ∙ ap (λ (l : LinkValue). l.peering) took.homeward ∙ at.links.homeward.1 ∙ own,
+      );
       remoteward = ((keep b c es turned).1.way ∙ took.link.way ∙ at.links.remoteward.0, (keep b c es turned).1.peering ∙ took.link.peering ∙ at.links.remoteward.1 ∙ own);
     };
     beat = (λ i. option_map beat_of (slice_get (setup_is i).peerings (peering_is i).0)) ∙ at.beat ∙ ap (λ (k : ℕ). Some k) (sym (ap (λ (x : Fields). x.beat) turned.same ∙ took.beat));

@@ -5,7 +5,6 @@ use Rattle.std.specs.List.{AllByRecursion, range_with_len}
 use Rattle.std.proofs.Math.Path.{subst⁻¹}
 use Rattle.std.proofs.lemmas.List.{append-nil, map-append}
 use Rattle.std.proofs.lemmas.List.Elements.{filter-append}
-use Rattle.ring_net.specs.declared.entry.JournalEntry.{JournalEntry}
 use Rattle.ring_net.specs.Deeds.{Deed, Replay, TakesFirst}
 use Rattle.ring_net.proofs.Replays.{all-append}
 use Rattle.link_bag.specs.declared.plan.Fate.{Fate}
@@ -15,8 +14,7 @@ use Rattle.graft_model.specs.Parts.{FarPart}
 use Rattle.graft_model.specs.FarRows.{FarTaken, FarSent}
 use Rattle.graft_model.specs.Setups.{Setup}
 use Rattle.graft_model.specs.Steps.{far_row, FarEvent, Say, Send, Take, Pass, Reach, Lose, Point, Beat}
-use Rattle.graft_runs.specs.Actors.{FarSide, FarIs}
-use Rattle.graft_runs.specs.Makes.{HasCode, makes_as, MakesRow, taken_by_far, sent_by_far}
+use Rattle.graft_runs.specs.Makes.{HasCode}
 use Rattle.graft_actors.specs.Acts.{OwnPart, ActsAs, acts}
 use Rattle.graft_actors.specs.Emissions.{Tally, nothing}
 use Rattle.router_core.specs.Parts.{carried}
@@ -27,7 +25,7 @@ use Rattle.far_side.specs.Turns.{FarRound, AreOf, CarefulFar, far_tally}
 use Rattle.far_side.specs.declared.fields.Fields.{Fields}
 use Rattle.far_side.specs.declared.link.InLink.{InLink}
 use Rattle.world_nodes.specs.Nodes.{Mail}
-use Rattle.real_rounds.specs.Calls.{FarTakesAreOne, FarTakesKeepLinks}
+use Rattle.real_rounds.proofs.Calls.{FarTakesAreOne, FarTakesKeepLinks}
 use Rattle.real_rounds.specs.Fars.{IsTaking, is_take}
 use Rattle.real_rounds.proofs.RouterDeeds.{IsKept}
 
@@ -158,8 +156,14 @@ module _ (a b : Fields) (d : Deed Mail) (from : ℕ) (item : Mail) (first : d.ta
   row_of : (o : Option (ℕ × Mail)) → o ≡ Some (from, item) → ActsAs carried (own_part a) d.entry o d.sent (own_part b) → Row
   row_of None e act = absurd cc
   row_of (Some x) e act = elim act.does [
-    | inl makes ↦ (makes.row.event, makes.row.took, makes.row.gave, makes.row.coded, makes.row.holds,
-        taking_row a.known.setup a.peering.0 makes.row.event (far_part a) (far_part b) makes.row.took makes.row.gave makes.row.holds (some_taken _ _ makes.row.took makes.row.is_taken))
+    | inl makes ↦ (
+      makes.row.event,
+      makes.row.took,
+      makes.row.gave,
+      makes.row.coded,
+      makes.row.holds,
+      taking_row a.known.setup a.peering.0 makes.row.event (far_part a) (far_part b) makes.row.took makes.row.gave makes.row.holds (some_taken _ _ makes.row.took makes.row.is_taken),
+    )
     | inr drops ↦ absurd (kept drops.kind)
   ]
 

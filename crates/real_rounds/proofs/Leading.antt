@@ -1,19 +1,18 @@
 -- The legs of a way, seen as the world: sizes, edges, what no actor dropped, and what stands between two marks.
-use Rattle.std.proofs.Common.{◌≡◌, ◌≢◌, ◌≤◌, ◌<◌, ◌+◌, ◌∙◌, ℕ, zero, suc, Bool, true, false, List, [], ◌∷◌, ◌++◌, length, get_or, map, refl, ap, sym, subst, inl, inr, arith, append_assoc}
-use Rattle.std.specs.Prelude.{◌⊎◌, if◌then◌else◌, Option, Some, filter}
+use Rattle.std.proofs.Common.{◌≡◌, ◌≢◌, ◌≤◌, ◌<◌, ◌+◌, ◌∙◌, ℕ, zero, suc, Bool, true, false, List, [], ◌∷◌, ◌++◌, length, get_or, map, ap, sym, subst, arith, append_assoc}
+use Rattle.std.specs.Prelude.{if◌then◌else◌, filter}
 use Rattle.std.specs.List.{AllByRecursion}
 use Rattle.std.proofs.Math.Path.{subst⁻¹}
 use Rattle.std.proofs.lemmas.List.{append-nil}
 use Rattle.ring_net.specs.declared.entry.JournalEntry.{JournalEntry}
-use Rattle.ring_net.specs.Deeds.{Deed, Noted, deeds, entries_of}
+use Rattle.ring_net.specs.Deeds.{Deed, deeds, entries_of}
 use Rattle.ring_net.specs.Phases.{View}
 use Rattle.journal_merge.specs.Merges.{Interleaves, entries_by}
-use Rattle.graft_model.specs.Setups.{Setup, routers_in, peerings_in}
+use Rattle.graft_model.specs.Setups.{Setup}
 use Rattle.graft_model.specs.Parts.{World}
 use Rattle.graft_runs.specs.Actors as names
 use Rattle.graft_runs.specs.Seen.{part_of}
 use Rattle.graft_runs.proofs.Numbers.{there}
-use Rattle.graft_actors.specs.Acts.{OwnPart, acts}
 use Rattle.router_core.specs.Parts.{carried}
 use Rattle.run_marks.specs.Marks.{MarksStandForWorlds, IsWorldAtMark, operator_in}
 use Rattle.world_runs.specs.Labs.{actors_in}
@@ -25,23 +24,15 @@ use Rattle.world_nodes.specs.Ways.{Stand, Begins}
 use Rattle.world_nodes.specs.declared.node.Node.{Node}
 use Rattle.world_nodes.proofs.Seen.{part_is}
 use Rattle.real_rounds.specs.Entries.{between}
-use Rattle.real_rounds.proofs.Legs.{Paused, Legs, entry_in}
+use Rattle.real_rounds.proofs.Legs.{Legs, entry_in}
 use Rattle.real_rounds.proofs.RouterDeeds.{IsKept}
-use Rattle.real_rounds.proofs.RouterWays.{all_front, all_back}
+use Rattle.real_rounds.proofs.Lists.{all_front, all_back, all_filter}
 use Rattle.real_rounds.proofs.Slices.{between_is, entries_in_deeds}
 
 -- ---- entries that are kept
 
 abbrev pub EntryKept : JournalEntry → Type 0
 EntryKept entry = entry.kind ≢ 0
-
-all_filter : {A : Type 0} (P : A → Type 0) (test : A → Bool) (xs : List A) → AllByRecursion P xs → AllByRecursion P (filter test xs)
-all_filter P test [] all = tt
-all_filter P test (x ∷ xs) all = by_flag (test x) (all_filter P test xs all.1)
-  where
-    by_flag : (b : Bool) → AllByRecursion P (filter test xs) → AllByRecursion P (if b then x ∷ filter test xs else filter test xs)
-    by_flag true rest = (all.0, rest)
-    by_flag false rest = rest
 
 pub deeds_kept : (ds : List (Deed Mail)) → AllByRecursion EntryKept (map entry_in ds) → AllByRecursion IsKept ds
 deeds_kept [] all = tt
@@ -92,9 +83,11 @@ module _ (setup : Setup) (a b : Stand) (begins : Begins setup a) (legs : Legs se
   parts : (k : ℕ) (k_in : k < legs.made) (j : ℕ) (front : List JournalEntry) → (legs.from k).journal j ≡ (legs.at k).journal j ++ front
       → (more : List JournalEntry) × (entries_by j journal ≡ ((legs.at k).journal j ++ (front ++ entries_of ((legs.phase k k_in).notes j))) ++ more)
   parts k k_in j front is =
-      let later = (legs.is_mark (k + 1)).later j in
-      (later.0, merge.each j ∙ later.1 ∙ ap (λ (es : List JournalEntry). es ++ later.0)
-      ((legs.phase k k_in).journals j ∙ ap (λ (es : List JournalEntry). es ++ entries_of ((legs.phase k k_in).notes j)) is ∙ append_assoc ((legs.at k).journal j) front (entries_of ((legs.phase k k_in).notes j))))
+      let later = (legs.is_mark (k + 1)).later j in (
+        later.0,
+        merge.each j ∙ later.1 ∙ ap (λ (es : List JournalEntry). es ++ later.0)
+            ((legs.phase k k_in).journals j ∙ ap (λ (es : List JournalEntry). es ++ entries_of ((legs.phase k k_in).notes j)) is ∙ append_assoc ((legs.at k).journal j) front (entries_of ((legs.phase k k_in).notes j))),
+      )
 
   pub slice_is : (k : ℕ) (k_in : k < legs.made) (j : ℕ) (front : List JournalEntry) → (legs.from k).journal j ≡ (legs.at k).journal j ++ front
       → between journal (legs.mark k) (legs.mark (k + 1)) j ≡ front ++ entries_of ((legs.phase k k_in).notes j)
@@ -111,10 +104,11 @@ module _ (setup : Setup) (a b : Stand) (begins : Begins setup a) (legs : Legs se
       let all : AllByRecursion EntryKept (entries_by j journal) = all_filter EntryKept _ journal all_kept in
       let mine : AllByRecursion EntryKept (front ++ entries_of ((legs.phase k k_in).notes j)) =
       all_back EntryKept ((legs.at k).journal j) (front ++ entries_of ((legs.phase k k_in).notes j))
-      (all_front EntryKept ((legs.at k).journal j ++ (front ++ entries_of ((legs.phase k k_in).notes j))) whole.0 (subst (λ (es : List JournalEntry). AllByRecursion EntryKept es) whole.1 all)) in
-      (all_front EntryKept front (entries_of ((legs.phase k k_in).notes j)) mine,
-      deeds_kept (deeds ((legs.phase k k_in).notes j))
-      (subst⁻¹ (λ (es : List JournalEntry). AllByRecursion EntryKept es) (entries_in_deeds ((legs.phase k k_in).notes j)) (all_back EntryKept front (entries_of ((legs.phase k k_in).notes j)) mine)))
+      (all_front EntryKept ((legs.at k).journal j ++ (front ++ entries_of ((legs.phase k k_in).notes j))) whole.0 (subst (λ (es : List JournalEntry). AllByRecursion EntryKept es) whole.1 all)) in (
+        all_front EntryKept front (entries_of ((legs.phase k k_in).notes j)) mine,
+        deeds_kept (deeds ((legs.phase k k_in).notes j))
+            (subst⁻¹ (λ (es : List JournalEntry). AllByRecursion EntryKept es) (entries_in_deeds ((legs.phase k k_in).notes j)) (all_back EntryKept front (entries_of ((legs.phase k k_in).notes j)) mine)),
+      )
 
   -- who isn't the operator has noted nothing at the mark
   pub no_front : (k : ℕ) (k_in : k < legs.made) (j : ℕ) → j ≢ operator_in setup → (legs.from k).journal j ≡ (legs.at k).journal j ++ []

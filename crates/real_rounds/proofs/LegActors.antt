@@ -1,12 +1,12 @@
 -- What each actor did on a leg of the way is real.
-use Rattle.std.proofs.Common.{◌≡◌, ◌≢◌, ◌≤◌, ◌<◌, ◌+◌, ◌∙◌, ℕ, zero, suc, ◌==◌, Bool, true, false, if◌then◌else◌, List, [], ◌∷◌, ◌++◌, length, get_or, map, refl, ap, sym, subst, inl, inr, arith}
-use Rattle.std.specs.Prelude.{◌⊎◌, Option, Some, None, All, option_map, slice_get}
+use Rattle.std.proofs.Common.{◌≡◌, ◌≢◌, ◌≤◌, ◌<◌, ◌+◌, ◌∙◌, ℕ, zero, suc, ◌==◌, Bool, true, false, if◌then◌else◌, List, [], ◌∷◌, ◌++◌, length, get_or, map, refl, ap, sym, subst, arith}
+use Rattle.std.specs.Prelude.{Option, Some, None, All, option_map, slice_get}
 use Rattle.std.specs.List.{AllByRecursion}
 use Rattle.std.proofs.Math.Path.{subst⁻¹}
 use Rattle.std.proofs.lemmas.List.{map-append}
 use Rattle.link_bag.specs.declared.plan.Fault.{Fault}
 use Rattle.ring_net.specs.declared.entry.JournalEntry.{JournalEntry}
-use Rattle.ring_net.specs.Deeds.{Deed, Noted, Replay, deeds, entries_of}
+use Rattle.ring_net.specs.Deeds.{Deed, Noted, Replay, deeds}
 use Rattle.ring_net.specs.Phases.{View}
 use Rattle.ring_net.specs.Turns.{ActorDid}
 use Rattle.ring_net.proofs.Replays.{replay-append, all-append}
@@ -19,13 +19,13 @@ use Rattle.graft_model.specs.First.{place_in, first_router, first_far}
 use Rattle.graft_model.specs.Parts as model
 use Rattle.graft_model.specs.Parts.{World, RouterPart, FarPart, OperatorPart}
 use Rattle.graft_model.specs.Setups.{Setup, PeeringSetup, beat_of, routers_in, peerings_in}
-use Rattle.graft_model.specs.Steps.{RouterEvent, FarEvent, OperatorEvent}
+use Rattle.graft_model.specs.Steps.{FarEvent}
 use Rattle.graft_runs.specs.Actors as names
 use Rattle.graft_runs.specs.Actors.{RouterIs, FarIs, OperatorIs}
 use Rattle.graft_runs.specs.Seen.{part_of}
 use Rattle.graft_actors.specs.Acts.{OwnPart, acts}
 use Rattle.router_core.specs.Parts.{router_part, carried}
-use Rattle.router_core.specs.Places.{place_at, place_of, RunsAt}
+use Rattle.router_core.specs.Places.{place_of, RunsAt}
 use Rattle.router_core.specs.Rounds as router_rounds
 use Rattle.router_core.specs.declared.fields as router_fields
 use Rattle.router_core.specs.declared.router as router_type
@@ -37,7 +37,6 @@ use Rattle.operator_core.specs.Operators as operators
 use Rattle.operator_core.specs.Turns.{NothingToOrder}
 use Rattle.operator_core.specs.declared.operator as operator_type
 use Rattle.run_marks.specs.Marks.{MarksStandForWorlds, operator_in}
-use Rattle.world_runs.specs.Labs.{actors_in}
 use Rattle.world_runs.specs.Runs.{Ran}
 use Rattle.world_runs.specs.Laws.{NothingWasDropped}
 use Rattle.world_nodes.specs.Fresh.{IsFresh}
@@ -45,15 +44,16 @@ use Rattle.world_nodes.specs.Nodes.{Mail, own, took, turned}
 use Rattle.world_nodes.specs.Ways.{Stand, Begins}
 use Rattle.world_nodes.specs.declared.node.Node.{Node}
 use Rattle.world_nodes.specs.declared.node.Node.TheVariants.{Router, Far, Operator}
-use Rattle.real_rounds.specs.Calls.{CallsSay, IsLinked}
+use Rattle.real_rounds.proofs.Calls.{CallsSay}
 use Rattle.real_rounds.specs.Entries.{between, AreCoded}
 use Rattle.real_rounds.specs.Fars.{Links, empty_links, RealFar}
-use Rattle.real_rounds.specs.Routers.{RealRouter, RealOperator, OperatorRound}
+use Rattle.real_rounds.specs.Routers.{RealRouter}
 use Rattle.real_rounds.specs.Whole.{RouterDid, FarDid, OperatorDid}
 use Rattle.real_rounds.proofs.FarRounds.{FarAt, links_of, real_far, far_after}
 use Rattle.real_rounds.proofs.FarRounds as far_rounds
 use Rattle.real_rounds.proofs.Leading as leading
 use Rattle.real_rounds.proofs.Leading.{EntryKept, deeds_kept, next_is}
+use Rattle.real_rounds.proofs.Lists.{all_at}
 use Rattle.real_rounds.proofs.Legs.{Paused, Legs, entry_in}
 use Rattle.real_rounds.proofs.NodeRounds.{RouterPhase, router_phase, FarPhase, far_phase, operator_phase, operator_events, replay_setup}
 use Rattle.real_rounds.proofs.RouterDeeds.{IsKept}
@@ -121,11 +121,6 @@ first_acked setup r p s o is = by_peering (slice_get setup.peerings p) is
     by_peering None e = absurd cc
     by_peering (Some peering) e = by_start (peering.start == r) _ refl e
 
-all_at : {A : Type 0} (P : A → Type 0) (xs : List A) (d : A) (i : ℕ) → AllByRecursion P xs → P d → P (get_or xs i d)
-all_at P [] d i all other = other
-all_at P (x ∷ xs) d zero all other = all.0
-all_at P (x ∷ xs) d (suc i) all other = all_at P xs d i all.1 other
-
 -- what stands in the links of an actor
 abbrev pub links_in : Node → Links
 links_in (Router x) = empty_links
@@ -153,8 +148,8 @@ Ticking law = (x c : router_fields.Fields.Fields) (ds : List (Deed Mail)) (ph : 
 
 -- ---- on the way
 
-module _ (law : CallsSay) (setup : Setup) (faults : List Fault) (a b : Stand) (begins : Begins setup a) (fresh : AllByRecursion (IsFresh setup faults) begins.actors) (linked : AllByRecursion IsLinked begins.actors) (d : Node) (d_fresh : IsFresh setup faults d)
-    (d_linked : IsLinked d) (legs : Legs setup a b) (journal : List JournalEntry) (merge : Interleaves b.view.journal journal) (b_ran : Ran own carried setup b.view) (worlds : MarksStandForWorlds own carried) (dropped : NothingWasDropped) where
+module _ (law : CallsSay) (setup : Setup) (faults : List Fault) (a b : Stand) (begins : Begins setup a) (fresh : AllByRecursion (IsFresh setup faults) begins.actors) (d : Node) (d_fresh : IsFresh setup faults d)
+    (legs : Legs setup a b) (journal : List JournalEntry) (merge : Interleaves b.view.journal journal) (b_ran : Ran own carried setup b.view) (worlds : MarksStandForWorlds own carried) (dropped : NothingWasDropped) where
   abbrev pub world : ℕ → World
   world k = leading.world setup a b begins legs journal merge b_ran worlds dropped k
 
@@ -166,9 +161,6 @@ module _ (law : CallsSay) (setup : Setup) (faults : List Fault) (a b : Stand) (b
 
   first_fresh : (j : ℕ) → IsFresh setup faults (at_mark 0 j)
   first_fresh j = subst⁻¹ (λ (xs : List Node). IsFresh setup faults (get_or xs j d)) (ap (λ (v : View Node Mail). v.actors) legs.first ∙ begins.new.all) (all_at (IsFresh setup faults) begins.actors d j fresh d_fresh)
-
-  first_linked : (j : ℕ) → IsLinked (at_mark 0 j)
-  first_linked j = subst⁻¹ (λ (xs : List Node). IsLinked (get_or xs j d)) (ap (λ (v : View Node Mail). v.actors) legs.first ∙ begins.new.all) (all_at IsLinked begins.actors d j linked d_linked)
 
   pub links_at : ℕ → ℕ → Links
   links_at k p = links_in (at_mark k (routers_in setup + p))
@@ -275,14 +267,13 @@ module _ (law : CallsSay) (setup : Setup) (faults : List Fault) (a b : Stand) (b
   far_first : (p : ℕ) → p < peerings_in setup → (x : far_type.Far.Far) → at_mark 0 (routers_in setup + p) ≡ Far x → FarAt faults 0 x.fields
   far_first p p_in x is =
       let new = subst (λ (n : Node). IsFresh setup faults n) is (first_fresh (routers_in setup + p)) in
-      let links = subst (λ (n : Node). IsLinked n) is (first_linked (routers_in setup + p)) in
       let peering = some_peering setup.peerings p p_in in
       let own_first : own (Far x) ≡ record { setup = setup; name = names.FarSide p; part = FarIs (first_far (Some peering.0)) } =
       sym (ap own is) ∙ ap (λ (xs : List Node). own (get_or xs (routers_in setup + p) d)) (ap (λ (v : View Node Mail). v.actors) legs.first ∙ begins.new.all) ∙ begins.first.far_sides p d peering.0 peering.1 in
       record {
         turns = new.turns;
         level = new.at_turn ∙ sym (ap (λ (part : FarPart). part.end.acked) (far_is (ap (λ (o : OwnPart). o.part) own_first)));
-        links = links;
+        links = new.links;
         beat = (λ i. option_map beat_of (slice_get (own_first i).setup.peerings x.fields.peering.0)) ∙ new.beat;
         fates = new.fates;
       }
@@ -352,7 +343,7 @@ module _ (law : CallsSay) (setup : Setup) (faults : List Fault) (a b : Stand) (b
       let after = own_at (k + 1) (omega (arith, k_in)) names.Operator tt in
       let n = leading.size_from setup a b begins legs journal merge b_ran worlds dropped k k_in in
       let did : ActorDid own (acts carried) took turned (operator_in setup) (get_or (legs.from k).actors (operator_in setup) d) ((legs.from k).clock (operator_in setup)) (notes k k_in (operator_in setup)) (at_mark (k + 1) (operator_in setup))
-          ((legs.at (k + 1)).clock (operator_in setup)) = (legs.phase k k_in).actors (operator_in setup) d (omega (arith, n)) in
+      ((legs.at (k + 1)).clock (operator_in setup)) = (legs.phase k k_in).actors (operator_in setup) d (omega (arith, n)) in
       let kept = leading.leg_kept setup a b begins legs journal merge b_ran worlds dropped k k_in (operator_in setup) (map entry_in pause.deeds) pause.journal in
       let ds : List (Deed Mail) = pause.deeds ++ deeds (notes k k_in (operator_in setup)) in
       let replay : Replay (acts carried) (operator_in setup) (own (at_mark k (operator_in setup))) ds (own (at_mark (k + 1) (operator_in setup))) =

@@ -1,18 +1,17 @@
 -- The way of a laboratory's net, leg by leg: from each mark, past what groups begin there, through a round to the next mark.
-use Rattle.std.proofs.Common.{◌≡◌, ◌≢◌, ◌≤◌, ◌<◌, ◌+◌, ◌∙◌, ℕ, zero, suc, Bool, true, false, List, [], ◌∷◌, ◌++◌, length, get_or, map, refl, ap, sym, subst, inl, inr, arith, append_assoc, length-append}
-use Rattle.std.specs.Prelude.{◌⊎◌, nat_lt, if◌then◌else◌, Option, Some, None, slice_get}
-use Rattle.std.specs.List.{AllByRecursion}
+use Rattle.std.proofs.Common.{◌≡◌, ◌≢◌, ◌≤◌, ◌<◌, ◌+◌, ◌∙◌, ℕ, zero, suc, true, List, [], ◌∷◌, ◌++◌, length, get_or, map, refl, ap, sym, subst, inl, inr, arith, append_assoc, length-append}
+use Rattle.std.specs.Prelude.{◌⊎◌, nat_lt, if◌then◌else◌, Some, slice_get}
 use Rattle.std.proofs.Math.Path.{subst⁻¹}
 use Rattle.std.proofs.lemmas.Bool.{lt-ltb, le-ltb}
 use Rattle.std.proofs.lemmas.Bool.Decides.{eqb_tells}
 use Rattle.std.proofs.lemmas.List.{append-nil, map-append, get_or_past}
 use Rattle.std.proofs.lemmas.Option.{same_Some, slice_get_within}
 use Rattle.ring_net.specs.declared.entry.JournalEntry.{JournalEntry}
-use Rattle.ring_net.specs.Deeds.{Deed, Replay, TakesNone, entries_of, sent_by}
-use Rattle.ring_net.specs.Phases.{View, Phase, Marked, Levelled, Between, InOrder, OnlyClocks}
+use Rattle.ring_net.specs.Deeds.{Deed, Replay, entries_of, sent_by}
+use Rattle.ring_net.specs.Phases.{View, Phase, Marked, Between, InOrder, OnlyClocks}
 use Rattle.ring_net.proofs.EdgeReads.{slice_get-append_left, slice_get-append_head}
 use Rattle.ring_net.proofs.Replays.{replay-append}
-use Rattle.graft_model.specs.Setups.{Setup, IsSetup, routers_in, peerings_in}
+use Rattle.graft_model.specs.Setups.{Setup}
 use Rattle.graft_actors.specs.Acts.{acts}
 use Rattle.router_core.specs.Parts.{carried}
 use Rattle.operator_core.specs.declared.operator as operator_type

@@ -1,3 +1,6 @@
+pub mod Calls
+pub mod Lists
+pub mod Goes
 pub mod RouterWays
 pub mod RouterRows
 pub mod RouterDeeds

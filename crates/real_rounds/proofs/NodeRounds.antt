@@ -1,11 +1,10 @@
 -- What an actor did in a phase, by its kind.
-use Rattle.std.proofs.Common.{◌≡◌, ◌∙◌, ◌+◌, ℕ, List, [], ◌∷◌, ◌++◌, map, refl, ap, sym, subst, inl, inr, arith}
-use Rattle.std.specs.Prelude.{Option, Some, option_map}
+use Rattle.std.proofs.Common.{◌≡◌, ◌∙◌, ℕ, List, [], ◌∷◌, ◌++◌, refl, ap, sym, subst, inl, inr}
+use Rattle.std.specs.Prelude.{Option, Some}
 use Rattle.std.specs.List.{AllByRecursion}
-use Rattle.std.proofs.Math.Path.{subst⁻¹}
 use Rattle.std.proofs.lemmas.List.{map-append}
 use Rattle.ring_net.specs.declared.entry.JournalEntry.{JournalEntry}
-use Rattle.ring_net.specs.Deeds.{Deed, Noted, Replay, TakesNone, TakesFirst, deeds}
+use Rattle.ring_net.specs.Deeds.{Deed, Noted, Replay, TakesNone, deeds}
 use Rattle.ring_net.specs.Turns.{ActorDid, Tooks, stays, takes}
 use Rattle.graft_model.specs.Codes.{operator_code}
 use Rattle.graft_model.specs.Parts.{OperatorPart}
@@ -15,13 +14,12 @@ use Rattle.graft_model.specs.OperatorRows.{OperatorTaken, OperatorSent}
 use Rattle.graft_runs.specs.Actors as names
 use Rattle.graft_runs.specs.Actors.{ActorPart, RouterIs, FarIs, OperatorIs, Thing}
 use Rattle.graft_runs.specs.Makes.{HasCode, makes_as}
-use Rattle.graft_actors.specs.Acts.{OwnPart, ActsAs, acts, things}
+use Rattle.graft_actors.specs.Acts.{OwnPart, ActsAs, acts}
 use Rattle.router_core.specs.Parts.{carried}
 use Rattle.router_core.specs.Routers as routers
 use Rattle.router_core.specs.Turned as router_turns
 use Rattle.router_core.specs.declared.fields as router_fields
 use Rattle.router_core.specs.declared.router as router_type
-use Rattle.far_side.specs.Fars as fars
 use Rattle.far_side.specs.Turned as far_turns
 use Rattle.far_side.specs.declared.fields as far_fields
 use Rattle.far_side.specs.declared.far as far_type
@@ -31,13 +29,13 @@ use Rattle.operator_core.specs.declared.operator as operator_type
 use Rattle.world_nodes.specs.Nodes.{Mail, own, took, turned}
 use Rattle.world_nodes.specs.declared.node.Node.{Node}
 use Rattle.world_nodes.specs.declared.node.Node.TheVariants.{Router, Far, Operator}
-use Rattle.real_rounds.specs.Calls.{CallsSay}
+use Rattle.real_rounds.proofs.Calls.{CallsSay}
 use Rattle.real_rounds.specs.Routers.{OperatorRound}
 use Rattle.real_rounds.proofs.FarTakes.{TookFar, far_none, far_one, far_then}
 use Rattle.real_rounds.proofs.RouterDeeds.{IsKept, nobody_lands}
 use Rattle.real_rounds.proofs.RouterRounds.{TookRouter, took_none, took_one, took_then}
 use Rattle.real_rounds.proofs.RouterRows.{LandsNobody}
-use Rattle.real_rounds.proofs.RouterWays.{all_front, all_back}
+use Rattle.real_rounds.proofs.Lists.{all_front, all_back}
 
 -- ---- a router
 

@@ -1,30 +1,28 @@
 -- All rounds of a way are real.
-use Rattle.std.proofs.Common.{◌≡◌, ◌≤◌, ◌<◌, ◌+◌, ◌∙◌, ℕ, List, [], ◌∷◌, ◌++◌, length, get_or, refl, ap, sym, subst, inl, inr, arith, if◌then◌else◌}
-use Rattle.std.specs.Prelude.{◌⊎◌, Some, min, slice_get}
+use Rattle.std.proofs.Common.{◌≡◌, ◌≤◌, ◌<◌, ◌+◌, ◌∙◌, ℕ, List, [], ◌∷◌, ◌++◌, length, get_or, ap, sym, subst, inl, inr, arith}
+use Rattle.std.specs.Prelude.{Some, min}
 use Rattle.std.specs.List.{AllByRecursion}
 use Rattle.std.proofs.Math.Path.{subst⁻¹}
 use Rattle.std.proofs.lemmas.Option.{slice_get_within}
 use Rattle.link_bag.specs.declared.plan.Fault.{Fault}
 use Rattle.ring_net.specs.declared.entry.JournalEntry.{JournalEntry}
-use Rattle.ring_net.specs.Deeds.{Noted, deeds, entries_of, taken_from}
+use Rattle.ring_net.specs.Deeds.{deeds, entries_of, taken_from}
 use Rattle.ring_net.specs.Turns.{ActorDid}
 use Rattle.journal_merge.specs.Merges.{Interleaves}
 use Rattle.graft_model.specs.Setups.{Setup, IsSetup}
 use Rattle.graft_model.specs.Parts.{World}
-use Rattle.graft_laws.specs.Keeps.{Reached}
 use Rattle.graft_runs.specs.Actors.{ActorName, number_in, IsActor}
 use Rattle.graft_runs.specs.Seen.{channel_of}
 use Rattle.graft_actors.specs.Acts.{OwnPart, acts}
 use Rattle.router_core.specs.Parts.{carried}
 use Rattle.run_marks.specs.Marks.{MarksStandForWorlds, IsWorldAtMark}
-use Rattle.world_runs.specs.Labs.{actors_in}
 use Rattle.world_runs.specs.Runs.{Ran}
 use Rattle.world_runs.specs.Laws.{NothingWasDropped, NobodyWritesToItself}
 use Rattle.world_nodes.specs.Fresh.{IsFresh}
-use Rattle.world_nodes.specs.Nodes.{Mail, own, took, turned}
+use Rattle.world_nodes.specs.Nodes.{own, took, turned}
 use Rattle.world_nodes.specs.Ways.{Stand, Begins}
 use Rattle.world_nodes.specs.declared.node.Node.{Node}
-use Rattle.real_rounds.specs.Calls.{CallsSay, IsLinked}
+use Rattle.real_rounds.proofs.Calls.{CallsSay}
 use Rattle.real_rounds.specs.Entries as entries
 use Rattle.real_rounds.specs.Entries.{between, is_name, sender_of}
 use Rattle.real_rounds.specs.Whole.{RealRound, Drains, RealRounds}
@@ -33,7 +31,7 @@ use Rattle.real_rounds.proofs.Leading as leading
 use Rattle.real_rounds.proofs.Leading.{number_below}
 use Rattle.real_rounds.proofs.LegActors as legs_actors
 use Rattle.real_rounds.proofs.LegActors.{Ticking, TicksAreEarlier}
-use Rattle.real_rounds.proofs.Legs.{Paused, Legs, pause_more}
+use Rattle.real_rounds.proofs.Legs.{Legs, pause_more}
 use Rattle.real_rounds.proofs.NodeRounds.{replay_setup}
 
 taken_more : (x : ActorName) (front es : List JournalEntry) → entries.taken_from x es ≤ entries.taken_from x (front ++ es)
@@ -56,7 +54,7 @@ module _ (setup : Setup) (a b : Stand) (begins : Begins setup a) (d : Node) (leg
       let n = leading.size_from setup a b begins legs journal merge b_ran worlds dropped k k_in in
       let y_in = number_below setup y y_known in
       let did : ActorDid own (acts carried) took turned (number_in setup y) (get_or (legs.from k).actors (number_in setup y) d) ((legs.from k).clock (number_in setup y)) ((legs.phase k k_in).notes (number_in setup y))
-          (get_or (legs.at (k + 1)).actors (number_in setup y) d) ((legs.at (k + 1)).clock (number_in setup y)) = (legs.phase k k_in).actors (number_in setup y) d (omega (arith, n, y_in)) in
+      (get_or (legs.at (k + 1)).actors (number_in setup y) d) ((legs.at (k + 1)).clock (number_in setup y)) = (legs.phase k k_in).actors (number_in setup y) d (omega (arith, n, y_in)) in
       let of : (own (get_or (legs.from k).actors (number_in setup y) d)).setup ≡ setup =
       sym (replay_setup (number_in setup y) (own (get_or (legs.from k).actors (number_in setup y) d)) (own (get_or (legs.at (k + 1)).actors (number_in setup y) d)) (deeds ((legs.phase k k_in).notes (number_in setup y))) did.replay)
       ∙ ap (λ (o : OwnPart). o.setup) (leading.own_at setup a b begins legs journal merge b_ran worlds dropped (k + 1) (omega (arith, k_in)) y y_known d) in
@@ -85,43 +83,43 @@ module _ (setup : Setup) (a b : Stand) (begins : Begins setup a) (d : Node) (leg
 
 -- ---- all rounds
 
-module _ (law : CallsSay) (setup : Setup) (faults : List Fault) (a b : Stand) (sound : IsSetup setup) (begins : Begins setup a) (fresh : AllByRecursion (IsFresh setup faults) begins.actors) (linked : AllByRecursion IsLinked begins.actors) (d : Node)
-    (d_fresh : IsFresh setup faults d) (d_linked : IsLinked d) (legs : Legs setup a b) (journal : List JournalEntry) (merge : Interleaves b.view.journal journal) (b_ran : Ran own carried setup b.view) (worlds : MarksStandForWorlds own carried)
+module _ (law : CallsSay) (setup : Setup) (faults : List Fault) (a b : Stand) (sound : IsSetup setup) (begins : Begins setup a) (fresh : AllByRecursion (IsFresh setup faults) begins.actors) (d : Node)
+    (d_fresh : IsFresh setup faults d) (legs : Legs setup a b) (journal : List JournalEntry) (merge : Interleaves b.view.journal journal) (b_ran : Ran own carried setup b.view) (worlds : MarksStandForWorlds own carried)
     (dropped : NothingWasDropped) (itself : NobodyWritesToItself) (ticking : Ticking law)
-    (earlier : TicksAreEarlier law setup faults a b begins fresh linked d d_fresh d_linked legs journal merge b_ran worlds dropped) where
+    (earlier : TicksAreEarlier law setup faults a b begins fresh d d_fresh legs journal merge b_ran worlds dropped) where
   one_round : (k : ℕ) → k < legs.made → RealRound setup faults (k + 1) (leading.world setup a b begins legs journal merge b_ran worlds dropped k)
-      (legs_actors.links_at law setup faults a b begins fresh linked d d_fresh d_linked legs journal merge b_ran worlds dropped k) (between journal (legs.mark k) (legs.mark (k + 1)))
-      (leading.world setup a b begins legs journal merge b_ran worlds dropped (k + 1)) (legs_actors.links_at law setup faults a b begins fresh linked d d_fresh d_linked legs journal merge b_ran worlds dropped (k + 1))
+      (legs_actors.links_at law setup faults a b begins fresh d d_fresh legs journal merge b_ran worlds dropped k) (between journal (legs.mark k) (legs.mark (k + 1)))
+      (leading.world setup a b begins legs journal merge b_ran worlds dropped (k + 1)) (legs_actors.links_at law setup faults a b begins fresh d d_fresh legs journal merge b_ran worlds dropped (k + 1))
   one_round k k_in = record {
-    routers = legs_actors.router_did law setup faults a b begins fresh linked d d_fresh d_linked legs journal merge b_ran worlds dropped ticking earlier k k_in;
-    far_sides = legs_actors.far_did law setup faults a b begins fresh linked d d_fresh d_linked legs journal merge b_ran worlds dropped k k_in;
-    operator = legs_actors.operator_did law setup faults a b begins fresh linked d d_fresh d_linked legs journal merge b_ran worlds dropped k k_in;
+    routers = legs_actors.router_did law setup faults a b begins fresh d d_fresh legs journal merge b_ran worlds dropped ticking earlier k k_in;
+    far_sides = legs_actors.far_did law setup faults a b begins fresh d d_fresh legs journal merge b_ran worlds dropped k k_in;
+    operator = legs_actors.operator_did law setup faults a b begins fresh d d_fresh legs journal merge b_ran worlds dropped k k_in;
   }
 
   pub rounds_real : RealRounds setup faults journal b.marks
   rounds_real = record {
     world = leading.world setup a b begins legs journal merge b_ran worlds dropped;
-    links = legs_actors.links_at law setup faults a b begins fresh linked d d_fresh d_linked legs journal merge b_ran worlds dropped;
+    links = legs_actors.links_at law setup faults a b begins fresh d d_fresh legs journal merge b_ran worlds dropped;
     worlds = λ k mark is. subst⁻¹ (λ (m : List ℕ). IsWorldAtMark setup journal m (leading.world setup a b begins legs journal merge b_ran worlds dropped k)) (legs.marks k mark is)
         (leading.world_at setup a b begins legs journal merge b_ran worlds dropped k).1;
-    empty = legs_actors.links_first law setup faults a b begins fresh linked d d_fresh d_linked legs journal merge b_ran worlds dropped;
+    empty = legs_actors.links_first law setup faults a b begins fresh d d_fresh legs journal merge b_ran worlds dropped;
     each = λ k mark next is at_next. (
-      let size = slice_get_within b.marks (k + 1) next at_next in
-      let k_in : k < legs.made = omega (arith, size, legs.count) in
-      subst⁻¹ (λ (m : List ℕ). RealRound setup faults (k + 1) (leading.world setup a b begins legs journal merge b_ran worlds dropped k)
-      (legs_actors.links_at law setup faults a b begins fresh linked d d_fresh d_linked legs journal merge b_ran worlds dropped k) (between journal m next)
-      (leading.world setup a b begins legs journal merge b_ran worlds dropped (k + 1)) (legs_actors.links_at law setup faults a b begins fresh linked d d_fresh d_linked legs journal merge b_ran worlds dropped (k + 1))) (legs.marks k mark is)
-      (subst⁻¹ (λ (m : List ℕ). RealRound setup faults (k + 1) (leading.world setup a b begins legs journal merge b_ran worlds dropped k)
-      (legs_actors.links_at law setup faults a b begins fresh linked d d_fresh d_linked legs journal merge b_ran worlds dropped k) (between journal (legs.mark k) m)
-      (leading.world setup a b begins legs journal merge b_ran worlds dropped (k + 1)) (legs_actors.links_at law setup faults a b begins fresh linked d d_fresh d_linked legs journal merge b_ran worlds dropped (k + 1))) (legs.marks (k + 1) next at_next)
-      (one_round k k_in)));
+        let size = slice_get_within b.marks (k + 1) next at_next in
+        let k_in : k < legs.made = omega (arith, size, legs.count) in
+        subst⁻¹ (λ (m : List ℕ). RealRound setup faults (k + 1) (leading.world setup a b begins legs journal merge b_ran worlds dropped k)
+        (legs_actors.links_at law setup faults a b begins fresh d d_fresh legs journal merge b_ran worlds dropped k) (between journal m next)
+        (leading.world setup a b begins legs journal merge b_ran worlds dropped (k + 1)) (legs_actors.links_at law setup faults a b begins fresh d d_fresh legs journal merge b_ran worlds dropped (k + 1))) (legs.marks k mark is)
+        (subst⁻¹ (λ (m : List ℕ). RealRound setup faults (k + 1) (leading.world setup a b begins legs journal merge b_ran worlds dropped k)
+        (legs_actors.links_at law setup faults a b begins fresh d d_fresh legs journal merge b_ran worlds dropped k) (between journal (legs.mark k) m)
+        (leading.world setup a b begins legs journal merge b_ran worlds dropped (k + 1)) (legs_actors.links_at law setup faults a b begins fresh d d_fresh legs journal merge b_ran worlds dropped (k + 1))) (legs.marks (k + 1) next at_next)
+        (one_round k k_in)));
     drains = λ k mark next last is at_next at_last. (
-      let size = slice_get_within b.marks (k + 2) last at_last in
-      let two : (k + 1) + 1 ≡ k + 2 = omega arith in
-      let w : World = leading.world setup a b begins legs journal merge b_ran worlds dropped k in
-      let here = drained setup a b begins d legs journal merge b_ran worlds dropped itself sound k (omega (arith, size, legs.count)) (omega (arith, size, legs.count)) in
-      subst⁻¹ (λ (m : List ℕ). Drains setup w (between journal m next) (between journal next last)) (legs.marks k mark is)
-      (subst⁻¹ (λ (m : List ℕ). Drains setup w (between journal (legs.mark k) m) (between journal m last)) (legs.marks (k + 1) next at_next)
-      (subst⁻¹ (λ (m : List ℕ). Drains setup w (between journal (legs.mark k) (legs.mark (k + 1))) (between journal (legs.mark (k + 1)) m)) (legs.marks (k + 2) last at_last)
-      (subst (λ (n : ℕ). Drains setup w (between journal (legs.mark k) (legs.mark (k + 1))) (between journal (legs.mark (k + 1)) (legs.mark n))) two here))));
+        let size = slice_get_within b.marks (k + 2) last at_last in
+        let two : (k + 1) + 1 ≡ k + 2 = omega arith in
+        let w : World = leading.world setup a b begins legs journal merge b_ran worlds dropped k in
+        let here = drained setup a b begins d legs journal merge b_ran worlds dropped itself sound k (omega (arith, size, legs.count)) (omega (arith, size, legs.count)) in
+        subst⁻¹ (λ (m : List ℕ). Drains setup w (between journal m next) (between journal next last)) (legs.marks k mark is)
+        (subst⁻¹ (λ (m : List ℕ). Drains setup w (between journal (legs.mark k) m) (between journal m last)) (legs.marks (k + 1) next at_next)
+        (subst⁻¹ (λ (m : List ℕ). Drains setup w (between journal (legs.mark k) (legs.mark (k + 1))) (between journal (legs.mark (k + 1)) m)) (legs.marks (k + 2) last at_last)
+        (subst (λ (n : ℕ). Drains setup w (between journal (legs.mark k) (legs.mark (k + 1))) (between journal (legs.mark (k + 1)) (legs.mark n))) two here))));
   }

@@ -3,7 +3,7 @@ use Rattle.std.proofs.Common.{◌≡◌, ◌≢◌, ◌≤◌, ◌<◌, ◌+◌,
 use Rattle.std.specs.Prelude.{◌⊎◌, Option}
 use Rattle.std.specs.List.{AllByRecursion}
 use Rattle.std.proofs.Math.Path.{subst⁻¹}
-use Rattle.ring_net.specs.Deeds.{Deed, Replay, TakesNone, TakesFirst}
+use Rattle.ring_net.specs.Deeds.{Deed, Replay, TakesFirst}
 use Rattle.graft_steps.specs.declared.order.GraftIds.{GraftIds}
 use Rattle.bgp_session.specs.Running.{RunningSession}
 use Rattle.bgp_session.specs.Steps.{MayPass}
@@ -27,9 +27,10 @@ use Rattle.router_core.specs.declared.place.Place.TheVariants.{Vacant, Live, Sha
 use Rattle.router_core.proofs.Dids.{same_router, router_then, are_of-append, round_at}
 use Rattle.router_core.proofs.RoundLists.{rounds_on-append, no_puts_then}
 use Rattle.world_nodes.specs.Nodes.{Mail}
-use Rattle.real_rounds.specs.Calls.{TakesAreCalm, TurnsPassOne}
-use Rattle.real_rounds.specs.Ends.{IsFew, GoesOn}
+use Rattle.real_rounds.proofs.Calls.{TakesAreCalm, TurnsPassOne}
+use Rattle.real_rounds.specs.Ends.{GoesOn}
 use Rattle.real_rounds.specs.Routers.{RouterGoes, HasLive, Stands, HoldRuns, RealRouter}
+use Rattle.real_rounds.proofs.Goes.{goes_on}
 use Rattle.real_rounds.proofs.RouterDeeds.{IsKept, took_welcome}
 use Rattle.real_rounds.proofs.RouterRows.{LandsNobody, live_start, no_rounds_there}
 use Rattle.real_rounds.proofs.RouterWays.{goes_of, goes_append, through_both}
@@ -85,7 +86,7 @@ took_none a = record {
   no_rounds = λ p. refl;
   no_puts = tt;
   stays = λ p s u o q x y all. (let e : u ≡ s = same_running a p s u o q x y in
-    record { acked = omega (arith, ap (λ (v : RunningSession). v.session.end.acked) e); emitted = ap (λ (v : RunningSession). v.session.end.emitted) e; at_turn = ap (λ (v : RunningSession). v.acked_at_turn) e });
+      record { acked = omega (arith, ap (λ (v : RunningSession). v.session.end.acked) e); emitted = ap (λ (v : RunningSession). v.session.end.emitted) e; at_turn = ap (λ (v : RunningSession). v.acked_at_turn) e });
 }
 
 pub took_one : TakesAreCalm → (a b : Fields) (n from : ℕ) (item : Mail) (ds : List (Deed Mail)) → Took a from item ds b → TakesFirst from item ds → Replay (acts carried) n (own_part a) ds (own_part b) → AllByRecursion IsKept ds
@@ -123,9 +124,9 @@ took_then a b c ds es x y = record {
   no_rounds = λ p. rounds_on-append p x.events y.events ∙ ap (λ (xs : List ℕ). xs ++ rounds_on p y.events) (x.no_rounds p) ∙ y.no_rounds p;
   no_puts = no_puts_then x.events y.events x.no_puts y.no_puts;
   stays = λ p s u o q before after all. (
-    let both = through_both (HasLive p) a.known.setup a.number.0 (router_part a) (router_part b) (λ p. nothing) (λ p. nothing) x.events x.moments y.moments x.goes all in
-    let mid = some_running b p both.1.0 in
-    stays_then s mid.0 u (x.stays p s mid.0 o mid.1 before mid.2 both.0) (y.stays p mid.0 u mid.1 q mid.2 after both.1));
+      let both = through_both (HasLive p) a.known.setup a.number.0 (router_part a) (router_part b) (λ p. nothing) (λ p. nothing) x.events x.moments y.moments x.goes all in
+      let mid = some_running b p both.1.0 in
+      stays_then s mid.0 u (x.stays p s mid.0 o mid.1 before mid.2 both.0) (y.stays p mid.0 u mid.1 q mid.2 after both.1));
 }
 
 -- ---- the round
@@ -134,17 +135,6 @@ took_then a b c ds es x y = record {
 pub record RouterAt (n : ℕ) (f : Fields) : Type 0 where
   pub turns : f.turns ≡ n
   pub level : (p : ℕ) (s : RunningSession) (o : Option GraftIds) → RunsAt f.places.items p s o → s.acked_at_turn ≡ s.session.end.acked
-
--- what is outstanding at the start goes on
-goes_on : (s m u : RunningSession) (t : Tally) → s.acked_at_turn ≡ s.session.end.acked → Stays s m → u.session.end.acked ≡ m.session.end.acked
-    → (m.acked_at_turn ≡ m.session.end.acked → m.session.end.acked < m.session.end.emitted → t.again ≡ 1) → GoesOn s.session.end u.session.end t
-goes_on s m u t level stays same again out = elim (compare s.session.end.acked m.session.end.acked stays.acked) [
-  | inl rose ↦ inl (omega (arith, rose, same))
-  | inr is ↦ inr (again (stays.at_turn ∙ level ∙ is) (omega (arith, out, is, stays.emitted)))
-]
-  where
-    compare : (a b : ℕ) → a ≤ b → (a < b) ⊎ (a ≡ b)
-    compare a b h = grind (arith, h)
 
 -- On a session that stands through the round, and whose hold time runs, a round may pass in the turn.
 abbrev pub MayPassThen : (start mid end : Fields) → List RouterPart → Type 0
@@ -175,9 +165,10 @@ module _ (pass : TurnsPassOne) (a b c : Fields) (ds es : List (Deed Mail)) (took
       let (v, v_order, v_at, v_is) = runs_at a p s st.first_order st.starts in
       let (m, m_order, m_at) = some_running b p both.1.0 in
       let (w, w_order, w_at, w_is) = runs_at c p u st.last_order st.ends in
+      let stays : Stays v m = took.stays p v m v_order m_order v_at m_at both.0 in
       let on : TurnsSession c.turns p turned.events (turned.tally p) m w = turned.sessions p m w m_order w_order m_at w_at in
       subst (λ (x : SessionValue). GoesOn x.end u.end (turned.tally p)) v_is (subst (λ (x : SessionValue). GoesOn v.session.end x.end (turned.tally p)) w_is
-      (goes_on v m w (turned.tally p) (at.level p v v_order v_at) (took.stays p v m v_order m_order v_at m_at both.0) on.acked on.again))
+      (goes_on v.session.end m.session.end w.session.end (turned.tally p) stays.acked stays.emitted on.acked (λ is out. on.again (stays.at_turn ∙ at.level p v v_order v_at ∙ is) out)))
 
   rounds_are : (p : ℕ) → rounds_on p (took.events ++ turned.events) ≡ rounds_on p turned.events
   rounds_are p = rounds_on-append p took.events turned.events ∙ ap (λ (xs : List ℕ). xs ++ rounds_on p turned.events) (took.no_rounds p)
@@ -231,7 +222,7 @@ module _ (pass : TurnsPassOne) (a b c : Fields) (ds es : List (Deed Mail)) (took
   router_after = record {
     turns = number_is;
     level = λ p u q runs. (
-      let before = some_running b p (live_start a.known.setup a.number.0 (router_part b) (router_part c) (λ p. nothing) turned.tally turned.events turn_round calm p (live_at c p u q runs)) in
-      let on : TurnsSession c.turns p turned.events (turned.tally p) before.0 u = turned.sessions p before.0 u before.1 q before.2 runs in
-      on.at_turn ∙ sym on.acked);
+        let before = some_running b p (live_start a.known.setup a.number.0 (router_part b) (router_part c) (λ p. nothing) turned.tally turned.events turn_round calm p (live_at c p u q runs)) in
+        let on : TurnsSession c.turns p turned.events (turned.tally p) before.0 u = turned.sessions p before.0 u before.1 q before.2 runs in
+        on.at_turn ∙ sym on.acked);
   }

@@ -1,5 +1,5 @@
 -- The events of a router, one after another, through its parts.
-use Rattle.std.proofs.Common.{◌≡◌, ℕ, List, [], ◌∷◌, ◌++◌, subst}
+use Rattle.std.proofs.Common.{ℕ, List, [], ◌∷◌, ◌++◌, subst}
 use Rattle.std.proofs.Math.Path.{subst⁻¹}
 use Rattle.std.specs.List.{AllByRecursion}
 use Rattle.graft_actors.specs.Emissions.{Tally}
@@ -8,6 +8,7 @@ use Rattle.graft_model.specs.Setups.{Setup}
 use Rattle.graft_model.specs.Steps.{RouterEvent}
 use Rattle.router_core.specs.Rounds.{RouterRound, router_tally}
 use Rattle.real_rounds.specs.Routers.{RouterGoes}
+use Rattle.real_rounds.proofs.Lists.{all_front, all_back}
 
 -- the parts of a round, named
 pub goes_of : (setup : Setup) (r : ℕ) (a b : RouterPart) (t u : ℕ → Tally) (es : List RouterEvent) → RouterRound setup r a t es b u → (parts : List RouterPart) × RouterGoes setup r a t es parts b u
@@ -24,14 +25,6 @@ goes_append setup r a b c t u w (e ∷ es) fs (m ∷ ms) ns (taken, sent, row, c
     (taken, sent, row, careful, goes_append setup r m b c (router_tally a e t) u w es fs ms ns rest k)
 
 -- ---- what holds of each part
-
-pub all_front : {A : Type 0} (P : A → Type 0) (xs ys : List A) → AllByRecursion P (xs ++ ys) → AllByRecursion P xs
-all_front P [] ys all = tt
-all_front P (x ∷ xs) ys all = (all.0, all_front P xs ys all.1)
-
-pub all_back : {A : Type 0} (P : A → Type 0) (xs ys : List A) → AllByRecursion P (xs ++ ys) → AllByRecursion P ys
-all_back P [] ys all = all
-all_back P (x ∷ xs) ys all = all_back P xs ys all.1
 
 holds_last : (P : RouterPart → Type 0) (setup : Setup) (r : ℕ) (a b : RouterPart) (t u : ℕ → Tally) (es : List RouterEvent) (ms : List RouterPart) → RouterGoes setup r a t es ms b u → AllByRecursion P (a ∷ ms) → P b
 holds_last P setup r a b t u [] [] h all = subst⁻¹ P h.0 all.0

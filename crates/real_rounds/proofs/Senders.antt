@@ -1,19 +1,16 @@
 -- From whom an event took an item.
-use Rattle.std.proofs.Common.{◌≡◌, ◌≢◌, ◌+◌, ◌∙◌, ℕ, zero, suc, List, [], ◌∷◌, ◌==◌, Bool, true, false, if◌then◌else◌, refl, ap, sym, subst, inl, inr, arith}
-use Rattle.std.specs.Prelude.{◌⊎◌, Option, Some, None, option_map}
-use Rattle.std.specs.List.{AllByRecursion}
-use Rattle.std.proofs.Math.Path.{subst⁻¹}
-use Rattle.std.proofs.lemmas.Bool.Decides.{eqb_tells, nat_tests}
+use Rattle.std.proofs.Common.{◌≡◌, ◌≢◌, ◌∙◌, ℕ, zero, suc, List, refl, ap, sym, subst, inl, inr, arith}
+use Rattle.std.specs.Prelude.{Option, Some, None, option_map}
 use Rattle.ring_net.specs.declared.entry.JournalEntry.{JournalEntry}
 use Rattle.graft_model.specs.Codes.{number_of, Code, router_code, far_code, operator_code}
 use Rattle.graft_model.specs.Parts.{RouterPart, FarPart, OperatorPart}
 use Rattle.graft_model.specs.RouterRows.{RouterTaken, OrderIn, SegmentIn, MeshIn, RouterSent}
 use Rattle.graft_model.specs.FarRows.{FarTaken, OutwardIn, SayIn, FarSent}
 use Rattle.graft_model.specs.OperatorRows.{OperatorTaken, ReportIn, OperatorSent}
-use Rattle.graft_model.specs.Setups.{Setup, routers_in}
+use Rattle.graft_model.specs.Setups.{Setup}
 use Rattle.graft_model.specs.Steps as steps
 use Rattle.graft_model.specs.Steps.{router_row, far_row, operator_row, RouterEvent, Put, Emit, Arrive, Stray, Got, Decide, Tell, Hear, Admit, Refuse, Freeze, Leave, Land, TurnBack, Return, Clear, Tick, FarEvent, Say, Send, Take, Pass, Reach, Lose, Point, Beat, OperatorEvent, Order, Note, Go}
-use Rattle.graft_runs.specs.Actors.{ActorPart, RouterIs, FarIs, OperatorIs, Thing, MeshItem, OutwardItem, SegmentItem, OrderItem, ReportItem, StepItem, ActorName, Router, FarSide, Operator, number_in, actor_at}
+use Rattle.graft_runs.specs.Actors.{ActorPart, RouterIs, FarIs, OperatorIs, Thing, ActorName, Router, FarSide, Operator, number_in, actor_at}
 use Rattle.graft_runs.specs.Makes.{HasCode, makes_as, numbered, taken_by_router, taken_by_far, taken_by_operator}
 use Rattle.graft_runs.proofs.Numbers.{of_number}
 use Rattle.graft_actors.specs.Items.{thing_of}

@@ -1,6 +1,5 @@
 -- What stands between two marks of a journal, and the events that it is of.
-use Rattle.std.proofs.Common.{◌≡◌, ◌+◌, ◌-◌, ◌∙◌, ℕ, zero, suc, List, [], ◌∷◌, ◌++◌, length, map, take, drop, refl, ap, sym, subst, arith, take_at, length-append}
-use Rattle.std.proofs.Math.Path.{subst⁻¹}
+use Rattle.std.proofs.Common.{◌≡◌, ◌-◌, ◌∙◌, ℕ, zero, suc, List, [], ◌∷◌, ◌++◌, length, map, take, drop, refl, ap, arith, take_at, length-append}
 use Rattle.ring_net.specs.declared.entry.JournalEntry.{JournalEntry}
 use Rattle.ring_net.specs.Deeds.{Deed, Noted, deeds, entries_of}
 use Rattle.journal_merge.specs.Merges.{entries_by}

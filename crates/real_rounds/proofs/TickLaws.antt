@@ -1,6 +1,6 @@
 -- Each Tick of a story in the world has the number of an event that made it: a bound on the events' numbers is one on the stories'.
-use Rattle.std.proofs.Common.{rules, ◌≡◌, ◌≢◌, ◌<◌, ◌+◌, ◌∙◌, ℕ, zero, suc, Bool, true, false, List, [], ◌∷◌, ◌++◌, Result, Ok, Err, refl, ap, sym, subst, inl, inr, arith, if◌then◌else◌}
-use Rattle.std.specs.Prelude.{◌⊎◌, ◌==◌, ◌%◌, ◌/◌, Option, Some, None, All, fold, slice_get}
+use Rattle.std.proofs.Common.{rules, ◌≡◌, ◌<◌, ◌+◌, ℕ, zero, suc, Bool, true, false, List, [], ◌∷◌, ◌++◌, Result, Ok, Err, refl, ap, subst, inl, inr, if◌then◌else◌}
+use Rattle.std.specs.Prelude.{◌==◌, ◌%◌, ◌/◌, Option, Some, None, All, fold, slice_get}
 use Rattle.std.specs.List.{AllByRecursion}
 use Rattle.std.proofs.Math.Path.{subst⁻¹}
 use Rattle.std.proofs.lemmas.Bool.Decides.{eqb_tells}
@@ -13,13 +13,13 @@ use Rattle.bgp_types.specs.declared.message.SessionState.{SessionState}
 use Rattle.bgp_types.specs.FirstFault.{message_of}
 use Rattle.bgp_story.specs.declared.line.Line.{Line}
 use Rattle.bgp_story.specs.declared.line.Line.TheVariants.{Put, Got, Tick}
-use Rattle.bgp_story.specs.Legal.{IsEarlier, expected_next, reply_to, reply_at, silence}
+use Rattle.bgp_story.specs.Legal.{IsEarlier, expected_next, reply_to, silence}
 use Rattle.session_value.specs.Sessions.{SessionValue, begun, peering_of, state, hold_time}
-use Rattle.session_value.specs.Cases.{GetsFrame, PutsUpdate, PassesRound}
+use Rattle.session_value.specs.Cases.{GetsFrame, PassesRound}
 use Rattle.graft_model.specs.First.{first_world, place_in}
 use Rattle.graft_model.specs.Points.{at, at2}
 use Rattle.graft_model.specs.Setups.{Setup, PeeringSetup}
-use Rattle.graft_model.specs.Parts.{Place, Vacant, Live, Frozen, Shadow, Order, RouterPart, FarPart, World, Mesh, Told, Moved, Back, Done}
+use Rattle.graft_model.specs.Parts.{Place, Vacant, Live, Frozen, Shadow, Order, RouterPart, World, Mesh, Told, Moved, Back, Done}
 use Rattle.graft_model.specs.RouterRows.{RouterTaken, OrderIn, SegmentIn, MeshIn, RouterSent, MeshTo, OutwardTo, ReportOut, IsLive}
 use Rattle.graft_model.specs.FarRows.{FarTaken, OutwardIn, SayIn, FarSent}
 use Rattle.graft_model.specs.OperatorRows.{OperatorTaken, ReportIn, OperatorSent, OrderTo, SayTo}

@@ -1,13 +1,12 @@
 -- On a session that stands through a round while its hold time runs, the round may pass.
-use Rattle.std.proofs.Common.{rules, ◌≡◌, ◌≢◌, ◌≤◌, ◌<◌, ◌+◌, ◌∙◌, ℕ, zero, suc, Bool, true, false, List, [], ◌∷◌, ◌++◌, length, Result, Ok, Err, refl, ap, sym, subst, inl, inr, arith}
-use Rattle.std.specs.Prelude.{◌⊎◌, ◌==◌, Option, Some, None, All, fold, flat_map}
+use Rattle.std.proofs.Common.{rules, ◌≡◌, ◌≢◌, ◌<◌, ◌+◌, ◌∙◌, ℕ, zero, suc, Bool, true, false, List, [], ◌∷◌, ◌++◌, length, Result, Ok, Err, refl, ap, sym, subst, inl, inr, arith}
+use Rattle.std.specs.Prelude.{◌⊎◌, ◌==◌, Option, None, All}
 use Rattle.std.specs.List.{AllByRecursion}
 use Rattle.std.proofs.Math.Path.{subst⁻¹}
 use Rattle.std.proofs.lemmas.Bool.Decides.{eqb_tells}
 use Rattle.std.proofs.lemmas.List.{append-nil}
 use Rattle.std.proofs.lemmas.List.Elements.{All-append}
 use Rattle.std.proofs.lemmas.List.Sums.{fold-append}
-use Rattle.ring_net.specs.Deeds.{Deed}
 use Rattle.bgp_types.specs.declared.message.Message.{Message}
 use Rattle.bgp_types.specs.declared.message.Message.TheVariants.{OpenMsg, UpdateMsg, NoticeMsg, KeepaliveMsg}
 use Rattle.bgp_types.specs.declared.message.Notice.{Notice}
@@ -22,7 +21,6 @@ use Rattle.bgp_story.specs.Legal.{Peering, IsEarlier, expected_next, is_up, hold
 use Rattle.bgp_story.specs.States.{after, after_got, is_type, with_keepalive_got, state_of}
 use Rattle.session_value.specs.Sessions.{SessionValue, peering_of, state, hold_time}
 use Rattle.session_value.specs.Cases.{GetsFrame, PutsUpdate, PassesRound, put_by}
-use Rattle.session_value.proofs.Gets.{by_closed}
 use Rattle.session_value.proofs.Replies.{confirmed_from}
 use Rattle.session_value.proofs.Ties.{emits_same, takes_same}
 use Rattle.graft_model.specs.Points.{at}
@@ -32,20 +30,15 @@ use Rattle.graft_model.specs.RouterRows.{RouterTaken, RouterSent, IsLive, update
 use Rattle.graft_model.specs.Steps as steps
 use Rattle.graft_model.specs.Steps.{router_row, RouterEvent, Emit, Arrive, Stray, Decide, Tell, Hear, Admit, Refuse, Freeze, Leave, Land, TurnBack, Return, Clear}
 use Rattle.graft_actors.specs.Emissions.{Tally, nothing}
-use Rattle.bgp_session.specs.Running.{RunningSession}
 use Rattle.bgp_session.specs.Steps.{MayPass}
-use Rattle.graft_steps.specs.declared.order.GraftIds.{GraftIds}
 use Rattle.router_core.specs.Parts.{router_part}
-use Rattle.router_core.specs.Places.{place_of, RunsAt}
+use Rattle.router_core.specs.Places.{place_of}
 use Rattle.router_core.specs.Rounds.{router_tally}
 use Rattle.router_core.specs.Turned.{IsNoPut, NoPuts, round_on, rounds_on}
-use Rattle.router_core.specs.declared.fields as router_fields
-use Rattle.world_nodes.specs.Nodes.{Mail}
-use Rattle.real_rounds.specs.Calls.{CallsSay}
-use Rattle.real_rounds.specs.Routers.{RouterGoes, HasLive, Stands, HoldRuns}
+use Rattle.real_rounds.proofs.Calls.{CallsSay}
+use Rattle.real_rounds.specs.Routers.{RouterGoes, HasLive}
 use Rattle.real_rounds.proofs.LegActors.{Ticking}
-use Rattle.real_rounds.proofs.NodeRounds.{RouterPhase}
-use Rattle.real_rounds.proofs.RouterRounds.{RouterAt, MayPassThen, turn_parts, runs_at}
+use Rattle.real_rounds.proofs.RouterRounds.{turn_parts, runs_at}
 use Rattle.real_rounds.proofs.RouterWays.{through_both}
 
 -- ---- what an event does to a session that is live before and after it
@@ -277,7 +270,7 @@ ticking law x c ds ph n at earlier p s u stands starts ends_up room m o m_at =
     let later : All (IsEarlier (n + 1)) s.story = subst (λ (y : SessionValue). All (IsEarlier (n + 1)) y.story) v_is (earlier p v v_order v_at) in
     let live : IsLive (router_part ph.mid) p m.session _ = record { is = ap place_of m_at.is } in
     let unclosed : state m.session ≢ Closed = λ closed. closed_up (state u)
-        (closed_on x.known.setup x.number.0 (router_part ph.mid) (router_part c) (λ p. nothing) ph.turns.tally ph.turns.events parts goes p both.1 m.session u _ stands.last_order live stands.ends closed) ends_up.up in
+    (closed_on x.known.setup x.number.0 (router_part ph.mid) (router_part c) (λ p. nothing) ph.turns.tally ph.turns.events parts goes p both.1 m.session u _ stands.last_order live stands.ends closed) ends_up.up in
     subst⁻¹ (λ (k : ℕ). MayPass m.session k) number
     (may_on x.known.setup x.number.0 (router_part x) (router_part ph.mid) (λ p. nothing) (λ p. nothing) ph.takes.events ph.takes.moments (n + 1) ph.takes.goes ph.takes.no_puts p (ph.takes.no_rounds p) both.0 s m.session stands.first_order _
     stands.starts live unclosed (record { up = starts.up; runs = starts.runs; later = later; room = room }))

@@ -8,9 +8,8 @@ use Rattle.graft_model.specs.Setups.{Setup, IsSetup}
 use Rattle.world_nodes.specs.Ways.{Stand, Begins, Way}
 use Rattle.world_nodes.specs.Fresh.{IsFresh}
 use Rattle.real_rounds.specs.Whole.{RealRounds}
-use Rattle.real_rounds.specs.Calls.{CallsSay, IsLinked}
 
 -- Whatever way a laboratory's net went whose actors had done nothing, all its rounds are real.
 abbrev pub RoundsAreReal : Type 0
-RoundsAreReal = CallsSay → (setup : Setup) (faults : List Fault) (a b : Stand) (made : List ℕ) (journal : List JournalEntry) → IsSetup setup → (begins : Begins setup a) → AllByRecursion (IsFresh setup faults) begins.actors → AllByRecursion IsLinked begins.actors
+RoundsAreReal = (setup : Setup) (faults : List Fault) (a b : Stand) (made : List ℕ) (journal : List JournalEntry) → IsSetup setup → (begins : Begins setup a) → AllByRecursion (IsFresh setup faults) begins.actors
     → Way setup a made b → Interleaves b.view.journal journal → RealRounds setup faults journal b.marks

@@ -3,5 +3,4 @@ pub mod Ends
 pub mod Routers
 pub mod Fars
 pub mod Whole
-pub mod Calls
 pub mod Laws

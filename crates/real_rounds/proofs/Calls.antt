@@ -1,9 +1,8 @@
--- What is used of single calls beside what their contracts say.
+-- What is used of the contracts of single calls.
 use Rattle.std.specs.Prelude.{ℕ, ◌≡◌, ◌⊎◌, List, [], ◌∷◌, length, Option}
 use Rattle.ring_net.specs.Deeds.{Deed}
 use Rattle.graft_steps.specs.declared.item.Item.{Item}
 use Rattle.graft_steps.specs.declared.order.GraftIds.{GraftIds}
-use Rattle.tcp_seq.specs.declared.segment.Way.TheVariants.{Home, Remote}
 use Rattle.bgp_session.specs.Running.{RunningSession}
 use Rattle.bgp_session.specs.Steps.{MayPass}
 use Rattle.graft_actors.specs.Acts.{IsWelcome}
@@ -17,8 +16,6 @@ use Rattle.far_side.specs.Takes as far_takes
 use Rattle.far_side.specs.Turned as far_turns
 use Rattle.far_side.specs.Passes.{SameLink}
 use Rattle.far_side.specs.declared.fields as far_fields
-use Rattle.world_nodes.specs.declared.node.Node.{Node}
-use Rattle.world_nodes.specs.declared.node.Node.TheVariants.{Router, Far, Operator}
 
 -- while a router takes an item, no round passes on a session, and no UPDATE is put
 abbrev pub TakesAreCalm : Type 0
@@ -48,12 +45,11 @@ pub record CallsSay : Type 0 where
   pub links_taking : FarTakesKeepLinks
   pub links_turning : FarTurnsKeepLinks
 
--- the links of a far side are those of its peering, one each way
-pub record HasLinks (fields : far_fields.Fields.Fields) : Type 0 where
-  pub homeward : (fields.homeward.way ≡ Home) × (fields.homeward.peering ≡ fields.peering.0)
-  pub remoteward : (fields.remoteward.way ≡ Remote) × (fields.remoteward.peering ≡ fields.peering.0)
-
-abbrev pub IsLinked : Node → Type 0
-IsLinked (Router router) = Unit {0}
-IsLinked (Far far) = HasLinks far.fields
-IsLinked (Operator operator) = Unit {0}
+pub calls_say : CallsSay
+calls_say = record {
+  takes = λ old new from item deeds took welcome. ((took.rows welcome).no_rounds, (took.rows welcome).no_puts);
+  turns = λ old new deeds turned p s o runs. turned.passes p s o runs;
+  far_takes = λ old new from item deeds took. took.one;
+  links_taking = λ old new from item deeds took. took.link;
+  links_turning = λ old new deeds turned. turned.links;
+}
