@@ -56,6 +56,7 @@ impl Course {
         requires size { length actors ≡ routers + peerings + 1 }
         requires works { AllByRecursion Works actors }
         ensures begins { IfOk result (λ course. (setup : Setup) → HasCounts setup (routers, peerings) → AreFirst own setup actors → Begins setup (stand course)) }
+        ensures actors { IfOk result (λ course. (stand course).view.actors ≡ actors) }
         ensures works { IfOk result AllWork }
         ensures counts { IfOk result (λ course. counts course ≡ (routers, peerings)) }
     {
