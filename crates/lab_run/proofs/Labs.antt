@@ -11,6 +11,8 @@ use Rattle.router_core.specs.Parts.{carried}
 use Rattle.world_runs.specs.Laws.{RunsAreTransparent}
 use Rattle.world_runs.specs.Runs.{RanAs}
 use Rattle.world_nodes.specs.Nodes.{own}
+use Rattle.real_rounds.specs.Laws.{RoundsAreReal}
+use Rattle.real_rounds.specs.Whole.{RealRounds}
 use Rattle.lab_setup.specs.Setups.{setup_of}
 use Rattle.lab_report.specs.declared.lab.RunEnd.{RunEnd}
 use Rattle.lab_report.specs.declared.lab.RunEnd.TheVariants.{Settled}
@@ -19,7 +21,7 @@ use Rattle.lab_run.specs.Ends.{HasMarks}
 use Rattle.lab_run.specs.Stories.{RunGoes}
 use Rattle.lab_run.specs.Runs.{LabsTellOfRuns}
 use Rattle.lab_run.proofs.Stands.{IsWhole}
-use Rattle.lab_run.proofs.Stories.{WayRan, marks_of_run, run_whole, run_ran, settled_quiet}
+use Rattle.lab_run.proofs.Stories.{WayRan, marks_of_run, run_whole, run_ran, settled_quiet, same_marks, same_merge, made_there, way_there}
 
 abbrev pub AlwaysUnchanged : Type 0
 AlwaysUnchanged = (setup : Setup) (events : List Event) → IsSetup setup → Unchanged setup (first_world setup) events
@@ -27,8 +29,8 @@ AlwaysUnchanged = (setup : Setup) (events : List Event) → IsSetup setup → Un
 abbrev pub QuietSolves : Type 0
 QuietSolves = (setup : Setup) (events : List Event) (w : World) → IsSetup setup → Run setup (first_world setup) events w → Quiet setup w → Solves setup w
 
-pub labs_tell : WayRan → RunsAreTransparent → AlwaysUnchanged → QuietSolves → LabsTellOfRuns
-labs_tell way_ran transparent unchanged solves lab a z sound as_many tells = record {
+pub labs_tell : WayRan → RunsAreTransparent → AlwaysUnchanged → QuietSolves → RoundsAreReal → LabsTellOfRuns
+labs_tell way_ran transparent unchanged solves rounds lab a z sound as_many tells = record {
   events = ran.events;
   entries_of = ran.entries_of;
   world = ran.world;
@@ -38,6 +40,7 @@ labs_tell way_ran transparent unchanged solves lab a z sound as_many tells = rec
   unchanged = unchanged (setup_of lab.input) ran.events sound;
   marks = subst (λ (ms : List (List ℕ)). HasMarks (setup_of lab.input) lab.journal (budgets_in lab.input) ms lab.rounds lab.end) (sym tells.marks)
       (marks_of_run way_ran (setup_of lab.input) sound a tells.begins z lab.journal tells.merged (budgets_in lab.input) lab.rounds lab.end as_many tells.goes);
+  real = subst (λ (ms : List (List ℕ)). RealRounds (setup_of lab.input) lab.input.faults lab.journal ms) (sym (same_marks way_ran (setup_of lab.input) sound a tells.begins z lab.journal tells.merged (budgets_in lab.input) lab.rounds lab.end tells.goes) ∙ sym tells.marks) real;
   quiet = quiet;
   solves = λ settled. solves (setup_of lab.input) ran.events ran.world sound ran.run (quiet settled);
 }
@@ -54,3 +57,9 @@ labs_tell way_ran transparent unchanged solves lab a z sound as_many tells = rec
     quiet : lab.end ≡ Settled → Quiet (setup_of lab.input) ran.world
     quiet settled = settled_quiet way_ran (setup_of lab.input) sound a tells.begins z lab.journal tells.merged (budgets_in lab.input) lab.rounds
         (subst (λ (e : RunEnd). RunGoes (setup_of lab.input) a (budgets_in lab.input) lab.rounds e z) settled tells.goes) ran.world ran.seen reached
+
+    real : RealRounds (setup_of lab.input) lab.input.faults lab.journal tells.goes.marked.marks
+    real = rounds (setup_of lab.input) lab.input.faults a tells.goes.marked
+        (made_there way_ran (setup_of lab.input) sound a tells.begins z lab.journal tells.merged (budgets_in lab.input) lab.rounds lab.end tells.goes) lab.journal sound tells.begins tells.fresh
+        (way_there way_ran (setup_of lab.input) sound a tells.begins z lab.journal tells.merged (budgets_in lab.input) lab.rounds lab.end tells.goes)
+        (same_merge way_ran (setup_of lab.input) sound a tells.begins z lab.journal tells.merged (budgets_in lab.input) lab.rounds lab.end tells.goes lab.journal tells.merged)

@@ -260,6 +260,27 @@ module _ (way_ran : WayRan) (setup : Setup) (sound : IsSetup setup) (a : Stand) 
       | inr settled ↦ after_pause run.marked settled.2.pause (marked_ran (pause_on (operator_in setup) run.marked z false settled.2.pause))
     ]
 
+    -- behind the last mark nothing was noted
+    pub same_marks : z.marks ≡ run.marked.marks
+    same_marks = elim run.ends [ inl limit ↦ ap (λ (c : Stand). c.marks) limit.1 | inr settled ↦ settled.2.pause.marks ]
+
+    same_journals : (k : ℕ) → z.view.journal k ≡ run.marked.view.journal k
+    same_journals k = elim run.ends [ inl limit ↦ ap (λ (c : Stand). c.view.journal k) limit.1 | inr settled ↦ nothing_noted run.marked settled.2.pause k ]
+
+    pub same_merge : (merged : List JournalEntry) → Interleaves z.view.journal merged → Interleaves run.marked.view.journal merged
+    same_merge merged inter = record { each = λ k. inter.each k ∙ same_journals k; sorted = inter.sorted }
+
+    marked_on : GoesOnTo run.marked.view z.view
+    marked_on = elim run.ends [ inl limit ↦ limit_on limit.1 | inr settled ↦ pause_on (operator_in setup) run.marked z false settled.2.pause ]
+
+    -- the way to the last mark
+    pub made_there : List ℕ
+    made_there = (last_opens marked_on).rounds ++ (run.group.past + 1) ∷ []
+
+    pub way_there : Way setup a made_there run.marked
+    unfolding made_there
+    way_there = group_way run.past run.begun (last_opens marked_on) run.budget (length run.past + 1) run.last run.verdict run.marked run.group
+
   -- ---- a settled run
 
   pub settled_quiet : (budgets : List Budget) (made : List ℕ) → RunGoes setup a budgets made Settled z → (w : World) → IsSeenAs own carried setup z.view w → Reached setup w → Quiet setup w

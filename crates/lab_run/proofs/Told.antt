@@ -12,7 +12,7 @@ use Rattle.graft_model.specs.Parts.{World}
 use Rattle.world_nodes.specs.declared.node.Node.{Node}
 use Rattle.world_nodes.specs.Edges.{AreEdgesOf}
 use Rattle.world_nodes.specs.Nodes.{Mail}
-use Rattle.world_nodes.specs.Ways.{Stand, Begins}
+use Rattle.world_nodes.specs.Ways.{Stand}
 use Rattle.lab_tables.specs.declared.input.LabInput.{LabInput}
 use Rattle.lab_setup.specs.Setups.{setup_of}
 use Rattle.lab_report.specs.declared.lab.Lab.{Lab}
@@ -26,7 +26,7 @@ use Rattle.node_configs.proofs.Accepted.{is_setup}
 use Rattle.lab_seen.specs.Finished.{IsFinished}
 use Rattle.lab_seen.specs.Seen.{Observed}
 use Rattle.lab_run.specs.Stories.{RunGoes}
-use Rattle.lab_run.specs.Runs.{IsNetOf, LabsTellOfRuns, RanLab}
+use Rattle.lab_run.specs.Runs.{IsNetOf, BeginsFresh, LabsTellOfRuns, RanLab}
 
 -- the merge of a net's journals
 pub merge_of : (z : Stand) (journals : List (List JournalEntry)) (merged : List JournalEntry) → HasJournals z.view journals → Interleaves (λ k. get_or journals k []) merged → Interleaves z.view.journal merged
@@ -51,18 +51,18 @@ finished setup z w actors left edges net actors_are edges_are left_is = record {
 record IsTold (input : LabInput) (lab : Lab) (a z : Stand) : Type 0 where
   setup : IsSetup (setup_of input)
   count : length (budgets_in input) ≡ groups_in (setup_of input)
-  begins : Begins (setup_of input) a
+  begins : BeginsFresh (setup_of input) input.faults a
   goes : RunGoes (setup_of input) a (budgets_in input) lab.rounds lab.end z
   observed : (w : World) → IsNetOf (setup_of input) z w → Observed (setup_of input) w lab
 
 module _ (tell : LabsTellOfRuns) (input : LabInput) (accepted : IsAccepted input) (moves : list_all moves_one input.steps ≡ true) (a z : Stand) (budgets : List Budget) (rounds : List ℕ) (end : RunEnd)
-    (begins : Begins (setup_of input) a) (budgets_are : budgets ≡ budgets_in input) (goes : RunGoes (setup_of input) a budgets rounds end z)
+    (begins : BeginsFresh (setup_of input) input.faults a) (budgets_are : budgets ≡ budgets_in input) (goes : RunGoes (setup_of input) a budgets rounds end z)
     (actors : List Node) (journals : List (List JournalEntry)) (marks : List (List ℕ)) (left : List (Left Mail)) (edges : List (ℕ × ℕ))
     (actors_are : actors ≡ z.view.actors) (journals_are : HasJournals z.view journals) (marks_are : marks ≡ z.marks) (left_is : left ≡ left_of z.view edges) (edges_are : AreEdgesOf (setup_of input) edges) where
   ran_as_told : (lab : Lab) → lab.input ≡ input → lab.end ≡ end → lab.marks ≡ marks → lab.rounds ≡ rounds → Interleaves (λ k. get_or journals k []) lab.journal
       → ((w : World) → IsFinished (setup_of input) w actors left → Observed (setup_of input) w lab) → RanLab lab
   ran_as_told lab input_is end_is marks_is rounds_are merge seen = tell lab a z told.setup told.count
-      (record { begins = told.begins; goes = told.goes; marks = marks_is ∙ marks_are; merged = merge_of z journals lab.journal journals_are merge; observed = told.observed }) where
+      (record { begins = told.begins.begins; fresh = told.begins.fresh; goes = told.goes; marks = marks_is ∙ marks_are; merged = merge_of z journals lab.journal journals_are merge; observed = told.observed }) where
         here : IsTold input lab a z
         here = record {
           setup = is_setup input accepted;

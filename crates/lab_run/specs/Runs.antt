@@ -1,5 +1,7 @@
 -- What a lab says of its run.
 use Rattle.std.specs.Prelude.{ℕ, ◌≡◌, List, length}
+use Rattle.std.specs.List.{AllByRecursion}
+use Rattle.link_bag.specs.declared.plan.Fault.{Fault}
 use Rattle.journal_merge.specs.Merges.{Interleaves}
 use Rattle.graft_model.specs.Setups.{Setup, IsSetup, groups_in}
 use Rattle.graft_model.specs.Parts.{World}
@@ -11,8 +13,10 @@ use Rattle.graft_runs.specs.Laws.{AreEntriesOf}
 use Rattle.world_runs.specs.Labs.{actors_in}
 use Rattle.world_runs.specs.Runs.{TransparentThroughout}
 use Rattle.world_nodes.specs.Edges.{has_channel}
+use Rattle.world_nodes.specs.Fresh.{IsFresh}
 use Rattle.world_nodes.specs.Looks.{IsWorldAt}
 use Rattle.world_nodes.specs.Ways.{Stand, Begins}
+use Rattle.real_rounds.specs.Whole.{RealRounds}
 use Rattle.lab_setup.specs.Setups.{setup_of}
 use Rattle.lab_report.specs.declared.lab.Lab.{Lab}
 use Rattle.lab_report.specs.declared.lab.RunEnd.TheVariants.{Settled}
@@ -22,7 +26,8 @@ use Rattle.lab_run.specs.Ends.{HasMarks}
 use Rattle.lab_run.specs.Stories.{RunGoes}
 
 -- The journal is that of a run of the input's laboratory from its first world, and the lab is what is seen of the world that the run leads to. At every moment of the run each
--- peering is transparent, and a refused graft returned its session unchanged. The marks say how the run went on and how it ended. Where it is settled, nothing is left to do in the last world, and
+-- peering is transparent, and a refused graft returned its session unchanged. The marks say how the run went on and how it ended, and between any two of them each actor did
+-- what a round asks of it. Where it is settled, nothing is left to do in the last world, and
 -- the tables solve the decision equations (RFC 4271, section 9.1) for the placement after the accepted grafts.
 pub record RanLab (lab : Lab) : Type 0 where
   pub events : List Event
@@ -33,10 +38,16 @@ pub record RanLab (lab : Lab) : Type 0 where
   pub transparent : TransparentThroughout (setup_of lab.input) events
   pub unchanged : Unchanged (setup_of lab.input) (first_world (setup_of lab.input)) events
   pub marks : HasMarks (setup_of lab.input) lab.journal (budgets_in lab.input) lab.marks lab.rounds lab.end
+  pub real : RealRounds (setup_of lab.input) lab.input.faults lab.journal lab.marks
   pub quiet : lab.end ≡ Settled → Quiet (setup_of lab.input) world
   pub solves : lab.end ≡ Settled → Solves (setup_of lab.input) world
 
 -- ---- why
+
+-- the net stands at its beginning, with actors that have done nothing and a plan of these faults
+pub record BeginsFresh (setup : Setup) (faults : List Fault) (a : Stand) : Type 0 where
+  pub begins : Begins setup a
+  pub fresh : AllByRecursion (IsFresh setup faults) begins.actors
 
 -- the net stands at this world of a run, with all actors and channels of the laboratory
 pub record IsNetOf (setup : Setup) (z : Stand) (w : World) : Type 0 where
@@ -47,6 +58,7 @@ pub record IsNetOf (setup : Setup) (z : Stand) (w : World) : Type 0 where
 -- The net of an input's laboratory went from its beginning to its end, and the lab tells of that end.
 pub record TellsOf (lab : Lab) (a z : Stand) : Type 0 where
   pub begins : Begins (setup_of lab.input) a
+  pub fresh : AllByRecursion (IsFresh (setup_of lab.input) lab.input.faults) begins.actors
   pub goes : RunGoes (setup_of lab.input) a (budgets_in lab.input) lab.rounds lab.end z
   pub marks : lab.marks ≡ z.marks
   pub merged : Interleaves z.view.journal lab.journal

@@ -4,11 +4,10 @@ ghost use Rattle.std.specs.Prelude.{◌≡◌, ◌≤◌, true, IfOk};
 ghost use Rattle.std.specs.List.{list_all};
 ghost use Rattle.world_nodes.specs.Courses.{stand, counts, AllWork};
 ghost use Rattle.world_nodes.specs.Edges.{HasCounts};
-ghost use Rattle.world_nodes.specs.Ways.{Begins};
 ghost use Rattle.lab_setup.specs.Setups.{setup_of};
 ghost use Rattle.lab_budgets.specs.Budgets.{moves_one};
 ghost use Rattle.node_configs.specs.Accepted.{IsAccepted};
-ghost use Rattle.lab_run.specs.Runs.{RanLab};
+ghost use Rattle.lab_run.specs.Runs.{BeginsFresh, RanLab};
 
 use crate::laws::labs_tell_of_runs;
 use crate::run::run_groups;
@@ -25,7 +24,7 @@ use world_nodes::Course;
 /// The net of the laboratory that an input describes, at its beginning.
 fn begin(alloc: Global, input: &LabInput) -> Result<Course, NoMemory>
     requires { IsAccepted input.now }
-    ensures begins { IfOk result (λ course. Begins (setup_of input.now) (stand course)) }
+    ensures begins { IfOk result (λ course. BeginsFresh (setup_of input.now) input.now.faults (stand course)) }
     ensures works { IfOk result AllWork }
     ensures counts { IfOk result (λ course. HasCounts (setup_of input.now) (counts course)) }
 {

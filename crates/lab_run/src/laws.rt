@@ -3,6 +3,7 @@
 ghost use Rattle.lab_run.specs.Runs.{LabsTellOfRuns};
 
 use graft_laws::{always_unchanged, quiet_solves};
+use real_rounds::rounds_are_real;
 use world_nodes::the_way_is_a_run;
 use world_runs::runs_are_transparent;
 
@@ -15,4 +16,5 @@ pub(crate) fn labs_tell_of_runs()
     runs_are_transparent();
     always_unchanged();
     quiet_solves();
+    rounds_are_real();
 }
