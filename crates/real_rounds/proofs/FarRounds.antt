@@ -1,6 +1,6 @@
 -- Takes of a far side, one after another, and then its turn are a real round.
 use Rattle.std.proofs.Common.{◌≡◌, ◌≤◌, ◌<◌, ◌+◌, ◌∙◌, ℕ, zero, suc, Bool, true, false, List, [], ◌∷◌, ◌++◌, length, nat_lt, if◌then◌else◌, refl, ap, sym, subst, inl, inr, arith}
-use Rattle.std.specs.Prelude.{◌⊎◌, ◌%◌, ◌^◌, Some, option_map, slice_get, filter}
+use Rattle.std.specs.Prelude.{◌%◌, ◌^◌, Some, option_map, slice_get, filter}
 use Rattle.std.specs.List.{AllByRecursion}
 use Rattle.std.proofs.Math.Path.{subst⁻¹}
 use Rattle.std.proofs.lemmas.Bool.{lt-ltb, le-ltb}
