@@ -1,5 +1,5 @@
 -- What a lab tells of the end of its net.
-use Rattle.std.proofs.Common.{◌≡◌, ℕ, List, sym, subst}
+use Rattle.std.proofs.Common.{◌≡◌, ℕ, List, sym, subst, ◌∙◌}
 use Rattle.graft_model.specs.Setups.{Setup, IsSetup}
 use Rattle.graft_model.specs.Parts.{World}
 use Rattle.graft_model.specs.First.{first_world}
