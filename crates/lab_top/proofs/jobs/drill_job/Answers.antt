@@ -1,7 +1,7 @@
 use Rattle.std.proofs.Common.{subst, ◌∙◌}
 use Rattle.std.specs.Prelude.{Ok}
 use Rattle.lab_top.specs.Cases.{BuiltOr}
-use Rattle.lab_top.proofs.Parts.{accepted_by, drill_stopped, drill_unbuilt, summary_ends}
+use Rattle.lab_top.proofs.Parts.{drill_stopped, drill_unbuilt, summary_ends}
 use Rattle.lab_top.proofs.jobs.drill_job.Goals as goal
 
 pub returns-in-Err : goal.returns-in-Err
@@ -20,6 +20,3 @@ returns g c words left faults ask =
     let built = subst (λ found. BuiltOr c.in-Ok.input (Ok found)) c.in-None.is c.in_ok-lab.ensures in
     let made = c.deref.ensures ∙ c.in_ok-bytes.ensures in
     drill_unbuilt words _ _ c.args.seed c.deref.result.now c.in-Ok.input c.end_unbuilt.result ask made c.in-Ok.ensures built c.end_unbuilt.ensures
-
-pub run_built-requires-clause-accepted : goal.run_built-requires-clause-accepted
-run_built-requires-clause-accepted g c κs within = accepted_by c.deref.result.now c.in-Ok.input c.in-Ok.ensures

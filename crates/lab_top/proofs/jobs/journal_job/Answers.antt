@@ -3,7 +3,7 @@ use Rattle.std.specs.Prelude.{Ok, Err}
 use Rattle.lab_input.specs.Labs.{input_of}
 use Rattle.lab_report.specs.Journals.{journal_text}
 use Rattle.lab_top.specs.Cases.{AnswersOrStops, BuiltOr}
-use Rattle.lab_top.proofs.Parts.{accepted_by, stopped_ends, stops_of, reads_of, unbuilt_ends, journal_ends}
+use Rattle.lab_top.proofs.Parts.{stopped_ends, stops_of, reads_of, unbuilt_ends, journal_ends}
 use Rattle.lab_top.proofs.jobs.journal_job.Goals as goal
 
 pub returns-in-Err : goal.returns-in-Err
@@ -28,6 +28,3 @@ returns g c words ask =
     let is = ap input_of (sym c.deref.ensures) ∙ c.in-Ok-input_in.ensures in
     let built = subst (λ found. BuiltOr c.in-Ok-input_in.input (Ok found)) c.in-None.is c.in_ok-lab.ensures in
     unbuilt_ends words _ _ c.in-Ok-input_in.input c.end_unbuilt.result (inr ask) (reads_of _ _ _ _ c.in-Ok.ensures is) built c.end_unbuilt.ensures
-
-pub run_built-requires-clause-accepted : goal.run_built-requires-clause-accepted
-run_built-requires-clause-accepted g c κs within = accepted_by c.deref.result.now c.in-Ok-input_in.input c.in-Ok-input_in.ensures

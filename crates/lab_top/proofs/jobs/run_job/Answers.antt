@@ -1,7 +1,7 @@
 use Rattle.std.proofs.Common.{inl, subst, ◌∙◌}
 use Rattle.std.specs.Prelude.{Ok}
 use Rattle.lab_top.specs.Cases.{BuiltOr}
-use Rattle.lab_top.proofs.Parts.{accepted_of, stopped_ends, unbuilt_ends, report_ends}
+use Rattle.lab_top.proofs.Parts.{stopped_ends, unbuilt_ends, report_ends}
 use Rattle.lab_top.proofs.jobs.run_job.Goals as goal
 
 pub returns-in-Err : goal.returns-in-Err
@@ -16,6 +16,3 @@ pub returns-in-None : goal.returns-in-None
 returns-in-None g c words run =
     let built = subst (λ found. BuiltOr c.in-Ok.input (Ok found)) c.in-None.is c.in_ok-lab.ensures in
     unbuilt_ends words _ _ c.in-Ok.input c.end_unbuilt.result (inl run) c.in-Ok.ensures built c.end_unbuilt.ensures
-
-pub run_built-requires-clause-accepted : goal.run_built-requires-clause-accepted
-run_built-requires-clause-accepted g c κs within = accepted_of _ _ c.in-Ok.input c.in-Ok.ensures
