@@ -38,7 +38,7 @@ pub passed : (words : List (List ℕ)) (job : Job) (test : ℕ → Bool) → tes
 passed words job test is ask = ap test (asked words job ask) ∙ is
 
 pub against : (words : List (List ℕ)) (job : Job) (test : ℕ → Bool) → test (letter job) ≡ false → Asks words job → test (letter_in words) ≡ true → ⊥
-against words job test no ask is = false≢true (sym no ∙ ap test (sym (asked words job ask)) ∙ is)
+against words job test fails ask is = false≢true (sym fails ∙ ap test (sym (asked words job ask)) ∙ is)
 
 abbrev pub is_report : ℕ → Bool
 is_report n = n == 114

@@ -21,6 +21,7 @@ use Rattle.lab_top.specs.Ends.{AreRefused, AskToRun, AskForJournal, RunsSource, 
 use Rattle.lab_top.specs.declared.finish.InputStop.{InputStop}
 use Rattle.lab_top.specs.declared.finish.InputStop.TheVariants as stops
 use Rattle.lab_top.specs.Cases.{Outside, TookAll, Stops, Shows, shows_report, shows_journal, shows_summary, Cause, usage, makes, checks, refuses, drops, runs, Ended, wrote, unread, no_memory}
+use Rattle.lab_top.proofs.Parts.{writes_as}
 use Rattle.lab_top.proofs.Asking.{letter_in, passed, against, is_report, is_journal, is_drill, is_check, is_make, is_lab, lab_passes, source_against, lab_against, none_run, one_seed, one_drill}
 
 -- ---- bytes
@@ -44,10 +45,6 @@ took_input before after input read = took_by before after read.bytes input read.
 
 abbrev Wrote : List ℕ → ℕ → Outside → Outside → ℕ → Type 0
 Wrote text planned o n status = Writes text planned o.write_faults n.write_faults o.written n.written status
-
-retold : (text told : List ℕ) (planned meant : ℕ) (o n : Outside) (status : ℕ) → text ≡ told → planned ≡ meant → Wrote text planned o n status → Wrote told meant o n status
-retold text told planned meant o n status same also w =
-    subst (λ t. Wrote t meant o n status) same (subst (λ k. Wrote text k o n status) also w)
 
 -- the statuses under which a text is written whole
 abbrev Planned : ℕ → Type 0
@@ -138,7 +135,7 @@ none_read words none (inr check) = none Check check
 pub usage_told : (words : List (List ℕ)) (o n : Outside) (status : ℕ) (lab : Option Lab) → Ended words o n status lab → AreRefused words → (status ≡ 6) ⊎ Wrote usage_text 1 o n status
 usage_told words o n status lab (wrote text planned cause w) none =
     let told = told_usage words o.left n.left text planned lab none cause in
-    inr (retold text usage_text planned 1 o n status told.0 told.1 w)
+    inr (writes_as text usage_text planned 1 o.write_faults n.write_faults o.written n.written status told.0 told.1 w)
 usage_told words o n status lab (unread ask four rose same l) none = absurd (none_read words none ask)
 usage_told words o n status lab (no_memory six same l) none = inl six
 
@@ -176,7 +173,7 @@ make_reads words seed make (inr check) = against words Check is_make refl check 
 pub made_told : (words : List (List ℕ)) (o n : Outside) (status : ℕ) (lab : Option Lab) → Ended words o n status lab → (seed : ℕ) → Asks words (Make seed) → (status ≡ 6) ⊎ Wrote (made seed) 0 o n status
 made_told words o n status lab (wrote text planned cause w) seed make =
     let told = told_made words o.left n.left text planned lab seed make cause in
-    inr (retold text (made seed) planned 0 o n status told.0 told.1 w)
+    inr (writes_as text (made seed) planned 0 o.write_faults n.write_faults o.written n.written status told.0 told.1 w)
 made_told words o n status lab (unread ask four rose same l) seed make = absurd (make_reads words seed make ask)
 made_told words o n status lab (no_memory six same l) seed make = inl six
 
@@ -198,7 +195,7 @@ pub checked_told : (words : List (List ℕ)) (o n : Outside) (status : ℕ) (lab
     → (status ≡ 4) ⊎ (status ≡ 6) ⊎ Checks o.left n.left o.write_faults n.write_faults o.written n.written status
 checked_told words o n status lab (wrote text planned cause w) check =
     let told = told_verdict words o.left n.left text planned lab check cause in
-    inr (inr (record { answer = told.0; read = told.1; wrote = retold text (verdict_text told.0) planned (verdict_status told.0) o n status told.2 told.3 w }))
+    inr (inr (record { answer = told.0; read = told.1; wrote = writes_as text (verdict_text told.0) planned (verdict_status told.0) o.write_faults n.write_faults o.written n.written status told.2 told.3 w }))
 checked_told words o n status lab (unread ask four rose same l) check = inl four
 checked_told words o n status lab (no_memory six same l) check = inr (inl six)
 
@@ -347,12 +344,12 @@ report_by words left rest end text (shows_summary seed drill is t) ask = absurd 
 pub reported : (words : List (List ℕ)) (o n : Outside) (status : ℕ) (lab : Option Lab) → Ended words o n status lab
     → IfSome lab (λ end. AskToRun words → Wrote (report_text end) (end_status end.end) o n status)
 reported words o n status None ended = tt
-reported words o n status (Some end) ended ask =
+reported words o n status (Some end) ended = λ ask.
     let c = came words o n status (Some end) end refl ended in
     subst (λ t. Wrote t (end_status end.end) o n status) (report_by words o.left n.left end c.text c.shows ask) c.wrote
 
 drill_against : (words : List (List ℕ)) → ((seed : ℕ) × AskToDrill words seed) → (test : ℕ → Bool) → test 100 ≡ false → test (letter_in words) ≡ true → ⊥
-drill_against words drill test no is = against words (Drill drill.0 drill.1.0) test no drill.1.1 is
+drill_against words drill test fails is = against words (Drill drill.0 drill.1.0) test fails drill.1.1 is
 
 summary_by : (words : List (List ℕ)) (left rest : Option (List ℕ)) (end : Lab) (text : List ℕ) → Shows words left rest end text → ((seed : ℕ) × AskToDrill words seed) → text ≡ summary_text end
 summary_by words left rest end text (shows_report run read t) ask = absurd (drill_against words ask is_report refl (passed words (Run run.0) is_report refl run.1))
@@ -362,7 +359,7 @@ summary_by words left rest end text (shows_summary seed drill is t) ask = t
 pub summed : (words : List (List ℕ)) (o n : Outside) (status : ℕ) (lab : Option Lab) → Ended words o n status lab
     → IfSome lab (λ end. ((seed : ℕ) × AskToDrill words seed) → Wrote (summary_text end) (end_status end.end) o n status)
 summed words o n status None ended = tt
-summed words o n status (Some end) ended ask =
+summed words o n status (Some end) ended = λ ask.
     let c = came words o n status (Some end) end refl ended in
     subst (λ t. Wrote t (end_status end.end) o n status) (summary_by words o.left n.left end c.text c.shows ask) c.wrote
 
@@ -376,7 +373,7 @@ journal_by words o n status end text (shows_summary seed drill is t) ask w = abs
 pub journaled : (words : List (List ℕ)) (o n : Outside) (status : ℕ) (lab : Option Lab) → Ended words o n status lab
     → IfSome lab (λ end. AskForJournal words → WritesJournal o.left n.left end o.write_faults n.write_faults o.written n.written status)
 journaled words o n status None ended = tt
-journaled words o n status (Some end) ended ask =
+journaled words o n status (Some end) ended = λ ask.
     let c = came words o n status (Some end) end refl ended in
     journal_by words o n status end c.text c.shows ask c.wrote
 

@@ -64,11 +64,6 @@ stops_of before after faults_before faults_after bytes (stops.Bad bad) took is =
 stops_of before after faults_before faults_after bytes stops.Failed took is = absurd is
 stops_of before after faults_before faults_after bytes stops.NoMemory took is = tt
 
-pub reads_or_stops : (before after : Option (List ℕ)) (faults_before faults_after : ℕ) (bytes : List ℕ) (result : Result LabInput InputStop) → TookAll before after bytes
-    → AnswersOrStops (input_of bytes) result → ReadsOrStops before after faults_before faults_after result
-reads_or_stops before after faults_before faults_after bytes (Ok input) took is = reads_of before after bytes (Ok input) took is
-reads_or_stops before after faults_before faults_after bytes (Err stop) took is = stops_of before after faults_before faults_after bytes stop took is
-
 -- ---- a source with an input
 
 pub writes_as : (text told : List ℕ) (planned meant faults_before faults_after : ℕ) (before after : Option (List ℕ)) (status : ℕ) → text ≡ told → planned ≡ meant
@@ -79,21 +74,6 @@ writes_as text told planned meant faults_before faults_after before after status
 pub checked_ends : (words : List (List ℕ)) (o n : Outside) (input : LabInput) (text : List ℕ) (status : ℕ) (lab : Option Lab) → Asks words Check → Reads o.left n.left (Ok input)
     → text ≡ check_line input → lab ≡ None → Writes text 0 o.write_faults n.write_faults o.written n.written status → Ended words o n status lab
 checked_ends words o n input text status lab check read is none w = wrote text 0 (checks (Ok input) check read is refl none) w
-
-pub accepted_of : (before after : Option (List ℕ)) (input : LabInput) → Reads before after (Ok input) → IsAccepted input
-accepted_of before after input read = record { bytes = read.bytes; is = read.is }
-
-pub accepted_by : (bytes : List ℕ) (input : LabInput) → InputOf bytes input → IsAccepted input
-accepted_by bytes input is = record { bytes = bytes; is = is }
-
-both_right : (a b : Bool) → (a && b) ≡ true → b ≡ true
-both_right true b e = e
-both_right false b e = absurd (false≢true e)
-
-pub moves_of : (input : LabInput) → is_built input ≡ true → list_all moves_one input.steps ≡ true
-moves_of input built =
-    let traces = length input.trace == 0 in
-    both_right (traces && list_all takes_capsules input.routers) (list_all moves_one input.steps) built
 
 -- ---- runs of what was read
 

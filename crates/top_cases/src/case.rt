@@ -37,6 +37,12 @@ impl<'a> Case<'a> {
         self.words.ends_with(" *")
     }
 
+    /// Whether what is seen of its run is told beside the text. It isn't of a drill or of a run by some counts of workers, where
+    /// it depends on the order of their turns.
+    pub fn shows_run(&self) -> bool {
+        !self.is_by_each() && !self.words.contains(" drill ")
+    }
+
     /// Of how many blanks the input is, where it is no file.
     pub fn blanks(&self) -> Option<u32> {
         let number = self.input.strip_suffix(" blanks")?;

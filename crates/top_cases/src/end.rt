@@ -39,14 +39,14 @@ fn written_text(alloc: Global, written: &[u8]) -> Result<String, NoMemory> {
     Ok(text)
 }
 
-/// Adds what is seen of a run, if it is one whose turns come in one order, and whether each turn passed the gate.
+/// Adds what is seen of a run, where it is shown, and whether each turn passed the gate.
 fn push_run(
     text: &mut String,
     lab: &Lab,
     gate: &CountingGate,
-    is_one: bool,
+    is_shown: bool,
 ) -> Result<(), NoMemory> {
-    if is_one {
+    if is_shown {
         push_seen(text, lab)?;
     }
     write!(text, "\ngate: {}", gate.verdict(lab))?;
@@ -59,12 +59,12 @@ fn told(
     finish: &Finish,
     written: &[u8],
     gate: &CountingGate,
-    is_one: bool,
+    is_shown: bool,
 ) -> Result<String, NoMemory> {
     let mut text = written_text(alloc, written)?;
     write!(text, "status {}, {} bytes", finish.status, written.len())?;
     match &finish.lab {
-        Some(lab) => push_run(&mut text, lab, gate, is_one)?,
+        Some(lab) => push_run(&mut text, lab, gate, is_shown)?,
         None => {}
     }
     Ok(text)
@@ -83,5 +83,5 @@ pub fn end_of<R: Threads + Sync + AllocGlobal>(
     let mut sink = MemSink::new(alloc, 4096, 16, &[case.write_fails])?;
     let gate = CountingGate::new();
     let finish = finish_of(rt, &words, &mut source, &mut sink, &gate);
-    told(alloc, &finish, sink.written(), &gate, !case.is_by_each())
+    told(alloc, &finish, sink.written(), &gate, case.shows_run())
 }

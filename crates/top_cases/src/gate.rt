@@ -2,31 +2,19 @@
 
 use graft_edge::Gate;
 use lab_report::Lab;
+use std::array;
 use std::sync::atomic::{AtomicU64, Ordering};
 
-/// Counts how often each actor passes, of up to twelve.
+/// Counts how often each actor passes, of up to as many as a drill has: four routers, twelve far sides and the operator.
 #[derive(Drop)]
 pub struct CountingGate {
-    passes: [AtomicU64; 12],
+    passes: [AtomicU64; 17],
 }
 
 impl CountingGate {
     pub fn new() -> CountingGate {
         CountingGate {
-            passes: [
-                AtomicU64::new(0),
-                AtomicU64::new(0),
-                AtomicU64::new(0),
-                AtomicU64::new(0),
-                AtomicU64::new(0),
-                AtomicU64::new(0),
-                AtomicU64::new(0),
-                AtomicU64::new(0),
-                AtomicU64::new(0),
-                AtomicU64::new(0),
-                AtomicU64::new(0),
-                AtomicU64::new(0),
-            ],
+            passes: array::from_fn(|_| AtomicU64::new(0)),
         }
     }
 
