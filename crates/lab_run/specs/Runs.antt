@@ -26,7 +26,7 @@ use Rattle.lab_run.specs.Ends.{HasMarks}
 use Rattle.lab_run.specs.Stories.{RunGoes}
 
 -- The journal is that of a run of the input's laboratory from its first world, and the lab is what is seen of the world that the run leads to. At every moment of the run each
--- peering is transparent, and a refused graft returned its session unchanged. The marks say how the run went on and how it ended, and between any two of them each actor did
+-- peering is transparent, and a refused graft returned its session unchanged. The marks say how the run went on and how it ended, and from each mark to the next one each actor did
 -- what a round asks of it. Where it is settled, nothing is left to do in the last world, and
 -- the tables solve the decision equations (RFC 4271, section 9.1) for the placement after the accepted grafts.
 pub record RanLab (lab : Lab) : Type 0 where

@@ -211,6 +211,7 @@ module _ (pass : TurnsPassOne) (a b c : Fields) (ds es : List (Deed Mail)) (took
     few = λ p. record { again = (turned.few p).0; answers = (turned.few p).1 };
     sends = stood;
     numbered = numbered;
+    calm = (took.no_rounds, took.no_puts);
     order = turned.in_order;
     ticks = ticks may;
   }

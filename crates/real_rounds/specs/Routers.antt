@@ -12,7 +12,7 @@ use Rattle.graft_actors.specs.Emissions.{Tally, nothing}
 use Rattle.operator_core.specs.Turns.{NothingToOrder}
 use Rattle.router_core.specs.Rested.{RestedRouter}
 use Rattle.router_core.specs.Rounds.{CarefulRouter, router_tally}
-use Rattle.router_core.specs.Turned.{TicksFirst, rounds_on}
+use Rattle.router_core.specs.Turned.{TicksFirst, NoRounds, NoPuts, rounds_on}
 use Rattle.real_rounds.specs.Ends.{IsFew, GoesOn}
 
 -- The events lead from one part to another through these, one behind each event, each by its row; each segment that is emitted is an old slice, a new one or an owed answer; each UPDATE that is put
@@ -55,6 +55,7 @@ pub record RealRouter (setup : Setup) (r round : ℕ) (start : RouterPart) (even
   -- a round that passes on a session has the number of this one; it passes before anything is put; and it passes once where a hold time runs throughout and
   -- the stream had room for what is answered
   pub numbered : (p : ℕ) → AllByRecursion (λ n. n ≡ round) (rounds_on p events)
+  pub calm : NoRounds taken × NoPuts taken
   pub order : TicksFirst turn
   pub ticks : (p : ℕ) (s u : SessionValue) → Stands p start moments end s u → HoldRuns s → HoldRuns u → length s.end.stream ≤ 1044461 → rounds_on p events ≡ round ∷ []
 

@@ -9,7 +9,7 @@ use world_runs::{an_act_is_a_step, worlds_are_on_the_way};
 
 /// Between any two adjacent marks of a laboratory's net each router, each far side and the operator do what is asked of a round: each takes what comes, a router decides, tells and puts all that it
 /// may, each endpoint sends again at most once and answers what it owes, the links deliver by the plan of faults, each step that may be ordered is, and each channel of at most 256 items is emptied in
-/// two rounds. What is used of single calls beside their contracts is a premise (`CallsSay`), and so is that the links of each far side begin as those of its peering (`IsLinked`).
+/// two rounds. The net is one whose actors have done nothing when it begins.
 pub fn rounds_are_real()
     ensures { RoundsAreReal }
 {

@@ -87,6 +87,8 @@ module _ (f : Fields) (a b : Post (Item RunningSession)) (from k : ℕ) (s : Run
         still = λ t. refl;
       })
       (λ t. did_same f f b t (same_router f) refl)
+      (λ k. refl)
+      (tt, tt)
       (all_stay f f refl)
       refl
       keeps
