@@ -1,12 +1,12 @@
 -- Words ask for one job, and the numbers that they name are small.
 use Rattle.std.proofs.Common.{◌≡◌, ℕ, ◌≤◌, Bool, true, false, ◌==◌, ◌||◌, List, [], ◌∷◌, length, inl, inr, refl, ap, sym, ◌∙◌, arith}
-use Rattle.std.specs.Prelude.{◌⊎◌, Option, Some, None}
+use Rattle.std.specs.Prelude.{Option, Some, None}
 use Rattle.std.specs.Str.Parse.{AllDigits, digits_value}
 use Rattle.std.proofs.lemmas.Bool.{false≢true}
 use Rattle.lab_words.specs.declared.job.Job.{Job}
 use Rattle.lab_words.specs.declared.job.Job.TheVariants.{Run, Check, Make, Drill, Journal}
 use Rattle.lab_words.specs.Asked.{line_of, rows_read, given_in, IsSeed, AreWorkers, Asks}
-use Rattle.lab_top.specs.Ends.{AreRefused, AskToRun, AskForJournal, RunsSource, AskToDrill, AskForLab}
+use Rattle.lab_top.specs.Ends.{AreRefused, RunsSource, AskToDrill, AskForLab}
 
 -- ---- one job
 

@@ -13,14 +13,13 @@ use Rattle.lab_make.specs.Made.{made}
 use Rattle.lab_report.specs.declared.lab.Lab.{Lab}
 use Rattle.lab_report.specs.declared.lab.RunEnd.{RunEnd}
 use Rattle.lab_report.specs.declared.lab.RunEnd.TheVariants.{Settled, Unsettled, StreamFull, JournalFull}
-use Rattle.lab_report.specs.Journals.{journal_text}
 use Rattle.lab_report.specs.Report.{report_text}
 use Rattle.lab_report.specs.Summary.{summary_text}
 use Rattle.lab_run.specs.Runs.{RanLab}
 use Rattle.lab_top.specs.Ends.{AreRefused, AskToRun, AskForJournal, RunsSource, AskToDrill, AskForLab, AskToMake, Reads, TookInput, GaveBadInput, IsStatus, Writes, WritesJournal, Checks, end_status, verdict_text, verdict_status}
 use Rattle.lab_top.specs.declared.finish.InputStop.{InputStop}
 use Rattle.lab_top.specs.declared.finish.InputStop.TheVariants as stops
-use Rattle.lab_top.specs.Cases.{Outside, TookAll, Stops, Shows, shows_report, shows_journal, shows_summary, Cause, usage, makes, checks, refuses, drops, runs, Ended, wrote, unread, no_memory}
+use Rattle.lab_top.specs.Cases.{Outside, Stops, Shows, shows_report, shows_journal, shows_summary, Cause, usage, makes, checks, refuses, drops, runs, Ended, wrote, unread, no_memory}
 use Rattle.lab_top.proofs.Parts.{writes_as}
 use Rattle.lab_top.proofs.Asking.{letter_in, passed, against, is_report, is_journal, is_drill, is_check, is_make, is_lab, lab_passes, source_against, lab_against, none_run, one_seed, one_drill}
 

@@ -1,8 +1,6 @@
 -- How a job ends, of what its parts give.
-use Rattle.std.proofs.Common.{◌≡◌, ℕ, Bool, true, false, ◌==◌, ◌&&◌, List, length, inl, inr, refl, sym, ap, ◌∙◌, subst}
+use Rattle.std.proofs.Common.{◌≡◌, ℕ, false, List, inl, inr, refl, sym, ap, ◌∙◌, subst}
 use Rattle.std.specs.Prelude.{◌⊎◌, Option, Some, None, Result, Ok, Err}
-use Rattle.std.specs.List.{list_all}
-use Rattle.std.proofs.lemmas.Bool.{false≢true}
 use Rattle.graft_edge.specs.Outside.{FaultRose}
 use Rattle.graft_edge.specs.declared.memory.NoMemory.{NoMemory}
 use Rattle.lab_tables.specs.declared.input.LabInput.{LabInput}
@@ -17,14 +15,12 @@ use Rattle.lab_report.specs.declared.lab.Lab.{Lab}
 use Rattle.lab_report.specs.Journals.{journal_text}
 use Rattle.lab_report.specs.Report.{report_text}
 use Rattle.lab_report.specs.Summary.{summary_text}
-use Rattle.lab_budgets.specs.Budgets.{moves_one}
-use Rattle.node_configs.specs.Accepted.{IsAccepted}
-use Rattle.lab_top.specs.Built.{takes_capsules, is_built}
+use Rattle.lab_top.specs.Built.{is_built}
 use Rattle.lab_top.specs.Ends.{AskToRun, AskForJournal, RunsSource, AskToDrill, Reads, SaysWhy, Writes, end_status, not_built_text}
 use Rattle.lab_top.specs.declared.finish.Finish.{Finish}
 use Rattle.lab_top.specs.declared.finish.InputStop.{InputStop}
 use Rattle.lab_top.specs.declared.finish.InputStop.TheVariants as stops
-use Rattle.lab_top.specs.Cases.{Outside, TookAll, Stops, ReadsOrStops, AnswersOrStops, WritesOr, FailsUnread, FindsNone, BuiltOr, EndsRun, EndsUnbuilt, StopsFor, shows_report, shows_journal, shows_summary, makes, checks, refuses, drops, runs, Ended, wrote, unread, EndsOr}
+use Rattle.lab_top.specs.Cases.{Outside, TookAll, Stops, AnswersOrStops, WritesOr, FailsUnread, FindsNone, BuiltOr, EndsRun, EndsUnbuilt, StopsFor, shows_report, shows_journal, shows_summary, makes, checks, refuses, drops, runs, Ended, wrote, unread, EndsOr}
 
 -- jobs that read the source
 abbrev AskToRead : List (List ℕ) → Type 0
