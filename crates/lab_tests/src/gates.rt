@@ -5,6 +5,7 @@
 use crate::labs::run;
 use graft_edge::Gate;
 use lab_report::{Lab, RunEnd};
+use std::hint::spin_loop;
 use std::sync::atomic::{AtomicU64, Ordering};
 use std::test::Fail;
 
@@ -44,10 +45,11 @@ const ARRIVE: u16 = 3;
 
 const TAKE: u16 = 19;
 
-/// How often a gate looks whether it may open.
+/// How often a gate looks whether it may open: for some seconds, so that a thread that waits for a processor is waited for.
 const MOST_LOOKS: u32 = 100_000_000;
 
-/// Holds passes of one actor: its pass number n, from 1, waits until those of two others are n together.
+/// Holds passes of one actor: its pass number n, from 1, waits until those of two others are n together. Once it has waited in vain, it
+/// holds nobody any more.
 #[derive(Drop)]
 struct Hold {
     held: usize,
@@ -77,6 +79,7 @@ impl Hold {
             if self.other_passes.load(Ordering::SeqCst) >= times {
                 return;
             }
+            spin_loop();
         }
         self.missed.fetch_add(1, Ordering::SeqCst);
     }
@@ -94,7 +97,7 @@ impl Gate for Hold {
         }
         if actor == self.held {
             let before = self.held_passes.fetch_add(1, Ordering::SeqCst);
-            if before < self.times {
+            if before < self.times && self.has_opened() {
                 self.wait(before + 1);
             }
         }
