@@ -279,7 +279,7 @@ class Counts:
     def tell(self, count):
         for name, counts in (("what is said", self.kinds), ("sessions at the end", self.states), ("grafts", self.results)):
             print(f"{name}: " + ", ".join(f"{key} {number}" for key, number in counts.most_common()))
-        print(f"laboratories with one answer: {self.sure}, of which both runs print the same: {self.same}; of the other {count - self.sure}: {self.unsure_same}")
+        print(f"laboratories with one answer: {self.sure}, both runs print the same of {self.same}; others: {count - self.sure}, of {self.unsure_same}")
         statuses = ", ".join(f"status {status}: {number}" for status, number in sorted(self.statuses.items(), key=str))
         print(f"{count} laboratories, each run twice; {statuses}; {self.wrong} that ended as they are not to")
 
@@ -299,7 +299,7 @@ def try_lab(program, lab, counts):
 
 
 def main():
-    options = argparse.ArgumentParser(usage=__doc__)
+    options = argparse.ArgumentParser(description=__doc__, formatter_class=argparse.RawDescriptionHelpFormatter)
     options.add_argument("--count", type=int, default=2000)
     options.add_argument("--first", type=int, default=0)
     options.add_argument("--seed", type=int, default=7)

@@ -69,7 +69,44 @@ def lab(*tables):
     return f"home_as = {HOME_AS}\n\n" + "".join(tables)
 
 
+def rules(count, **keys):
+    """A router with a policy of so many rules, which are the same."""
+    return lab(router(0), policy(0), *[table("router.policy.rule", **keys)] * count)
+
+
+def policy(place):
+    return table("router.policy", name=f"p{place}")
+
+
+def cost(one, other, number):
+    return table("cost", **{"from": f"r{one}", "to": f"r{other}", "cost": number})
+
+
+def costs(count):
+    """Costs of the ways between eight routers, of which there are 56; one more is one of these again."""
+    all_ways = [cost(one, other, 9) for one in range(8) for other in range(8) if one != other]
+    return (all_ways * 2)[:count]
+
+
+def repeated(segment, after=1):
+    return table("fault", peering="c0", way="home", segment=segment, kind="repeat", after=after)
+
+
+def lost(segment):
+    return table("fault", peering="c0", way="home", segment=segment, kind="lose")
+
+
+def announced(count):
+    """Steps that announce so many different prefixes."""
+    return [announce(0, prefixes(min(200, count - at), at)) for at in range(0, count, 200)]
+
+
 BASE = (router(0), router(1), peering(0))
+
+
+def ok(routers, peerings=0, steps=0):
+    """The line of an accepted input."""
+    return f"ok routers {routers} peerings {peerings} steps {steps}"
 
 
 def checked(name, text, line):
@@ -81,9 +118,9 @@ def ran(name, text, lines, status=0):
     return Case(name, ["run"], text, status, lines)
 
 
-def counted(name, most, text_of, ok, limit, least=None):
-    """Cases of check at a limit and one past it."""
-    yield checked(f"{name} at {most}", text_of(most), ok(most) if callable(ok) else ok)
+def counted(name, most, text_of, accepted, limit, least=None):
+    """Cases of check at a limit and one past it, and one below the least number where that isn't 0. The limit is a path, or a whole line."""
+    yield checked(f"{name} at {most}", text_of(most), accepted)
     yield checked(f"{name} past {most}", text_of(most + 1), limit if " " in limit else f"limit {limit} {most + 1}")
     if least is not None:
         yield checked(f"{name} below {least}", text_of(least - 1), f"limit {limit} {max(0, least - 1)}")
@@ -91,41 +128,36 @@ def counted(name, most, text_of, ok, limit, least=None):
 
 def reading_cases():
     """Limits of numbers and counts that an input has."""
-    one = "ok routers 2 peerings 1 steps 1"
-    none = "ok routers 1 peerings 0 steps 0"
-    yield from counted("routers", 8, lambda n: lab(*map(router, range(n))), "ok routers 8 peerings 0 steps 0", "router")
+    yield from counted("routers", 8, lambda n: lab(*map(router, range(n))), ok(8), "router")
     yield checked("no router", lab("router = []\n"), "limit router 0")
-    yield from counted("peerings", 32, lambda n: lab(router(0, sessions=32), *map(peering, range(n))), "ok routers 1 peerings 32 steps 0", "peering")
-    yield from counted("sessions", 32, lambda n: lab(router(0, sessions=n)), none, "router[0].sessions")
-    yield from counted("peerings in a room of 2", 2, lambda n: lab(router(0, sessions=2), *map(peering, range(n))), "ok routers 1 peerings 2 steps 0", "sessions")
-    costs = [table("cost", **{"from": f"r{a}", "to": f"r{b}", "cost": 65535}) for a in range(8) for b in range(8) if a != b]
-    yield from counted("costs", 56, lambda n: lab(*map(router, range(8)), *(costs * 2)[:n]), "ok routers 8 peerings 0 steps 0", "cost")
-    yield from counted("cost", 65535, lambda n: lab(router(0), router(1), table("cost", **{"from": "r0", "to": "r1", "cost": n})), "ok routers 2 peerings 0 steps 0", "cost[0].cost")
-    yield from counted("networks", 256, lambda n: lab(router(0, networks=prefixes(n))), none, "router[0].networks")
-    yield from counted("policies", 16, lambda n: lab(router(0), *(table("router.policy", name=f"p{k}") for k in range(n))), none, "router[0].policy")
-    rules = lambda n, **keys: lab(router(0), table("router.policy", name="p"), *[table("router.policy.rule", **keys)] * n)
-    yield from counted("rules", 64, rules, none, "router[0].policy[0].rule")
-    yield from counted("prepend", 8, lambda n: rules(1, prepend=n), none, "router[0].policy[0].rule[0].prepend")
-    yield from counted("le", 32, lambda n: rules(1, prefix="10.0.0.0/8", le=n), none, "router[0].policy[0].rule[0].le")
-    yield from counted("pref", 4294967295, lambda n: rules(1, pref=n), none, "router[0].policy[0].rule[0].pref")
-    yield from counted("home_as", 4294967295, lambda n: f"home_as = {n}\n" + router(0), none, "home_as", 1)
-    yield from counted("remote_as", 4294967295, lambda n: lab(router(0), peering(0, remote_as=n)), "ok routers 1 peerings 1 steps 0", "peering[0].remote_as", 1)
-    yield from counted("steps", 4096, lambda n: lab(*BASE, announce(0, ["10.0.0.0/8"]) * n), "ok routers 2 peerings 1 steps 4096", "step")
-    yield from counted("prefixes of a step", 200, lambda n: lab(*BASE, announce(0, prefixes(n))), one, "step[0].prefixes", 1)
-    yield from counted("ASes of a path", 64, lambda n: lab(*BASE, announce(0, ["10.0.0.0/8"], path=[7] * n)), one, "step[0].path")
-    yield from counted("octets of a raw step", 4096, lambda n: lab(*BASE, raw(0, bytes(n))), one, "step[0].hex", 1)
-    yield from counted("octets of an opening", 4096, lambda n: lab(router(0), peering(0, opening=bytes(n).hex())), "ok routers 1 peerings 1 steps 0", "peering[0].opening")
-    fault = lambda n, **keys: table("fault", **{"peering": "c0", "way": "home", "segment": n, "kind": "repeat", "after": 1, **keys})
-    yield from counted("faults", 1024, lambda n: lab(*BASE, *map(fault, range(1, n + 1))), "ok routers 2 peerings 1 steps 0", "fault")
-    yield from counted("segment", 1_000_000, lambda n: lab(*BASE, fault(n)), "ok routers 2 peerings 1 steps 0", "fault[0].segment", 1)
-    yield from counted("after", 6, lambda n: lab(*BASE, fault(1, after=n)), "ok routers 2 peerings 1 steps 0", "fault[0].after", 1)
+    yield from counted("peerings", 32, lambda n: lab(router(0, sessions=32), *map(peering, range(n))), ok(1, 32), "peering")
+    yield from counted("sessions", 32, lambda n: lab(router(0, sessions=n)), ok(1), "router[0].sessions")
+    yield from counted("peerings in a room of 2", 2, lambda n: lab(router(0, sessions=2), *map(peering, range(n))), ok(1, 2), "sessions")
+    yield from counted("costs", 56, lambda n: lab(*map(router, range(8)), *costs(n)), ok(8), "cost")
+    yield from counted("cost", 65535, lambda n: lab(router(0), router(1), cost(0, 1, n)), ok(2), "cost[0].cost")
+    yield from counted("networks", 256, lambda n: lab(router(0, networks=prefixes(n))), ok(1), "router[0].networks")
+    yield from counted("policies", 16, lambda n: lab(router(0), *map(policy, range(n))), ok(1), "router[0].policy")
+    yield from counted("rules", 64, rules, ok(1), "router[0].policy[0].rule")
+    yield from counted("prepend", 8, lambda n: rules(1, prepend=n), ok(1), "router[0].policy[0].rule[0].prepend")
+    yield from counted("le", 32, lambda n: rules(1, prefix="10.0.0.0/8", le=n), ok(1), "router[0].policy[0].rule[0].le")
+    yield from counted("pref", 4294967295, lambda n: rules(1, pref=n), ok(1), "router[0].policy[0].rule[0].pref")
+    yield from counted("home_as", 4294967295, lambda n: f"home_as = {n}\n" + router(0), ok(1), "home_as", 1)
+    yield from counted("remote_as", 4294967295, lambda n: lab(router(0), peering(0, remote_as=n)), ok(1, 1), "peering[0].remote_as", 1)
+    yield from counted("steps", 4096, lambda n: lab(*BASE, announce(0, ["10.0.0.0/8"]) * n), ok(2, 1, 4096), "step")
+    yield from counted("prefixes of a step", 200, lambda n: lab(*BASE, announce(0, prefixes(n))), ok(2, 1, 1), "step[0].prefixes", 1)
+    yield from counted("ASes of a path", 64, lambda n: lab(*BASE, announce(0, ["10.0.0.0/8"], path=[7] * n)), ok(2, 1, 1), "step[0].path")
+    yield from counted("octets of a raw step", 4096, lambda n: lab(*BASE, raw(0, bytes(n))), ok(2, 1, 1), "step[0].hex", 1)
+    yield from counted("octets of an opening", 4096, lambda n: lab(router(0), peering(0, opening="00" * n)), ok(1, 1), "peering[0].opening")
+    yield from counted("faults", 1024, lambda n: lab(*BASE, *map(repeated, range(1, n + 1))), ok(2, 1), "fault")
+    yield from counted("segment", 1_000_000, lambda n: lab(*BASE, repeated(n)), ok(2, 1), "fault[0].segment", 1)
+    yield from counted("after", 6, lambda n: lab(*BASE, repeated(1, n)), ok(2, 1), "fault[0].after", 1)
 
 
 def hold_cases():
     """Hold times, each with those next to it."""
     for key in ("hold", "home_hold"):
         for time_out in (0, 3, 65535):
-            yield checked(f"{key} {time_out}", lab(router(0), peering(0, **{key: time_out})), "ok routers 1 peerings 1 steps 0")
+            yield checked(f"{key} {time_out}", lab(router(0), peering(0, **{key: time_out})), ok(1, 1))
         for time_out in (1, 2, 65536):
             yield checked(f"{key} {time_out}", lab(router(0), peering(0, **{key: time_out})), f"limit peering[0].{key} {time_out}")
         yield checked(f"{key} -1", lab(router(0), peering(0, **{key: -1})), f"limit peering[0].{key} 0")
@@ -133,22 +165,22 @@ def hold_cases():
 
 def whole_cases():
     """Limits of the whole: names that are counted, prefixes, settles, grafts, what a remote says, and bytes."""
-    one = "ok routers 2 peerings 1 steps"
-    parts = lambda n: [announce(0, prefixes(min(200, n - at), at)) for at in range(0, n, 200)]
-    yield from counted("different prefixes", 4096, lambda n: lab(*BASE, *parts(n)), f"{one} 21", "prefixes")
-    yield from counted("settles", 64, lambda n: lab(*BASE, settle() * n), f"{one} 64", "settles")
-    yield from counted("settles with an added one", 63, lambda n: lab(*BASE, settle() * n, graft(0, "r1")), f"{one} 64", "limit settles 65")
-    yield from counted("grafts", 256, lambda n: lab(*BASE, graft(0, "r1") * n), f"{one} 256", "grafts")
-    yield from counted("rounds", 16384, lambda n: lab(*BASE, settle(rounds=n)), f"{one} 1", "step[0].rounds", 1)
-    yield from counted("least", 1024, lambda n: lab(*BASE, settle(least=n)), f"{one} 1", "step[0].least")
-    yield from counted("least within rounds", 9, lambda n: lab(*BASE, settle(rounds=9, least=n)), f"{one} 1", "step[0].least")
-    yield from counted("said", MOST_SAID, lambda n: lab(*BASE, *said_steps(n)), f"{one} 256", "said")
-    yield from counted("said with beats", MOST_BEATEN, lambda n: lab(router(0), peering(0, home_hold=30, hold=90), *announced_steps(n)), "ok routers 1 peerings 1 steps 624", "said")
+    yield from counted("different prefixes", 4096, lambda n: lab(*BASE, *announced(n)), ok(2, 1, 21), "prefixes")
+    yield from counted("settles", 64, lambda n: lab(*BASE, settle() * n), ok(2, 1, 64), "settles")
+    yield from counted("settles with an added one", 63, lambda n: lab(*BASE, settle() * n, graft(0, "r1")), ok(2, 1, 64), "limit settles 65")
+    yield from counted("grafts", 256, lambda n: lab(*BASE, graft(0, "r1") * n), ok(2, 1, 256), "grafts")
+    yield from counted("rounds", 16384, lambda n: lab(*BASE, settle(rounds=n)), ok(2, 1, 1), "step[0].rounds", 1)
+    yield from counted("least", 1024, lambda n: lab(*BASE, settle(least=n)), ok(2, 1, 1), "step[0].least")
+    yield from counted("least within rounds", 9, lambda n: lab(*BASE, settle(rounds=9, least=n)), ok(2, 1, 1), "step[0].least")
+    yield from counted("said", MOST_SAID, lambda n: lab(*BASE, *said_steps(n)), ok(2, 1, 256), "said")
+    beating = router(0) + peering(0, home_hold=30, hold=90)
+    yield from counted("said with beats", MOST_BEATEN, lambda n: lab(beating, *announced_steps(n)), ok(1, 1, 624), "said")
     yield checked(f"{MOST_BYTES} bytes", "\n" * MOST_BYTES, "shape home_as")
     yield checked(f"{MOST_BYTES + 1} bytes", "\n" * (MOST_BYTES + 1), f"limit input {MOST_BYTES + 1}")
     full = lab(*BASE)
-    yield checked("an input of all bytes", full + "\n" * (MOST_BYTES - len(full)), f"{one} 0")
-    yield Case("a command of too many bytes", ["run"], full + "\n" * (MOST_BYTES + 1 - len(full)), 2, [f"bad input: limit input {MOST_BYTES + 1}"])
+    yield checked("an input of all bytes", full + "\n" * (MOST_BYTES - len(full)), ok(2, 1))
+    too_long = full + "\n" * (MOST_BYTES + 1 - len(full))
+    yield ran("a run of too many bytes", too_long, [f"bad input: limit input {MOST_BYTES + 1}"], 2)
 
 
 def route_of(octets, number, as_number=65001, mark=0):
@@ -177,37 +209,42 @@ def announced_steps(count):
     return [announce(0, prefixes(200)) * whole, announce(0, last)]
 
 
+def held(place, at, heard=0, told=0, state="Established"):
+    """The line of a session."""
+    return f"peering c{place} at {at} state {state} heard {heard} told {told}"
+
+
 def session_cases():
     """As many sessions and moves as there may be."""
-    full = [router(0, sessions=32), router(1, sessions=32)] + [peering(place) for place in range(32)]
+    full = [router(0, sessions=32), router(1, sessions=32), *map(peering, range(32))]
     said = [announce(place, prefixes(1, place)) for place in range(32)]
-    lines = [f"peering c{place} at r0 state Established heard 1 told 31" for place in range(32)]
-    yield ran("32 remotes at a router", lab(*full, *said), ["result settled", *lines])
-    moved = [f"peering c{place} at r1 state Established heard 1 told 31" for place in range(32)]
-    results = [f"graft {place + 1} c{place} r0 r1 accepted" for place in range(32)]
-    yield ran("32 remotes moved", lab(*full, *said, settle(), *(graft(place, "r1") for place in range(32))), ["result settled", *moved, *results])
-    room = [router(0), router(1, sessions=2), *map(peering, range(3))]
-    yield ran(
-        "a room filled, and one more",
-        lab(*room, settle(), graft(0, "r1"), settle(), graft(1, "r1"), settle(), graft(2, "r1")),
-        ["result settled", "graft 1 c0 r0 r1 accepted", "graft 2 c1 r0 r1 accepted", "graft 3 c2 r0 r1 refused RouterFull(2)"],
-    )
-    yield ran("a room of none", lab(router(0), router(1, sessions=0), peering(0), settle(), graft(0, "r1")), ["graft 1 c0 r0 r1 refused RouterFull(0)"])
+    yield ran("32 remotes at a router", lab(*full, *said), ["result settled"] + [held(place, "r0", 1, 31) for place in range(32)])
+    moved = [f"graft {place + 1} c{place} r0 r1 accepted" for place in range(32)]
+    lines = ["result settled"] + [held(place, "r1", 1, 31) for place in range(32)] + moved
+    yield ran("32 remotes moved", lab(*full, *said, settle(), *(graft(place, "r1") for place in range(32))), lines)
+    filled = lab(router(0), router(1, sessions=2), *map(peering, range(3)), *(settle() + graft(place, "r1") for place in range(3)))
+    lines = ["result settled", "graft 1 c0 r0 r1 accepted", "graft 2 c1 r0 r1 accepted", "graft 3 c2 r0 r1 refused RouterFull(2)"]
+    yield ran("a room filled, and one more", filled, lines)
+    none = lab(router(0), router(1, sessions=0), peering(0), settle(), graft(0, "r1"))
+    yield ran("a room of none", none, ["result settled", "graft 1 c0 r0 r1 refused RouterFull(0)"])
     moves = [f"graft {k + 1} c0 r{k % 2} r{(k + 1) % 2} accepted" for k in range(256)]
-    yield ran("256 grafts", lab(*BASE, settle(), *(graft(0, f"r{(k + 1) % 2}") for k in range(256))), ["result settled", *moves, "peering c0 at r0 state Established heard 0 told 0"])
+    to_and_fro = lab(*BASE, settle(), *(graft(0, f"r{(k + 1) % 2}") for k in range(256)))
+    yield ran("256 grafts", to_and_fro, ["result settled", *moves, held(0, "r0")])
     groups = [announce(0, prefixes(1, k)) + settle() for k in range(64)]
-    yield ran("64 settles", lab(*BASE, *groups), ["result settled", "peering c0 at r0 state Established heard 64 told 0"])
+    yield ran("64 settles", lab(*BASE, *groups), ["result settled", held(0, "r0", 64)])
     eight = [router(place, sessions=32) for place in range(8)] + [peering(place, f"r{place % 8}") for place in range(32)]
-    yield ran("8 routers and 32 remotes", lab(*eight, *said), ["result settled"] + [f"peering c{place} at r{place % 8} state Established heard 1 told 31" for place in range(32)])
+    lines = ["result settled"] + [held(place, f"r{place % 8}", 1, 31) for place in range(32)]
+    yield ran("8 routers and 32 remotes", lab(*eight, *said), lines)
 
 
 def round_cases():
     """Settles that may make few rounds, or many."""
-    lost = [table("fault", peering="c0", way="home", segment=k, kind="lose") for k in range(1, 1025)]
+    losses = [lost(segment) for segment in range(1, 1025)]
     yield ran("rounds 1", lab(*BASE, settle(rounds=1)), ["result unsettled step 1 rounds 1"], 3)
     yield ran("rounds 16384", lab(*BASE, settle(rounds=16384)), ["result settled"])
-    yield ran("rounds 300 and 1,024 lost segments", lab(*BASE, *lost, settle(rounds=300)), ["result unsettled step 1 rounds 300", "peering c0 at r0 state OpenSent heard 0 told 0"], 3)
-    yield ran("1,024 lost segments", lab(*BASE, *lost, settle(rounds=16384)), ["result settled", "peering c0 at r0 state Established heard 0 told 0"])
+    lines = ["result unsettled step 1 rounds 300", held(0, "r0", state="OpenSent")]
+    yield ran("rounds 300 and 1,024 lost segments", lab(*BASE, *losses, settle(rounds=300)), lines, 3)
+    yield ran("1,024 lost segments", lab(*BASE, *losses, settle(rounds=16384)), ["result settled", held(0, "r0")])
     yield ran("least 1024", lab(*BASE, settle(least=1024)), ["result settled"])
 
 
@@ -215,27 +252,38 @@ def timer_cases():
     """Runs with the least and the greatest hold times."""
     # With a beat in each round something is unacknowledged at each mark, so such a session is never at rest.
     each_round = lab(router(0), peering(0, home_hold=3, hold=3), settle(rounds=300))
-    yield ran("hold time 3 with beats", each_round, ["result unsettled step 1 rounds 300", "peering c0 at r0 state Established heard 0 told 0"], 3)
+    yield ran("hold time 3 with beats", each_round, ["result unsettled step 1 rounds 300", held(0, "r0")], 3)
     kept = lab(router(0), router(1), peering(0, home_hold=65535, hold=65535), settle(least=200), graft(0, "r1"), settle(least=200))
-    yield ran("hold time 65535 with beats", kept, ["result settled", "peering c0 at r1 state Established heard 0 told 0", "graft 1 c0 r0 r1 accepted"])
-    yield ran("hold time 3 without beats", lab(router(0), peering(0, home_hold=3, hold=3, beats=False), settle(least=20)), ["result settled", "peering c0 at r0 state Closed heard 0 told 0"])
-    silent = peering(0, home_hold=65535, hold=65535, beats=False)
-    yield ran("hold time 65535 without beats", lab(router(0), silent, settle(least=1024)), ["result settled", "peering c0 at r0 state Established heard 0 told 0"])
+    yield ran("hold time 65535 with beats", kept, ["result settled", held(0, "r1"), "graft 1 c0 r0 r1 accepted"])
+    silent = lab(router(0), peering(0, home_hold=3, hold=3, beats=False), settle(least=20))
+    yield ran("hold time 3 without beats", silent, ["result settled", held(0, "r0", state="Closed")])
+    silent = lab(router(0), peering(0, home_hold=65535, hold=65535, beats=False), settle(least=1024))
+    yield ran("hold time 65535 without beats", silent, ["result settled", held(0, "r0")])
     for time_out, result in ((29, "refused HoldTooShort(29)"), (30, "accepted")):
         text = lab(router(0), router(1), peering(0, home_hold=time_out, hold=90), settle(), graft(0, "r1"))
         yield ran(f"hold time {time_out} moved", text, [f"graft 1 c0 r0 r1 {result}"])
 
 
+def long_says(count):
+    """Steps by which two remotes say so many UPDATEs in turn, each of which is told in 4,000 octets, with the home network's AS in front."""
+    return [raw(number % 2, route_of(3998, number, 65001 + number % 2, number)) for number in range(count)]
+
+
+def last_say(octets):
+    """A step whose UPDATE is told in so many octets."""
+    return raw(0, route_of(octets - 2, 999, 65001, 999))
+
+
 def stream_cases():
     """Streams that are filled to the last octet, and one more."""
-    yield ran("a remote says all that it may", lab(*BASE, *said_steps(MOST_SAID)), ["result settled", "peering c0 at r0 state Established heard 256 told 0"])
-    # Each UPDATE of 3,998 octets is told to c2 in 4,000, with the home network's AS in front: behind 48 octets 261 of them fit, and 432 octets more.
+    yield ran("a remote says all that it may", lab(*BASE, *said_steps(MOST_SAID)), ["result settled", held(0, "r0", 256)])
+    # Behind the 48 octets of OPEN and KEEPALIVE 261 UPDATEs of 4,000 octets fit, and 432 octets more.
     three = [router(0), *map(peering, range(3))]
-    says = lambda count: [raw(k % 2, route_of(3998, k, 65001 + k % 2, k)) for k in range(count)]
-    last = lambda octets: raw(0, route_of(octets - 2, 999, 65001, 999))
-    yield ran("a stream filled to 1,044,480", lab(*three, *says(261), settle(), last(432)), ["result settled", "peering c2 at r0 state Established heard 0 told 262"])
-    yield ran("a stream past 1,044,480", lab(*three, *says(261), settle(), last(433)), ["result stream-full peering c2 length 1044481"], 7)
-    yield ran("a stream past 1,044,480 by a long UPDATE", lab(*three, *says(400)), ["result stream-full peering c2 length 1048048"], 7)
+    full = lab(*three, *long_says(261), settle(), last_say(432))
+    yield ran("a stream filled to 1,044,480", full, ["result settled", held(2, "r0", 0, 262)])
+    past = lab(*three, *long_says(261), settle(), last_say(433))
+    yield ran("a stream past 1,044,480", past, ["result stream-full peering c2 length 1044481"], 7)
+    yield ran("a stream far past 1,044,480", lab(*three, *long_says(400)), ["result stream-full peering c2 length 1048048"], 7)
 
 
 def journal_text(groups):
@@ -312,7 +360,7 @@ def try_parts(program, name):
 
 
 def main():
-    options = argparse.ArgumentParser(usage=__doc__)
+    options = argparse.ArgumentParser(description=__doc__, formatter_class=argparse.RawDescriptionHelpFormatter)
     options.add_argument("--only", default="")
     options.add_argument("--parts")
     options.add_argument("program")

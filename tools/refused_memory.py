@@ -127,7 +127,7 @@ def built_library(folder):
 
 
 def main():
-    options = argparse.ArgumentParser(usage=__doc__)
+    options = argparse.ArgumentParser(description=__doc__, formatter_class=argparse.RawDescriptionHelpFormatter)
     options.add_argument("--kinds", default=",".join(KINDS))
     options.add_argument("--most", type=int, help="so many runs of a kind for an input, at most")
     options.add_argument("command", nargs=argparse.REMAINDER)
