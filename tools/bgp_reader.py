@@ -3,6 +3,7 @@ independent reading, by which tests of whole runs say what a run is to report.
 
 A session here is passive: it has put its OPEN, has no timers, and only hears. RFC 4271 sections 4 and 6, RFC 5492, RFC 6793.
 """
+import collections
 import struct
 
 MARKER = b"\xff" * 16
@@ -99,9 +100,9 @@ def read_path(value, wide):
         if len(value) < 2 or value[0] not in (1, SEQUENCE) or value[1] == 0 or len(value) < 2 + size * value[1]:
             raise Fault(3, 11)
         end = 2 + size * value[1]
-        parts.append((value[0], [int.from_bytes(value[at : at + size], "big") for at in range(2, end, size)]))
+        parts.append((value[0], tuple(int.from_bytes(value[at : at + size], "big") for at in range(2, end, size))))
         value = value[end:]
-    return parts
+    return tuple(parts)
 
 
 def test_known(kind, flags, value, wide):
@@ -155,27 +156,35 @@ def read_update(body, wide):
     return gone, attributes, read_prefixes(body[end:])
 
 
-def neighbour(attributes, wide, home_as):
-    """The neighbour AS of a route; None where an AS4_PATH may change it."""
-    if AS4_PATH in attributes and not wide:
-        return None
-    path = read_path(attributes[AS_PATH], wide)
+def neighbour(path, home_as):
+    """The neighbour AS of a route with this path."""
     return path[0][1][0] if path and path[0][0] == SEQUENCE else home_as
+
+
+# A route as it was heard: its ORIGIN and MED as numbers, and the parts of its path. The path is None where an AS4_PATH may change it.
+Route = collections.namedtuple("Route", "origin path med")
+
+
+def route_of(attributes, wide):
+    """The route that the attributes of an UPDATE tell."""
+    path = None if AS4_PATH in attributes and not wide else read_path(attributes[AS_PATH], wide)
+    return Route(attributes[ORIGIN][0], path, int.from_bytes(attributes.get(MED, b""), "big"))
 
 
 class Session:
     """A session, by what its remote said so far."""
 
-    def __init__(self, remote_as, offers=False, home_as=65000):
-        self.remote_as, self.offers, self.home_as = remote_as, offers, home_as
+    def __init__(self, remote_as, offers=False):
+        self.remote_as, self.offers = remote_as, offers
         self.state = "OpenSent"
         self.wide = False
         self.hold = None
         self.unread = b""
-        self.heard = set()
+        self.identifier = None
+        self.heard = {}
         self.fault = None
-        # Of each route that was announced: its prefix, its neighbour AS and its MED.
-        self.metrics = []
+        # Each prefix that was announced, with its route.
+        self.announced = []
 
     def hear(self, octets):
         """Reads what the remote says next, as far as it can be read."""
@@ -198,6 +207,7 @@ class Session:
         elif kind == OPEN and self.state == "OpenSent":
             self.hold, told = read_open(body, self.remote_as, self.offers)
             self.wide = self.offers and told is not None
+            self.identifier = body[5:9]
             self.state = "OpenConfirm"
         elif kind == KEEPALIVE and self.state in ("OpenConfirm", "Established"):
             self.state = "Established"
@@ -209,15 +219,15 @@ class Session:
     def update(self, body):
         """Takes an UPDATE."""
         withdrawn, attributes, announced = read_update(body, self.wide)
-        self.heard -= set(withdrawn)
-        self.heard |= set(announced)
+        for prefix in withdrawn:
+            self.heard.pop(prefix, None)
         if announced:
-            near = neighbour(attributes, self.wide, self.home_as)
-            metric = int.from_bytes(attributes.get(MED, b""), "big")
-            self.metrics += [(prefix, near, metric) for prefix in announced]
+            route = route_of(attributes, self.wide)
+            self.heard.update((prefix, route) for prefix in announced)
+            self.announced += [(prefix, route) for prefix in announced]
 
     def close(self):
         """Ends the session."""
         self.state = "Closed"
-        self.heard = set()
+        self.heard = {}
         self.unread = b""

@@ -11,8 +11,8 @@ PROGRAM run is done on each with 2 workers and with another number. A run is to 
 that begins as that status has it, and nothing on standard error. Status 2 is counted apart: such a laboratory is no input. Where it
 ends settled, the report is held against what bgp_reader.py, an independent reading of RFC 4271, makes of the said octets:
 each session's state and how many prefixes it heard, each graft's result, and where its session is. Where no graft meets a
-change of its session, no timer runs and routes by one neighbour have one MED, the report has one answer, and both runs are to print
-the same. A laboratory for which this doesn't hold is kept in the current folder as hostile.N, and the status is 1 then.
+change of its session, no timer runs and routes by one neighbour have one MED, the report has one answer: both runs are to print it,
+with the best routes by bgp_choice.py, which reads RFC 4271's decision process anew. A laboratory for which this doesn't hold is kept in the current folder as hostile.N, and the status is 1 then.
 
 With --write each laboratory is written into a folder, as N.toml, and nothing is run.
 """
@@ -24,7 +24,9 @@ import re
 import subprocess
 import sys
 
+import bgp_choice
 import bgp_reader
+from bgp_choice import Candidate
 from hostile_says import FAULTS, KEEPALIVE, OPENINGS, Remote, endless, message
 
 SECONDS = 60
@@ -156,7 +158,7 @@ class Expected:
     where something that happens beside it decides."""
 
     def __init__(self, lab):
-        self.sessions = {remote: bgp_reader.Session(remote.as_number, remote.offers, HOME_AS) for remote in lab.remotes}
+        self.sessions = {remote: bgp_reader.Session(remote.as_number, remote.offers) for remote in lab.remotes}
         self.has_timers = lab.remotes[0].home_hold > 0
         self.places = {remote: remote.start for remote in lab.remotes}
         self.grafts = []
@@ -195,8 +197,11 @@ class Expected:
         """Whether routes to one prefix by one neighbour have one MED."""
         metrics = {}
         for session in self.sessions.values():
-            for prefix, near, metric in session.metrics:
-                if near is None or metrics.setdefault((prefix, near), metric) != metric:
+            for prefix, route in session.announced:
+                if route.path is None:
+                    return False
+                near = bgp_reader.neighbour(route.path, HOME_AS)
+                if metrics.setdefault((prefix, near), route.med) != route.med:
                     return False
         return True
 
@@ -209,6 +214,30 @@ class Expected:
 
     def heard(self, remote):
         return 0 if self.state(remote) == "Closed" else len(self.sessions[remote].heard)
+
+    def tables(self, lab):
+        """The best routes of each router, where the sessions are at their last places."""
+        heard = {name: {} for name in lab.routers}
+        for remote, session in self.sessions.items():
+            for prefix, route in session.heard.items():
+                if not any(HOME_AS in ases for _, ases in route.path):
+                    address = tuple(map(int, remote.address.split(".")))
+                    candidate = Candidate(f"peering {remote.name}", route, True, tuple(session.identifier), address)
+                    heard[lab.routers[self.places[remote]]].setdefault(prefix, []).append(candidate)
+        return bgp_choice.best_routes(heard, {name: (10, 255, 0, place + 1) for place, name in enumerate(lab.routers)}, HOME_AS)
+
+    def report(self, lab):
+        """The whole report of a settled run that has one answer."""
+        tables = self.tables(lab)
+        lines = ["result settled"]
+        for name, best in tables.items():
+            lines += [f"router {name}"] + [bgp_choice.best_line(prefix, best[prefix]) for prefix in sorted(best)]
+        for remote in lab.remotes:
+            at = lab.routers[self.places[remote]]
+            told = [it for it in tables[at].values() if it.source != f"peering {remote.name}"] if self.state(remote) == "Established" else []
+            lines.append(f"peering {remote.name} at {at} state {self.state(remote)} heard {self.heard(remote)} told {len(told)}")
+        lines += [f"graft {number} {line}" for number, line in enumerate(self.grafts, 1)]
+        return "\n".join(lines) + "\n"
 
 
 def flaws_of_settled(lab, expected, lines):
@@ -239,7 +268,12 @@ def flaws(lab, expected, status, text, said):
         return [f"status {status}, {text[-80:]!r}, {said[:200]!r}"]
     if not re.fullmatch(FIRST_LINES[status], lines[0]):
         return [f"status {status}, {lines[0]}"]
-    return list(flaws_of_settled(lab, expected, lines)) if status == 0 else []
+    if status != 0:
+        return []
+    wrong = list(flaws_of_settled(lab, expected, lines))
+    if expected.is_sure and text != expected.report(lab):
+        wrong.append("the report isn't that of the one answer")
+    return wrong
 
 
 def run(program, text, workers):

@@ -287,7 +287,7 @@ def stream_cases():
 
 
 def journal_text(groups):
-    """Groups that announce and withdraw 4,096 prefixes in turn, among 8 routers: some 90,000 events each."""
+    """Groups that announce and withdraw 4,096 prefixes in turn, among 8 routers."""
     route = attribute(0x40, 1, b"\0") + attribute(0x40, 2, b"\2\1\xfd\xe9") + attribute(0x40, 3, b"\xc0\0\2\1")
     places = [(10 << 24 | place << 8, 24) for place in range(4096)]
     steps = []
@@ -301,10 +301,11 @@ def journal_text(groups):
 
 
 def journal_cases():
-    """A journal that is nearly full, and one that is full. An event of a group for each prefix: the first router decides and tells seven others,
-    each of which hears and decides: 22 x 4,096; 46 groups stay below the limit, 47 don't."""
-    yield ran("a journal nearly full", journal_text(46), ["result settled"])
-    yield ran("a journal full", journal_text(60), ["result journal-full events E"], 7)
+    """A journal that is nearly full, and one that is full. Each prefix of a group has 120 events: each of eight routers decides it, tells seven
+    others that it did, and hears of seven. So 8 groups, of 491,520 events and few others each, stay below the limit, and 9 don't."""
+    yield ran("a journal nearly full", journal_text(8), ["result settled", held(0, "r0")])
+    yield ran("a journal full", journal_text(9), ["result journal-full events E"], 7)
+    yield ran("a journal full, with more to come", journal_text(60), ["result journal-full events E"], 7)
 
 
 def cases():

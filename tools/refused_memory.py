@@ -11,11 +11,12 @@ are the input's own, and then once for each call that it made there, with that c
     read     a read of standard input fails; reads and writes move at most 16 bytes
     write    a write to standard output fails; reads and writes move at most 16 bytes
     short    a read or a write moves one byte
+    thread   a thread isn't started
 
 A run whose memory is refused is to end with the input's own status and text, or with status 6 and nothing written. One whose read
 fails is to end with status 4 and nothing written. One whose write fails is to end with status 5, and the bytes of the writes before
-it are the first part of the input's own text. One whose read or write is short is to end with the input's own status and text. No
-run may write to standard error or take longer than 20 seconds. A run for which this doesn't hold is told, and the status is 1 then.
+it are the first part of the input's own text. One whose read or write is short, or whose thread isn't started, is to end with the input's own
+status and text. No run may write to standard error or take longer than 20 seconds. A run for which this doesn't hold is told, and the status is 1 then.
 
 It needs a C compiler, by the name cc, for refusing_calls.c. Where threads share the work, which allocation is the Nth differs from
 run to run, so with --workers 1 each is refused in turn, and with more some.
@@ -31,9 +32,9 @@ import tempfile
 SECONDS = 20
 STEP = 16
 NO_MEMORY, READ_FAILED, WRITE_FAILED = 6, 4, 5
-KINDS = ("one", "all", "read", "write", "short")
+KINDS = ("one", "all", "read", "write", "short", "thread")
 End = collections.namedtuple("End", "status text said")
-Calls = collections.namedtuple("Calls", "allocations reads writes")
+Calls = collections.namedtuple("Calls", "allocations reads writes threads")
 
 
 class Program:
@@ -58,11 +59,11 @@ class Program:
                     env={"LD_PRELOAD": self.library, "COUNTS": str(told), **names},
                 )
             except subprocess.TimeoutExpired:
-                return End(None, b"", b"no end"), Calls(0, 0, 0)
+                return End(None, b"", b"no end"), Calls(0, 0, 0, 0)
             finally:
                 os.close(told)
             numbers = counts.read().split()
-        calls = Calls(*map(int, numbers)) if numbers else Calls(0, 0, 0)
+        calls = Calls(*map(int, numbers)) if numbers else Calls(0, 0, 0, 0)
         return End(run.returncode, run.stdout, run.stderr), calls
 
 
@@ -76,6 +77,9 @@ def plans(kind, program, text):
         calls = program.run(text)[1]
         reads = [{"short_read": number} for number in range(1, calls.reads + 1)]
         return reads + [{"short_write": number} for number in range(1, calls.writes + 1)]
+    if kind == "thread":
+        calls = program.run(text)[1].threads
+        return [{"refuse_thread": number} for number in range(1, calls + 1)]
     calls = program.run(text, step=STEP)[1]
     count = calls.reads if kind == "read" else calls.writes
     return [{f"fail_{kind}": number, "step": STEP} for number in range(1, count + 1)]
@@ -89,7 +93,7 @@ def is_sound(kind, plan, end, own):
         return end.status == READ_FAILED and not end.text
     if kind == "write":
         return end.status == WRITE_FAILED and end.text == own.text[: STEP * (plan["fail_write"] - 1)]
-    if kind == "short":
+    if kind in ("short", "thread"):
         return end == own
     return end == own or (end.status == NO_MEMORY and not end.text)
 
@@ -113,7 +117,7 @@ def try_input(program, name, kinds, most):
     """Runs an input with each refusal of each kind, and counts the runs and those that were wrong."""
     text = pathlib.Path(name).read_bytes()
     own, calls = program.run(text)
-    print(f"{name}: status {own.status}, {len(own.text)} bytes, {calls.allocations} allocations, {calls.reads} reads, {calls.writes} writes")
+    print(f"{name}: status {own.status}, {len(own.text)} bytes, {calls.allocations} allocations, {calls.reads} reads, {calls.writes} writes, {calls.threads} threads")
     counts = [try_kind(kind, program, name, text, own, most) for kind in kinds]
     return [sum(column) for column in zip(*counts)]
 

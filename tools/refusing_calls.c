@@ -8,16 +8,19 @@
  *   STEP=N                a read or write of these moves at most N bytes
  *   SHORT_READ=N          the Nth read of standard input moves at most one byte
  *   SHORT_WRITE=N         so does the Nth write to standard output
+ *   REFUSE_THREAD=N       the Nth thread isn't started
  *
- * An allocation is a call of malloc, calloc, realloc, aligned_alloc or posix_memalign, from whichever thread. At the end three
- * counts go as a line "ALLOCATIONS READS WRITES" to the descriptor that COUNTS names.
+ * An allocation is a call of malloc, calloc, realloc, aligned_alloc or posix_memalign, from whichever thread. At the end four
+ * counts go as a line "ALLOCATIONS READS WRITES THREADS" to the descriptor that COUNTS names.
  */
 #define _GNU_SOURCE
 #include <dlfcn.h>
 #include <errno.h>
+#include <pthread.h>
 #include <stdatomic.h>
 #include <stdio.h>
 #include <stdlib.h>
+#include <sys/syscall.h>
 #include <sys/uio.h>
 #include <unistd.h>
 
@@ -26,10 +29,11 @@ extern void *__libc_calloc(size_t count, size_t size);
 extern void *__libc_realloc(void *block, size_t size);
 extern void *__libc_memalign(size_t alignment, size_t size);
 
-static atomic_long allocations, reads, writes;
-static long refused, refused_from, failed_read, failed_write, short_read, short_write, step, counts;
+static atomic_long allocations, reads, writes, threads;
+static long refused, refused_from, failed_read, failed_write, short_read, short_write, refused_thread, step, counts;
 static ssize_t (*real_read)(int, void *, size_t);
 static ssize_t (*real_write)(int, const void *, size_t);
+static int (*real_create)(pthread_t *, const pthread_attr_t *, void *(*)(void *), void *);
 
 static long number_of(const char *name) {
     const char *text = getenv(name);
@@ -39,23 +43,38 @@ static long number_of(const char *name) {
 __attribute__((constructor)) static void begin(void) {
     real_read = dlsym(RTLD_NEXT, "read");
     real_write = dlsym(RTLD_NEXT, "write");
+    real_create = dlsym(RTLD_NEXT, "pthread_create");
     refused = number_of("REFUSE_ALLOCATION");
     refused_from = number_of("REFUSE_FROM");
     failed_read = number_of("FAIL_READ");
     failed_write = number_of("FAIL_WRITE");
     short_read = number_of("SHORT_READ");
     short_write = number_of("SHORT_WRITE");
+    refused_thread = number_of("REFUSE_THREAD");
     step = number_of("STEP");
     counts = number_of("COUNTS");
     atomic_store(&allocations, 0);
 }
 
+/* Tells the counts, once. */
 __attribute__((destructor)) static void end(void) {
-    char line[80];
-    if (counts > 0) {
-        int length = snprintf(line, sizeof line, "%ld %ld %ld\n", atomic_load(&allocations), atomic_load(&reads), atomic_load(&writes));
-        if (real_write((int)counts, line, (size_t)length) != length) _exit(99);
+    char line[120];
+    long file = counts;
+    counts = 0;
+    if (file > 0) {
+        int length = snprintf(line, sizeof line, "%ld %ld %ld %ld\n", atomic_load(&allocations), atomic_load(&reads), atomic_load(&writes), atomic_load(&threads));
+        if (real_write((int)file, line, (size_t)length) != length) abort();
     }
+}
+
+void _exit(int status) {
+    end();
+    for (;;) syscall(SYS_exit_group, status);
+}
+
+int pthread_create(pthread_t *thread, const pthread_attr_t *how, void *(*work)(void *), void *with) {
+    long number = atomic_fetch_add(&threads, 1) + 1;
+    return number == refused_thread ? EAGAIN : real_create(thread, how, work, with);
 }
 
 /* Counts an allocation, and says whether it is refused. */
