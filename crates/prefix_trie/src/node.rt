@@ -12,7 +12,7 @@ ghost use Rattle.prefix_trie.specs.Halves.{middle, past, IsFork};
 ghost use Rattle.prefix_trie.specs.Longest.{LongestOf};
 ghost use Rattle.prefix_trie.specs.Nodes.{entries, own, IsApart, IsNode, IsTrie, PutResult};
 
-use bgp_types::{NoMemory, Prefix};
+use bgp_types::{NoMemory, Prefix, PrefixList};
 use std::alloc::Global;
 use std::mem;
 
@@ -116,6 +116,21 @@ pub fn first<V>(tree: &Tree<V>) -> Option<Prefix>
             }
         }
     }
+}
+
+/// Adds the prefixes to a list, in rising order.
+pub fn list<V>(tree: &Tree<V>, prefixes: &mut PrefixList) -> Result<(), NoMemory>
+    ensures { OnOk result (prefixes.new ≡ prefixes.old ++ map (λ e. e.0) (entries tree.now)) }
+{
+    let Tree::Fork(node) = tree else {
+        return Ok(());
+    };
+    let node: &Node<V> = node;
+    if node.value.is_some() {
+        prefixes.push(node.prefix)?;
+    }
+    list(&node.zero, prefixes)?;
+    list(&node.one, prefixes)
 }
 
 /// The least prefix above another.

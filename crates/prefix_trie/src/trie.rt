@@ -7,9 +7,9 @@ ghost use Rattle.bgp_types.specs.Tables.{prefix_cmp, first_above};
 ghost use Rattle.prefix_trie.specs.Longest.{LongestOf};
 
 use crate::node::{
-    Node, Spares, Tree, find, first, longest, make_places, next, put, reserve, take,
+    Node, Spares, Tree, find, first, list, longest, make_places, next, put, reserve, take,
 };
-use bgp_types::{NoMemory, Prefix, SpareTable, Table};
+use bgp_types::{Items, NoMemory, Prefix, PrefixList, SpareTable, Table};
 use std::alloc::Global;
 use std::marker::Model;
 
@@ -18,7 +18,7 @@ use std::marker::Model;
 ///
 /// On a way down from the root each prefix is longer than the one above it. So a way has at most 33
 /// nodes, however many prefixes there are. `get`, `set`, `remove` and `longest_match` go one way, and
-/// `next_after` at most one further way from a node of the first. `len` and `spare` read a number.
+/// `next_after` at most one further way from a node of the first; `prefixes` visits each node once. `len` and `spare` read a number.
 /// `reserve` takes a step for each node that it makes.
 #[derive(Drop)]
 pub struct TrieTable<V> {
@@ -68,6 +68,15 @@ impl<V: Drop> TrieTable<V> {
             Some(host) => longest(&self.root, host),
             None => unreachable!(),
         }
+    }
+
+    /// The prefixes that there are, in rising order, in memory that is asked for once.
+    pub fn prefixes(&self) -> Result<PrefixList, NoMemory>
+        ensures { IfOk result (λ prefixes. prefixes ≡ map.keys self.now.contents) }
+    {
+        let mut prefixes = Items::from_vec(Vec::with_capacity(self.alloc, self.len)?);
+        list(&self.root, &mut prefixes)?;
+        Ok(prefixes)
     }
 }
 
