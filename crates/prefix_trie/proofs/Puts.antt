@@ -23,18 +23,19 @@ put_last p v (e ∷ es) b = rw b.0 (ap (λ (xs : List (PrefixValue × _)). e ∷
 pub fork_same : (a b c d : ℕ) (f : PrefixValue) → a ≡ b → c ≡ d → IsFork a c f → IsFork b d f
 fork_same a b c d f e k fork = subst (λ (n : ℕ). IsFork n d f) e (subst (λ (n : ℕ). IsFork a n f) k fork)
 
+-- of what one prefix has
+alone : {V : Type 0} (P : PrefixValue → Type 0) (p : PrefixValue) (o : Option V) → P p → AllByRecursion (λ e. P e.0) (own p o)
+alone P p None h = tt
+alone P p (Some v) h = (h, tt)
+
 -- what a node has is under its prefix
 pub all_under : {V : Type 0} (p : PrefixValue) (o : Option V) (zs os : List (PrefixValue × V)) → IsNode p zs os → AllByRecursion (λ e. Under p e.0) (own p o ++ (zs ++ os))
 all_under {V} p o zs os node =
     let le = middle_le_past p node.is.len in
-    every_both (Under p) (own p o) (zs ++ os) (itself o)
+    every_both (Under p) (own p o) (zs ++ os) (alone (Under p) p o (record { is = node.is; long = omega arith; from = omega arith; to = omega arith }))
     (every_both (Under p) zs os
     (every (Within p.address (middle p) p.len) (Under p) zs (λ q w. let a = w.longer in let b = w.to in record { is = w.is; long = omega arith; from = w.from; to = omega arith }) node.zeros)
     (every (Within (middle p) (past p) p.len) (Under p) os (λ q w. let a = w.longer in let b = w.from in record { is = w.is; long = omega arith; from = omega arith; to = w.to }) node.ones))
-  where
-    itself : (x : Option V) → AllByRecursion (λ e. Under p e.0) (own p x)
-    itself None = tt
-    itself (Some v) = (record { is = node.is; long = omega arith; from = omega arith; to = omega arith }, tt)
 
 module _ {V : Type 0} (at p : PrefixValue) (es : List (PrefixValue × V)) (stands : IsApart at p es) where
   -- a prefix that at doesn't cover has no value
@@ -84,8 +85,8 @@ module _ {V : Type 0} (at p : PrefixValue) (es : List (PrefixValue × V)) (stand
       ]
     ]
 
-    pub node_low : (f : PrefixValue) (v : V) → IsFork p.address at.address f → p.address < at.address → IsNode f ((p, v) ∷ []) es
-    node_low f v fork h =
+    pub node_low : (f : PrefixValue) (o : Option V) → IsFork p.address at.address f → p.address < at.address → IsNode f (own p o ++ []) es
+    node_low f o fork h =
         let w = fork_low p f at.address stands.is fork (ends_first h) in
         let u = fork_high at f p.address stands.is_at fork h in
         let a = u.longer in
@@ -93,12 +94,12 @@ module _ {V : Type 0} (at p : PrefixValue) (es : List (PrefixValue × V)) (stand
         let c = u.to in
         record {
           is = fork.is;
-          zeros = (w, tt);
+          zeros = every_both (Within f.address (middle f) f.len) (own p o) [] (alone (Within f.address (middle f) f.len) p o w) tt;
           ones = every (Under at) (Within (middle f) (past f) f.len) es (λ q k. let d = k.long in let e = k.from in let g = k.to in record { is = k.is; longer = omega arith; from = omega arith; to = omega arith }) stands.under;
         }
 
-    pub node_high : (f : PrefixValue) (v : V) → IsFork at.address p.address f → at.address < p.address → IsNode f es ((p, v) ∷ [])
-    node_high f v fork h =
+    pub node_high : (f : PrefixValue) (o : Option V) → IsFork at.address p.address f → at.address < p.address → IsNode f es (own p o ++ [])
+    node_high f o fork h =
         let w = fork_high p f at.address stands.is fork h in
         let u = fork_low at f p.address stands.is_at fork (ends_later h) in
         let a = u.longer in
@@ -107,7 +108,7 @@ module _ {V : Type 0} (at p : PrefixValue) (es : List (PrefixValue × V)) (stand
         record {
           is = fork.is;
           zeros = every (Under at) (Within f.address (middle f) f.len) es (λ q k. let d = k.long in let e = k.from in let g = k.to in record { is = k.is; longer = omega arith; from = omega arith; to = omega arith }) stands.under;
-          ones = (w, tt);
+          ones = every_both (Within (middle f) (past f) f.len) (own p o) [] (alone (Within (middle f) (past f) f.len) p o w) tt;
         }
 
     pub entries_low : (v : V) → p.address < at.address → (p, v) ∷ es ≡ put prefix_cmp p v es

@@ -1,5 +1,5 @@
 -- What a trie has, and how its prefixes stand in it.
-use Rattle.std.specs.Prelude.{◌≡◌, ℕ, ◌+◌, ◌≤◌, List, [], ◌∷◌, ◌++◌, Option, Some, None, Result, Ok, Err}
+use Rattle.std.specs.Prelude.{◌≡◌, Bool, true, false, ℕ, ◌+◌, ◌≤◌, List, [], ◌∷◌, ◌++◌, Option, Some, None, Result, Ok, Err}
 use Rattle.std.specs.FinMap.{find, put}
 use Rattle.bgp_types.specs.Tables.{prefix_cmp}
 use Rattle.std.specs.List.{AllByRecursion}
@@ -54,3 +54,8 @@ pub record IsRefused {V : Type 0} (p : PrefixValue) (value back : V) (es fs : Li
 abbrev pub PutResult : {V : Type 0} → Result (Option V) V → PrefixValue → V → List (PrefixValue × V) → List (PrefixValue × V) → ℕ → ℕ → Type 0
 PutResult (Ok back) p value es fs n m = IsPut p value back es fs n m
 PutResult (Err back) p value es fs n m = IsRefused p value back es fs n m
+
+-- the answer to a set whose value stood in a slot: what is left there, or, where there was no memory, the value
+abbrev pub answer : {V : Type 0} → Bool → V → Option V → Result (Option V) V
+answer true value left = Ok left
+answer false value left = Err value

@@ -2,7 +2,7 @@
 //! branches: those whose next bit is 0, and those whose next bit is 1. A node without a value is there
 //! for its two branches alone.
 
-ghost use Rattle.std.specs.Prelude.{◌+◌, ◌-◌, ◌<◌, ◌≤◌, ◌≡◌, ℕ, not, nat_lt, option_copied, map, length, ◌++◌, if◌then◌else◌, IsOk, IsSome, IfSome, IfNone, IsTrue, OnSome, OnOk, OnErr, ◌/◌, ◌^◌, ◌↔◌};
+ghost use Rattle.std.specs.Prelude.{Some, None, false, [], ◌+◌, ◌-◌, ◌<◌, ◌≤◌, ◌≡◌, ℕ, not, nat_lt, option_copied, map, length, ◌++◌, if◌then◌else◌, IsOk, IsSome, IfSome, IfNone, IsTrue, OnSome, OnOk, OnErr, ◌/◌, ◌^◌, ◌↔◌};
 ghost use Rattle.std.specs.FinMap as table;
 ghost use Rattle.std.specs.FinMap.Entries.{where_key};
 ghost use Rattle.std.specs.Ordering.{eq_by_cmp};
@@ -10,7 +10,7 @@ ghost use Rattle.bgp_types.specs.Tables.{prefix_cmp, first_above};
 ghost use Rattle.bgp_types.specs.Prefixes.{IsPrefix, Covers};
 ghost use Rattle.prefix_trie.specs.Halves.{middle, past, IsFork};
 ghost use Rattle.prefix_trie.specs.Longest.{LongestOf};
-ghost use Rattle.prefix_trie.specs.Nodes.{entries, own, IsApart, IsNode, IsTrie, PutResult};
+ghost use Rattle.prefix_trie.specs.Nodes.{answer, entries, own, IsApart, IsNode, IsTrie, PutResult};
 
 use bgp_types::{NoMemory, Prefix, PrefixList};
 use std::alloc::Global;
@@ -239,29 +239,71 @@ pub fn put<V: Drop>(
     ensures trie { IsTrie tree.new }
     ensures put { PutResult result prefix value (entries tree.old) (entries tree.new) (length spares.old.items) (length spares.new.items) }
 {
+    let mut slot = Some(value);
+    if exchange(alloc, tree, spares, prefix, &mut slot) {
+        return Ok(slot);
+    }
+    match slot {
+        Some(value) => Err(value),
+        None => unreachable!(),
+    }
+}
+
+/// Gives a prefix the value of a slot, leaves there the value that it had, and answers whether there was memory. On the way down no value
+/// moves.
+fn exchange<V: Drop>(
+    alloc: Global,
+    tree: &mut Tree<V>,
+    spares: &mut Spares<V>,
+    prefix: Prefix,
+    slot: &mut Option<V>,
+) -> bool
+    requires trie { IsTrie tree.old }
+    requires sound { IsPrefix prefix }
+    ensures trie { (value : _) → slot.old ≡ Some value → IsTrie tree.new }
+    ensures put { (value : _) → slot.old ≡ Some value → PutResult (answer result value slot.new) prefix value (entries tree.old) (entries tree.new) (length spares.old.items) (length spares.new.items) }
+    ensures kept { result ≡ false → slot.new ≡ slot.old }
+{
     match tree {
-        Tree::Leaf => {
-            let Some(place) = spare(alloc, spares, prefix) else {
-                return Err(value);
-            };
-            *tree = forked(place, prefix, Some(value), Tree::Leaf, Tree::Leaf);
-            Ok(None)
-        }
+        Tree::Leaf => put_first(alloc, tree, spares, prefix, slot),
         Tree::Fork(node) => {
             let node: &mut Node<V> = node;
             if is_below(prefix, node.prefix) {
                 if is_first_half(prefix.address(), node.prefix) {
-                    return put(alloc, &mut node.zero, spares, prefix, value);
+                    return exchange(alloc, &mut node.zero, spares, prefix, slot);
                 }
-                return put(alloc, &mut node.one, spares, prefix, value);
+                return exchange(alloc, &mut node.one, spares, prefix, slot);
             }
             if node.prefix == prefix {
-                return Ok(node.value.replace(value));
+                mem::swap(&mut node.value, slot);
+                return true;
             }
             let at = node.prefix;
-            put_above(alloc, tree, spares, at, prefix, value)
+            put_above(alloc, tree, spares, at, prefix, slot)
         }
     }
+}
+
+/// The same where there is no prefix.
+fn put_first<V: Drop>(
+    alloc: Global,
+    tree: &mut Tree<V>,
+    spares: &mut Spares<V>,
+    prefix: Prefix,
+    slot: &mut Option<V>,
+) -> bool
+    requires trie { IsTrie tree.old }
+    requires none { entries tree.old ≡ [] }
+    requires sound { IsPrefix prefix }
+    ensures trie { IsTrie tree.new }
+    ensures put { (value : _) → slot.old ≡ Some value → PutResult (answer result value slot.new) prefix value (entries tree.old) (entries tree.new) (length spares.old.items) (length spares.new.items) }
+    ensures kept { result ≡ false → slot.new ≡ slot.old }
+{
+    let Some(place) = spare(alloc, spares, prefix) else {
+        return false;
+    };
+    *tree = forked(place, prefix, slot.take(), Tree::Leaf, Tree::Leaf);
+    true
 }
 
 /// The same where the prefix `at` covers all that there is, but not the other prefix.
@@ -271,26 +313,27 @@ fn put_above<V: Drop>(
     spares: &mut Spares<V>,
     at: Prefix,
     prefix: Prefix,
-    value: V,
-) -> Result<Option<V>, V>
+    slot: &mut Option<V>,
+) -> bool
     requires trie { IsTrie tree.old }
     requires apart { IsApart at prefix (entries tree.old) }
     ensures trie { IsTrie tree.new }
-    ensures put { PutResult result prefix value (entries tree.old) (entries tree.new) (length spares.old.items) (length spares.new.items) }
+    ensures put { (value : _) → slot.old ≡ Some value → PutResult (answer result value slot.new) prefix value (entries tree.old) (entries tree.new) (length spares.old.items) (length spares.new.items) }
+    ensures kept { result ≡ false → slot.new ≡ slot.old }
 {
     if !prefix.covers(&at) {
-        return put_beside(alloc, tree, spares, at, prefix, value);
+        return put_beside(alloc, tree, spares, at, prefix, slot);
     }
     let Some(place) = spare(alloc, spares, prefix) else {
-        return Err(value);
+        return false;
     };
     let below = mem::replace(tree, Tree::Leaf);
     if is_early(at.address(), prefix) {
-        *tree = forked(place, prefix, Some(value), below, Tree::Leaf);
-        return Ok(None);
+        *tree = forked(place, prefix, slot.take(), below, Tree::Leaf);
+        return true;
     }
-    *tree = forked(place, prefix, Some(value), Tree::Leaf, below);
-    Ok(None)
+    *tree = forked(place, prefix, slot.take(), Tree::Leaf, below);
+    true
 }
 
 /// The same where neither prefix covers the other.
@@ -300,30 +343,31 @@ fn put_beside<V: Drop>(
     spares: &mut Spares<V>,
     at: Prefix,
     prefix: Prefix,
-    value: V,
-) -> Result<Option<V>, V>
+    slot: &mut Option<V>,
+) -> bool
     requires trie { IsTrie tree.old }
     requires apart { IsApart at prefix (entries tree.old) }
     requires below { Covers prefix at → ⊥ }
     ensures trie { IsTrie tree.new }
-    ensures put { PutResult result prefix value (entries tree.old) (entries tree.new) (length spares.old.items) (length spares.new.items) }
+    ensures put { (value : _) → slot.old ≡ Some value → PutResult (answer result value slot.new) prefix value (entries tree.old) (entries tree.new) (length spares.old.items) (length spares.new.items) }
+    ensures kept { result ≡ false → slot.new ≡ slot.old }
 {
     let Some(place) = spare(alloc, spares, prefix) else {
-        return Err(value);
+        return false;
     };
     let Some(above) = spare(alloc, spares, prefix) else {
-        return Err(value);
+        return false;
     };
-    let beside = forked(place, prefix, Some(value), Tree::Leaf, Tree::Leaf);
+    let beside = forked(place, prefix, slot.take(), Tree::Leaf, Tree::Leaf);
     let below = mem::replace(tree, Tree::Leaf);
     if prefix.address() < at.address() {
         let fork = fork_of(prefix.address(), at.address());
         *tree = forked(above, fork, None, beside, below);
-        return Ok(None);
+        return true;
     }
     let fork = fork_of(at.address(), prefix.address());
     *tree = forked(above, fork, None, below, beside);
-    Ok(None)
+    true
 }
 
 /// A node over two branches, in the place of another.
@@ -357,30 +401,63 @@ pub fn take<V: Drop>(tree: &mut Tree<V>, spares: &mut Spares<V>, prefix: Prefix)
     ensures entries { entries tree.new ≡ where_key prefix_cmp (λ other. not (eq_by_cmp prefix_cmp prefix other)) (entries tree.old) }
     ensures kept { length spares.old.items ≤ length spares.new.items }
 {
+    let mut slot = None;
+    take_out(tree, spares, prefix, &mut slot);
+    slot
+}
+
+/// Takes a prefix out, and its value into an empty slot. On the way no value moves.
+fn take_out<V: Drop>(
+    tree: &mut Tree<V>,
+    spares: &mut Spares<V>,
+    prefix: Prefix,
+    slot: &mut Option<V>,
+)
+    requires trie { IsTrie tree.old }
+    requires empty { slot.old ≡ None }
+    ensures trie { IsTrie tree.new }
+    ensures taken { slot.new ≡ table.find prefix_cmp prefix (entries tree.old) }
+    ensures entries { entries tree.new ≡ where_key prefix_cmp (λ other. not (eq_by_cmp prefix_cmp prefix other)) (entries tree.old) }
+    ensures kept { length spares.old.items ≤ length spares.new.items }
+{
     let Tree::Fork(node) = tree else {
-        return None;
+        return;
     };
     let node: &mut Node<V> = node;
     if node.prefix.len() >= prefix.len() {
         if node.prefix == prefix {
-            let here = node.value.take();
+            mem::swap(&mut node.value, slot);
             tidy(tree, spares);
-            return here;
         }
-        return None;
+        return;
     }
     if is_early(prefix.address(), node.prefix) {
-        let early = take(&mut node.zero, spares, prefix);
+        take_out(&mut node.zero, spares, prefix, slot);
         tidy(tree, spares);
-        return early;
+        return;
     }
-    let late = take(&mut node.one, spares, prefix);
+    take_out(&mut node.one, spares, prefix, slot);
     tidy(tree, spares);
-    late
 }
 
 /// Takes a node out that has neither a value nor two branches.
 fn tidy<V: Drop>(tree: &mut Tree<V>, spares: &mut Spares<V>)
+    requires { IsTrie tree.old }
+    ensures trie { IsTrie tree.new }
+    ensures entries { entries tree.new ≡ entries tree.old }
+    ensures kept { length spares.old.items ≤ length spares.new.items }
+{
+    let Tree::Fork(node) = tree else {
+        return;
+    };
+    let node: &mut Node<V> = node;
+    if matches!(node.zero, Tree::Leaf) || matches!(node.one, Tree::Leaf) {
+        lift(tree, spares);
+    }
+}
+
+/// Puts the one branch of a node without a value in its place.
+fn lift<V: Drop>(tree: &mut Tree<V>, spares: &mut Spares<V>)
     requires { IsTrie tree.old }
     ensures trie { IsTrie tree.new }
     ensures entries { entries tree.new ≡ entries tree.old }
