@@ -122,15 +122,15 @@ pub fn first<V>(tree: &Tree<V>) -> Option<Prefix>
 pub fn list<V>(tree: &Tree<V>, prefixes: &mut PrefixList) -> Result<(), NoMemory>
     ensures { OnOk result (prefixes.new ≡ prefixes.old ++ map (λ e. e.0) (entries tree.now)) }
 {
-    let Tree::Fork(node) = tree else {
-        return Ok(());
-    };
-    let node: &Node<V> = node;
-    if node.value.is_some() {
-        prefixes.push(node.prefix)?;
+    if let Tree::Fork(node) = tree {
+        let node: &Node<V> = node;
+        if node.value.is_some() {
+            prefixes.push(node.prefix)?;
+        }
+        list(&node.zero, prefixes)?;
+        list(&node.one, prefixes)?;
     }
-    list(&node.zero, prefixes)?;
-    list(&node.one, prefixes)
+    Ok(())
 }
 
 /// The least prefix above another.
