@@ -441,6 +441,7 @@ fn take_out<V: Drop>(
 }
 
 /// Takes a node out that has neither a value nor two branches.
+#[inline]
 fn tidy<V: Drop>(tree: &mut Tree<V>, spares: &mut Spares<V>)
     requires { IsTrie tree.old }
     ensures trie { IsTrie tree.new }
@@ -457,6 +458,7 @@ fn tidy<V: Drop>(tree: &mut Tree<V>, spares: &mut Spares<V>)
 }
 
 /// Puts the one branch of a node without a value in its place.
+#[inline(never)]
 fn lift<V: Drop>(tree: &mut Tree<V>, spares: &mut Spares<V>)
     requires { IsTrie tree.old }
     ensures trie { IsTrie tree.new }
