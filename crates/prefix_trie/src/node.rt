@@ -10,6 +10,7 @@ ghost use Rattle.bgp_types.specs.Tables.{prefix_cmp, first_above};
 ghost use Rattle.bgp_types.specs.Prefixes.{IsPrefix, Covers};
 ghost use Rattle.prefix_trie.specs.Halves.{middle, past, IsFork};
 ghost use Rattle.prefix_trie.specs.Longest.{LongestOf};
+ghost use Rattle.prefix_trie.specs.declared.node.Tree.TheVariants.{Leaf};
 ghost use Rattle.prefix_trie.specs.Nodes.{answer, entries, own, IsApart, IsNode, IsTrie, PutResult};
 
 use bgp_types::{NoMemory, Prefix, PrefixList};
@@ -479,6 +480,20 @@ fn lift<V: Drop>(tree: &mut Tree<V>, spares: &mut Spares<V>)
     if matches!(node.one, Tree::Leaf) {
         let branch = mem::replace(&mut node.zero, Tree::Leaf);
         keep(mem::replace(tree, branch), spares);
+    }
+}
+
+/// Takes all prefixes out, and keeps their nodes for later.
+pub fn clear<V: Drop>(tree: &mut Tree<V>, spares: &mut Spares<V>)
+    ensures none { tree.new ≡ Leaf }
+    ensures kept { length spares.old.items ≤ length spares.new.items }
+{
+    if let Tree::Fork(node) = tree {
+        let node: &mut Node<V> = node;
+        clear(&mut node.zero, spares);
+        clear(&mut node.one, spares);
+        node.value = None;
+        keep(mem::replace(tree, Tree::Leaf), spares);
     }
 }
 

@@ -7,7 +7,7 @@ ghost use Rattle.bgp_types.specs.Tables.{prefix_cmp, first_above};
 ghost use Rattle.prefix_trie.specs.Longest.{LongestOf};
 
 use crate::node::{
-    Node, Spares, Tree, find, first, list, longest, make_places, next, put, reserve, take,
+    Node, Spares, Tree, clear, find, first, list, longest, make_places, next, put, reserve, take,
 };
 use bgp_types::{Items, NoMemory, Prefix, PrefixList, SpareTable, Table};
 use std::alloc::Global;
@@ -77,6 +77,15 @@ impl<V: Drop> TrieTable<V> {
         let mut prefixes = Items::from_vec(Vec::with_capacity(self.alloc, self.len)?);
         list(&self.root, &mut prefixes)?;
         Ok(prefixes)
+    }
+
+    /// Takes all prefixes out, and keeps their nodes as `remove` does. It asks for no memory.
+    pub fn clear(&mut self)
+        ensures contents { self.new.contents ≡ map.empty }
+        ensures room { self.old.room ≤ self.new.room }
+    {
+        clear(&mut self.root, &mut self.spares);
+        self.len = 0;
     }
 }
 

@@ -107,4 +107,13 @@ impl DueSets {
     {
         self.sets[n] = set;
     }
+
+    /// Nothing is due any more. It asks for no memory.
+    pub(crate) fn clear(&mut self, n: usize)
+        requires { n < length self.old }
+        ensures length { length self.new ≡ length self.old }
+        ensures cleared { table_at self.new ≡ at (table_at self.old) n map.empty }
+    {
+        self.sets[n].clear();
+    }
 }

@@ -15,7 +15,6 @@ use bgp_session::{Capsule, Session};
 use graft_actors::{note, note_sent};
 use graft_edge::NoMemory;
 use graft_steps::{GraftIds, Item, Ordered, Outcome, Refusal};
-use prefix_trie::TrieTable;
 use ring_net::Post;
 use std::mem;
 
@@ -112,7 +111,7 @@ fn begin_graft_at(
         }
         Begun::Left(ids, capsule) => {
             let graft = ids.graft;
-            router.due_out.put(n, TrieTable::new(router.alloc));
+            router.due_out.clear(n);
             note(post, FREEZE, graft, 0, 0)?;
             let moved = Item::Moved { graft, capsule };
             note_sent(post, LEAVE, graft, 0, 0, usize::from(ids.target.0), moved)

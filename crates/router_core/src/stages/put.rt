@@ -24,7 +24,6 @@ use bgp_types::{Message, Prefix, SessionState, TryCopy, Update, message_len};
 use graft_actors::note;
 use graft_edge::{NoMemory, PeeringId};
 use graft_steps::Item;
-use prefix_trie::TrieTable;
 use rib_stages::OutView;
 use ring_net::Post;
 use std::alloc::Global;
@@ -140,7 +139,7 @@ fn put_nothing(
     if router.due_out.next_after(n, None).is_none() {
         return Ok(());
     }
-    router.due_out.put(n, TrieTable::new(router.alloc));
+    router.due_out.clear(n);
     note(post, PUT, n as u32, 0, 0)
 }
 

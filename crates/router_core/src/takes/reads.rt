@@ -18,7 +18,6 @@ use bgp_types::{Prefix, Table};
 use graft_actors::note;
 use graft_edge::{NoMemory, PeeringId};
 use graft_steps::Item;
-use prefix_trie::TrieTable;
 use ring_net::Post;
 
 /// The kind of the event.
@@ -65,7 +64,7 @@ pub(crate) fn follow(
         }
         ReadStep::Changed(prefixes) => enter_at(router, place, prefixes.as_slice()),
         ReadStep::Closed(prefixes) => {
-            router.due_out.put(place, TrieTable::new(router.alloc));
+            router.due_out.clear(place);
             enter_at(router, place, prefixes.as_slice())
         }
     }

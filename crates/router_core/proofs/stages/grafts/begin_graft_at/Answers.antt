@@ -26,7 +26,7 @@ returns-in-Refused-clause-visits c = on_ok_weaker c.note_sent.result
 pub returns-in_ok-note-in-Left-clause-visits : goal.returns-in_ok-note-in-Left-clause-visits
 returns-in_ok-note-in-Left-clause-visits c = on_ok_weaker c.note_sent-in-Left.result
     (λ wrote. begins_left c.args.router.now _ c.args.post.now c.note_sent-in-Left.new.post c.args.n c.begin_graft.new.place c.requires.keeps c.requires.place c.note.new.post refl refl
-    (c.put.ensures.put ∙ ap (at (table_at c.args.router.now.due_out) c.args.n) c.new.ensures.contents) c.put.ensures.length c.in-Left.ids c.in-Left.capsule c.in_ok-note-in-Left.ensures.ok
+    c.clear.ensures.cleared c.clear.ensures.length c.in-Left.ids c.in-Left.capsule c.in_ok-note-in-Left.ensures.ok
     (subst (λ (n : ℕ). WroteOne c.note.new.post 12 c.in-Left.ids.graft 0 0 ((n, items.Moved c.in-Left.ids.graft c.in-Left.capsule) ∷ []) c.note_sent-in-Left.new.post) c.from.ensures wrote)
     c.index_mut.result.now (place_read c.args.router.now.places.items c.args.n c.index_mut.result.now c.requires.place c.index_mut.ensures.value)
     (subst (λ (b : Begun). BegunAs c.index_mut.result.now b c.begin_graft.new.place) c.in-Left.is c.begin_graft.ensures)) c.note_sent-in-Left.ensures.ok

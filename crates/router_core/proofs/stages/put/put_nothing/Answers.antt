@@ -1,6 +1,5 @@
-use Rattle.std.proofs.Common.{refl, sym, ap, ◌∙◌}
+use Rattle.std.proofs.Common.{refl, sym, ◌∙◌}
 use Rattle.std.proofs.lemmas.Result.{on_ok_weaker}
-use Rattle.session_value.specs.Points.{at}
 use Rattle.rib_stages.specs.Values.{table_at}
 use Rattle.router_core.proofs.PutPlaces.{none_of, some_due, puts_idle, puts_nothing}
 use Rattle.router_core.proofs.stages.put.put_nothing.Goals as goal
@@ -13,6 +12,6 @@ returns-clause-puts c =
     let f = c.args.router.now in
     let due = some_due (table_at f.due_out c.args.n) c.next_after.result c.is_none.result c.next_after.ensures c.is_none.ensures c.if-is_none.false in
     on_ok_weaker c.note.result
-    (λ wrote. puts_nothing f (record f { due_out = c.put.new.self }) c.args.post.now c.note.new.post c.args.n c.requires.keeps c.requires.clean due.0 due.1
-    (c.put.ensures.put ∙ ap (at (table_at f.due_out) c.args.n) c.new.ensures.contents) c.put.ensures.length refl wrote c.requires.planned)
+    (λ wrote. puts_nothing f (record f { due_out = c.clear.new.self }) c.args.post.now c.note.new.post c.args.n c.requires.keeps c.requires.clean due.0 due.1
+    c.clear.ensures.cleared c.clear.ensures.length refl wrote c.requires.planned)
     c.note.ensures.ok

@@ -1,4 +1,5 @@
 use Rattle.std.proofs.Common.{◌≡◌, ℕ, List, length, sym, refl, ap, subst, ◌∙◌}
+use Rattle.std.specs.FinMap as map
 use Rattle.bgp_types.specs.Prefixes.{PrefixValue}
 use Rattle.bgp_session.specs.declared.answers.ReadStep.{ReadStep}
 use Rattle.bgp_session.specs.declared.answers.ReadStep.TheVariants as steps
@@ -29,14 +30,14 @@ returns-in-Changed c = λ s o live own.
 
 pub returns-in-Closed : goal.returns-in-Closed
 returns-in-Closed c = λ s o live own.
-    let mid : Fields = record c.args.router.now { due_out = c.put-in-Closed.new.self } in
+    let mid : Fields = record c.args.router.now { due_out = c.clear.new.self } in
     let g : Fields = c.enter_at-in-Closed.new.router in
     both_ok c.enter_at-in-Closed.result c.enter_at-in-Closed.ensures.same (c.enter_at-in-Closed.ensures.entered s o (subst (λ (n : ℕ). RunsAt c.args.router.now.places.items n s o) (sym c.from-place.ensures) live))
     (λ same entered. subst (λ (st : ReadStep). FollowsStep c.args.router.now c.args.peering.0 s st g) (sym c.in-Closed.is)
-    (follows_due c.args.router.now g c.args.peering.0 s (steps.Closed c.in-Closed.prefixes) c.new.result.contents
+    (follows_due c.args.router.now g c.args.peering.0 s (steps.Closed c.in-Closed.prefixes) map.empty
     (subst (λ (h : Fields). h ≡ record c.args.router.now { rib = h.rib; due_out = h.due_out }) (sym same) refl)
     (subst (λ (n : ℕ). EntersAll (rib_of c.args.router.now.rib) n (entry_here c.args.router.now.home_as c.args.router.now.policies s.session) c.in-Closed.prefixes (rib_of g.rib)) own
     (subst (λ (ks : List PrefixValue). EntersAll (rib_of c.args.router.now.rib) s.session.config.peering.0 (entry_here c.args.router.now.home_as c.args.router.now.policies s.session) ks (rib_of g.rib)) c.as_slice-in-Closed.ensures entered))
-    (ap (λ (h : Fields). length h.due_out) same ∙ c.put-in-Closed.ensures.length)
-    (ap (λ (h : Fields). table_at h.due_out) same ∙ c.put-in-Closed.ensures.put ∙ ap (λ (n : ℕ). at (table_at c.args.router.now.due_out) n c.new.result.contents) c.from-place.ensures)
-    c.new.ensures.contents))
+    (ap (λ (h : Fields). length h.due_out) same ∙ c.clear.ensures.length)
+    (ap (λ (h : Fields). table_at h.due_out) same ∙ c.clear.ensures.cleared ∙ ap (λ (n : ℕ). at (table_at c.args.router.now.due_out) n map.empty) c.from-place.ensures)
+    refl))
