@@ -86,6 +86,13 @@ impl AdjRib {
         self.routes.next_after(prefix)
     }
 
+    /// The prefixes that have routes, in rising order. It visits each of them once, and asks for memory once.
+    pub fn prefixes(&self) -> Result<PrefixList, NoMemory>
+        ensures { IfOk result (λ prefixes. prefixes ≡ map.keys self.now) }
+    {
+        self.routes.prefixes()
+    }
+
     /// How many routes there are.
     pub fn len(&self) -> usize
         ensures { result ≡ map.len self.now }

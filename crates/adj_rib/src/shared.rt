@@ -5,7 +5,7 @@ ghost use Rattle.std.specs.Arc.{arc_value};
 ghost use Rattle.std.specs.FinMap as map;
 ghost use Rattle.bgp_types.specs.Tables.{first_above};
 
-use bgp_types::{Attrs, NoMemory, Prefix, Table};
+use bgp_types::{Attrs, NoMemory, Prefix, PrefixList, Table};
 use prefix_trie::TrieTable;
 use std::alloc::Global;
 use std::marker::Model;
@@ -86,6 +86,13 @@ impl SharedRoutes {
         ensures { result ≡ first_above prefix (map.keys self.now) }
     {
         self.trie.next_after(prefix)
+    }
+
+    /// The prefixes that have routes, in rising order.
+    pub fn prefixes(&self) -> Result<PrefixList, NoMemory>
+        ensures { IfOk result (λ prefixes. prefixes ≡ map.keys self.now) }
+    {
+        self.trie.prefixes()
     }
 
     /// How many routes there are.

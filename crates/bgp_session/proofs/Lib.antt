@@ -8,5 +8,4 @@ pub mod Offered
 pub mod Exchanged
 pub mod Arrivals
 pub mod Fronts
-pub mod Listed
 pub mod Begun

@@ -8,7 +8,6 @@ mod moving;
 mod offer;
 mod parts;
 mod read;
-mod routes;
 mod segments;
 mod session;
 mod tick;

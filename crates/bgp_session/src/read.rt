@@ -19,7 +19,6 @@ ghost use Rattle.bgp_session.specs.Inner.{AtFront, Keeps, running, value_of, rea
 
 use crate::answers::ReadStep;
 use crate::parts::{Opened, Parts, written};
-use crate::routes::prefixes_of;
 use bgp_frame::first_frame;
 use bgp_story::Line;
 use bgp_types::{
@@ -137,7 +136,7 @@ impl Parts {
         ensures step { IfOk result (λ step. ReadsFrame step (running self.old) (running self.new)) }
         ensures keeps { Keeps self.new }
     {
-        let heard = prefixes_of(self.alloc, &self.heard)?;
+        let heard = self.heard.prefixes()?;
         self.take_down(bytes, None)?;
         self.drop_routes();
         Ok(ReadStep::Closed(heard))
@@ -150,7 +149,7 @@ impl Parts {
         ensures step { IfOk result (λ step. ReadsFrame step (running self.old) (running self.new)) }
         ensures keeps { Keeps self.new }
     {
-        let heard = prefixes_of(self.alloc, &self.heard)?;
+        let heard = self.heard.prefixes()?;
         self.take_down(bytes, Some(Message::NoticeMsg(notice)))?;
         self.drop_routes();
         Ok(ReadStep::Closed(heard))

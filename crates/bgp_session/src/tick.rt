@@ -13,7 +13,6 @@ ghost use Rattle.bgp_session.specs.Inner.{AtRound, Keeps, round_reply, running, 
 
 use crate::answers::TickStep;
 use crate::parts::{Parts, written};
-use crate::routes::prefixes_of;
 use bgp_story::Line;
 use bgp_types::{Message, NoMemory, Notice, Octets, SessionState};
 use std::alloc::Global;
@@ -67,7 +66,7 @@ impl Parts {
         ensures step { IfOk result (λ step. Ticks step (running self.old) round (running self.new)) }
         ensures keeps { Keeps self.new }
     {
-        let heard = prefixes_of(self.alloc, &self.heard)?;
+        let heard = self.heard.prefixes()?;
         let notice = hold_over(self.alloc);
         self.pass_down(round, Some(Message::NoticeMsg(notice)))?;
         self.drop_routes();

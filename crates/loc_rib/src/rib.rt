@@ -5,7 +5,7 @@ ghost use Rattle.std.specs.FinMap as map;
 ghost use Rattle.bgp_types.specs.Tables.{first_above};
 ghost use Rattle.loc_rib.specs.Values.{with_best, AreApart};
 
-use bgp_types::{From, NoMemory, Prefix, Route, Table, TryCopy};
+use bgp_types::{From, NoMemory, Prefix, PrefixList, Route, Table, TryCopy};
 use prefix_trie::TrieTable;
 use route_policy::Best;
 use std::alloc::Global;
@@ -152,5 +152,12 @@ impl LocRib {
         ensures { result ≡ first_above prefix (map.keys self.now.best) }
     {
         self.best.next_after(prefix)
+    }
+
+    /// The prefixes with a best route, in rising order. It visits each of them once, and asks for memory once.
+    pub fn prefixes(&self) -> Result<PrefixList, NoMemory>
+        ensures { IfOk result (λ prefixes. prefixes ≡ map.keys self.now.best) }
+    {
+        self.best.prefixes()
     }
 }

@@ -17,7 +17,8 @@ use crate::config::{InEntry, RibConfig};
 use crate::ranks::{Groups, best_from, drop_rank, set_rank};
 use crate::sources::Sources;
 use bgp_types::{
-    Attrs, From, Items, NoMemory, Origin, PeeringId, Prefix, Rank, Route, RouterId, Table,
+    Attrs, From, Items, NoMemory, Origin, PeeringId, Prefix, PrefixList, Rank, Route, RouterId,
+    Table,
 };
 use loc_rib::LocRib;
 use prefix_trie::TrieTable;
@@ -492,6 +493,13 @@ impl Rib {
         ensures { result ≡ first_above after (map.keys self.now.best) }
     {
         self.loc.next_after(after)
+    }
+
+    /// The prefixes with a best route, in rising order. It visits each of them once, and asks for memory once.
+    pub fn best_prefixes(&self) -> Result<PrefixList, NoMemory>
+        ensures { IfOk result (λ prefixes. prefixes ≡ map.keys self.now.best) }
+    {
+        self.loc.prefixes()
     }
 
     /// The least prefix with a route from there that is above another, or the least of all.

@@ -8,6 +8,8 @@ pub mod Plans
 pub mod Fits
 pub mod Sound
 pub mod Walks
+pub mod Keys
+pub mod SoFar
 pub mod Told
 pub mod PlanLaws
 pub mod Others

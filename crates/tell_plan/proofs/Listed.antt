@@ -79,6 +79,15 @@ rising_apart [] ys y r = refl
 rising_apart (x ∷ xs) ys y r =
     neither_is (same_prefix y x) (list_any (same_prefix y) xs) (below_apart x y (further xs ys y x (sorted_head prefix_cmp x (xs ++ y ∷ ys) r))) (rising_apart xs ys y (sorted_tail prefix_cmp x (xs ++ y ∷ ys) r))
 
+-- and what stands before it is below it
+pub before_below : (xs ys : List PrefixValue) (y : PrefixValue) → IsStrictlySortedBy prefix_cmp (xs ++ y ∷ ys) → (x : PrefixValue) → list_any (same_prefix x) xs ≡ true → prefix_cmp x y ≡ Less
+before_below [] ys y r x e = absurd (false≢true e)
+before_below (z ∷ zs) ys y r x e =
+    elim (same_prefix x z) as (λ b. same_prefix x z ≡ b → (b || list_any (same_prefix x) zs) ≡ true → prefix_cmp x y ≡ Less) [
+      | true ↦ λ same f. subst (λ (w : PrefixValue). prefix_cmp w y ≡ Less) (sym (is_same x z same)) (further zs ys y z (sorted_head prefix_cmp z (zs ++ y ∷ ys) r))
+      | false ↦ λ same f. before_below zs ys y (sorted_tail prefix_cmp z (zs ++ y ∷ ys) r) x f
+    ] refl e
+
 each_push : {A : Type 0} (P : A → Type 0) (xs : List A) (x : A) → AllByRecursion P xs → P x → AllByRecursion P (xs ++ x ∷ [])
 each_push P [] x h p = (p, tt)
 each_push P (y ∷ ys) x h p = (h.0, each_push P ys x h.1 p)

@@ -8,6 +8,9 @@ use std::alloc::Global;
 use std::cmp::Ordering;
 use std::marker::Model;
 
+/// Room for the numbers of usual attributes: a path of seven ASes, and none of an unknown type.
+const USUAL: usize = 16;
+
 /// The numbers that spell what is told of a prefix. Equal values have equal numbers, and other values have others.
 #[derive(Drop)]
 pub(crate) struct Code {
@@ -197,6 +200,7 @@ pub(crate) fn code_of(alloc: Global, attrs: &Option<Attrs>) -> Result<Code, NoMe
 {
     let mut numbers = Vec::new(alloc);
     if let Some(attrs) = attrs {
+        numbers.reserve(USUAL)?;
         push_path(&mut numbers, &attrs.path)?;
         push_raws(&mut numbers, &attrs.unknown)?;
         push_head(&mut numbers, attrs)?;

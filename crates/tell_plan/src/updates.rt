@@ -10,7 +10,6 @@ ghost use Rattle.tell_plan.specs.Gathering.{AreSound, Gathers, Keeps};
 
 use crate::batch::Batch;
 use crate::gather::Gathered;
-use crate::walk::next_waiting;
 use adj_rib::AdjRib;
 use bgp_types::{Attrs, Items, NoMemory, Prefix};
 use prefix_trie::TrieTable;
@@ -53,7 +52,8 @@ fn gather(
 /// The UPDATEs by which a router tells on a session what is due, isn't to be decided again, and was told otherwise, in the session's width
 /// of AS numbers. Each tells as many prefixes as 4,096 octets hold, the first of those that are told the same as the least one that is left.
 ///
-/// It makes one copy of the best route to each prefix that waits, and for each a search among the values that are told.
+/// It visits each prefix that is due once, and makes one copy of the best route to each that waits, and for each a search among the values
+/// that are told.
 pub fn plan(
     alloc: Global,
     rib: &Rib,
@@ -65,11 +65,13 @@ pub fn plan(
     ensures planned { IfOk result (λ batches. IsPlan (IsToTell due.now.contents rib.now.dirty told.now (to_tell (rib_of rib.now) (out_side view.now))) (to_tell (rib_of rib.now) (out_side view.now)) wide batches) }
     ensures sound { IfOk result AreSound }
 {
+    let prefixes = due.prefixes()?;
     let mut gathered = Gathered::new(alloc, wide);
-    let mut last = None;
-    while let Some(prefix) = next_waiting(rib, due, last) {
-        gather(rib, told, view, prefix, &mut gathered)?;
-        last = Some(prefix);
+    for prefix in prefixes.iter() {
+        if rib.is_dirty(*prefix) {
+            continue;
+        }
+        gather(rib, told, view, *prefix, &mut gathered)?;
     }
     Ok(gathered.into_batches())
 }

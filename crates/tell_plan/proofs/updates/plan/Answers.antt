@@ -1,5 +1,6 @@
-use Rattle.std.proofs.Common.{List, sym, ◌∙◌, subst}
+use Rattle.std.proofs.Common.{◌≡◌, List, sym, ◌∙◌, subst}
 use Rattle.std.specs.FinMap as map
+use Rattle.bgp_types.specs.Prefixes.{PrefixValue}
 use Rattle.route_policy.specs.Telling.{out_side}
 use Rattle.rib_stages.specs.Values.{rib_of}
 use Rattle.tell_plan.specs.declared.batch.Batch.{Batch}
@@ -7,23 +8,36 @@ use Rattle.tell_plan.specs.Gathering.{Gathers}
 use Rattle.tell_plan.specs.Plans.{IsPlan}
 use Rattle.tell_plan.specs.ToTell.{IsToTell, to_tell}
 use Rattle.tell_plan.proofs.Fits.{fits_one}
-use Rattle.tell_plan.proofs.Walks.{plan_then, plan_ends}
+use Rattle.tell_plan.proofs.SoFar.{plan_passes, plan_then, plan_ends}
 use Rattle.tell_plan.proofs.updates.plan.Goals as goal
+
+pub loop-prefix-preserved-then-is_dirty : goal.loop-prefix-preserved-then-is_dirty
+loop-prefix-preserved-then-is_dirty c =
+    let inv = c.loop-prefix.invariant in
+    record {
+      keeps = inv.keeps;
+      wide = inv.wide;
+      planned = plan_passes c.args.rib.now.dirty c.args.told.now (to_tell (rib_of c.args.rib.now) (out_side c.args.view.now)) c.args.wide c.deref-prefix-items.result.now c.loop-prefix.prefix-index c.prefix-item.result
+          c.loop-prefix-test.true c.prefix-item.is c.loop-prefix.gathered.batches.items (sym c.is_dirty.ensures ∙ c.if-is_dirty.true) inv.planned;
+      sound = inv.sound;
+    }
 
 pub loop-prefix-preserved : goal.loop-prefix-preserved
 loop-prefix-preserved c =
     let rib = rib_of c.args.rib.now in
     let tell = to_tell rib (out_side c.args.view.now) in
-    let p = c.in-Some.prefix in
+    let p = c.prefix-item.result in
     let inv = c.loop-prefix.invariant in
+    let old = c.loop-prefix.gathered.batches.items in
+    let new = c.gather.new.gathered.batches.items in
     let gathers = c.in_ok-gather.ensures.gathers in
     record {
       keeps = c.in_ok-gather.ensures.keeps;
       wide = c.in_ok-gather.ensures.wide ∙ inv.wide;
-      planned = plan_then c.args.due.now.contents c.args.rib.now.dirty c.args.told.now tell c.args.wide c.loop-prefix.last p c.in-Some.ensures.least
-          c.loop-prefix.gathered.batches.items c.gather.new.gathered.batches.items
+      planned = plan_then c.args.rib.now.dirty c.args.told.now tell c.args.wide c.deref-prefix-items.result.now c.loop-prefix.prefix-index p c.loop-prefix-test.true c.prefix-item.is
+          c.args.due.now.contents (c.deref-prefix-items.ensures ∙ c.in_ok-prefixes.ensures) old new (sym c.is_dirty.ensures ∙ c.if-is_dirty.false)
           (fits_one c.args.wide rib.config.home_as (out_side c.args.view.now) p (map.get rib.best p))
-          (subst (λ w. Gathers w (map.get c.args.told.now p) tell p c.loop-prefix.gathered.batches.items c.gather.new.gathered.batches.items) inv.wide gathers)
+          (subst (λ w. Gathers w (map.get c.args.told.now p) tell p old new) inv.wide gathers)
           inv.planned;
       sound = c.in_ok-gather.ensures.sound inv.sound;
     }
@@ -32,4 +46,5 @@ pub returns-clause-planned : goal.returns-clause-planned
 returns-clause-planned c =
     let tell = to_tell (rib_of c.args.rib.now) (out_side c.args.view.now) in
     subst (λ (l : List Batch). IsPlan (IsToTell c.args.due.now.contents c.args.rib.now.dirty c.args.told.now tell) tell c.args.wide l) (sym c.into_batches.ensures)
-    (plan_ends c.args.due.now.contents c.args.rib.now.dirty c.args.told.now tell c.args.wide c.loop-prefix.last c.loop-prefix.gathered.batches.items c.in_default.ensures.least c.loop-prefix.invariant.planned)
+    (plan_ends c.args.rib.now.dirty c.args.told.now tell c.args.wide c.args.due.now.contents c.deref-prefix-items.result.now (c.deref-prefix-items.ensures ∙ c.in_ok-prefixes.ensures)
+    c.loop-prefix.prefix-index c.loop-prefix-test.false c.loop-prefix.gathered.batches.items c.loop-prefix.invariant.planned)
