@@ -103,22 +103,37 @@ impl Gathered {
         Some(*place)
     }
 
+    /// An UPDATE has so many octets more. It asks for no memory.
+    fn count(&mut self, code: &Code, len: usize)
+        requires { (place : _) → get (slice_cmp nat_cmp) self.old.places code.now ≡ Some place → place.octets + len < 2 ^ 64 }
+        ensures others { self.new ≡ record self.old { places = self.new.places } }
+        ensures places { (place : _) → get (slice_cmp nat_cmp) self.old.places code.now ≡ Some place
+            → Updates (slice_cmp nat_cmp) self.old.places self.new.places code.now (Some (record place { octets = place.octets + len })) }
+    {
+        if let Some(place) = self.places.get_mut(code) {
+            place.octets += len;
+        }
+    }
+
     /// Adds a prefix to the UPDATE that tells its value.
-    fn join(&mut self, code: Code, place: Place, prefix: Prefix, len: usize) -> Result<(), NoMemory>
+    fn join(
+        &mut self,
+        code: &Code,
+        place: Place,
+        prefix: Prefix,
+        len: usize,
+    ) -> Result<(), NoMemory>
+        requires found { get (slice_cmp nat_cmp) self.old.places code.now ≡ Some place }
         requires number { place.number < length self.old.batches.items }
         requires room { place.octets + len ≤ 4096 }
         ensures wide { OnOk result (self.new.wide ≡ self.old.wide) }
         ensures batches { (before : _) (batch : _) (after : _) → self.old.batches.items ≡ before ++ batch ∷ after → length before ≡ place.number
             → OnOk result (self.new.batches.items ≡ before ++ with_prefix batch prefix ∷ after) }
-        ensures places { OnOk result (Updates (slice_cmp nat_cmp) self.old.places self.new.places code (Some (record place { octets = place.octets + len }))) }
+        ensures places { OnOk result (Updates (slice_cmp nat_cmp) self.old.places self.new.places code.now (Some (record place { octets = place.octets + len }))) }
     {
         let batch = &mut self.batches[place.number];
         batch.prefixes.push(prefix)?;
-        let grown = Place {
-            number: place.number,
-            octets: place.octets + len,
-        };
-        self.places.insert(code, grown)?;
+        self.count(code, len);
         Ok(())
     }
 
@@ -150,7 +165,7 @@ impl Gathered {
         let code = code_of(self.alloc, &attrs)?;
         let len = prefix_len(prefix);
         match self.room_for(&code, len) {
-            Some(place) => self.join(code, place, prefix, len),
+            Some(place) => self.join(&code, place, prefix, len),
             None => self.begin(code, prefix, attrs),
         }
     }
