@@ -20,10 +20,11 @@ pub enum PathPart {
 pub type AsPath = Items<PathPart>;
 
 impl TryCopy for PathPart {
+    // A sequence is copied to be told on, with one AS more in front.
     fn copy(&self) -> Result<PathPart, NoMemory> {
         match self {
             PathPart::Set(ases) => Ok(PathPart::Set(ases.copy()?)),
-            PathPart::Sequence(ases) => Ok(PathPart::Sequence(ases.copy()?)),
+            PathPart::Sequence(ases) => Ok(PathPart::Sequence(ases.with_room(1)?)),
         }
     }
 }

@@ -151,6 +151,16 @@ impl<T: Copy> Items<T> {
         })
     }
 
+    /// A copy with room for so many values more, so that the first of them that are added take no memory.
+    pub fn with_room(&self, more: usize) -> Result<Items<T>, NoMemory>
+        ensures { IfOk result (λ list. list ≡ self.now) }
+    {
+        let len = self.len().saturating_add(more);
+        let mut vec = Vec::with_capacity(*self.vec.allocator(), len)?;
+        vec.extend_from_slice(self.as_slice())?;
+        Ok(Items { vec })
+    }
+
     /// Adds a slice's values at the end.
     pub fn extend(&mut self, values: &[T]) -> Result<(), NoMemory>
         ensures ok { OnOk result (self.new ≡ self.old ++ values.now) }
