@@ -1,6 +1,6 @@
 //! Commands as they stand in lines.
 
-/// A command: `graftlab WORD.. < INPUT ! read N write N`. The input is a file or `N blanks`, and may be left out, as may what
+/// A command: `graftlab WORD.. < INPUT ! read N write N`. The input is a file or `N empty lines`, and may be left out, as may what
 /// fails: the calls, from 1, at which the source and the sink do. The word `*` stands for each of some counts of workers.
 #[derive(Clone, Copy)]
 pub struct Case<'a> {
@@ -43,9 +43,9 @@ impl<'a> Case<'a> {
         !self.is_by_each() && !self.words.contains(" drill ")
     }
 
-    /// Of how many blanks the input is, where it is no file.
-    pub fn blanks(&self) -> Option<u32> {
-        let number = self.input.strip_suffix(" blanks")?;
+    /// Of how many empty lines the input is, where it is no file.
+    pub fn empty_lines(&self) -> Option<u32> {
+        let number = self.input.strip_suffix(" empty lines")?;
         number.parse::<u32>().ok()
     }
 }

@@ -15,10 +15,10 @@ use std::rt::Files;
 use std::thread::Threads;
 use std::{fs, io};
 
-/// The text of a case's input: none, blanks, or a file.
+/// The text of a case's input: none, empty lines, or a file.
 fn input_of<R: Files + AllocGlobal>(rt: &R, case: &Case<'_>) -> Result<String> {
-    if let Some(blanks) = case.blanks() {
-        return Ok(" ".repeat(rt.alloc(), blanks as usize)?);
+    if let Some(lines) = case.empty_lines() {
+        return Ok("\n".repeat(rt.alloc(), lines as usize)?);
     }
     match case.input {
         "" => Ok(String::new(rt.alloc())),
