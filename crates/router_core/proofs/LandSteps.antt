@@ -24,6 +24,7 @@ use Rattle.graft_model.specs.Decisions.{entry_of, remote_identifier, session_rou
 use Rattle.graft_model.specs.GraftRows.{is_taken, taken_in, refusal_of}
 use Rattle.graft_model.specs.RouterRows.{BringsIn}
 use Rattle.graft_model.specs.Setups.{first_of, unknown}
+use Rattle.tell_plan.proofs.Keys.{keys_any}
 use Rattle.router_core.specs.Entering.{EntersAll, entry_here, missing_by, unknown_by}
 use Rattle.router_core.specs.Parts.{router_part, Keeps, HasNoEntry}
 use Rattle.router_core.specs.Places.{place_of, place_at, is_held, weight}
@@ -32,7 +33,6 @@ use Rattle.router_core.specs.declared.place.Place.{Place}
 use Rattle.router_core.specs.declared.place.Place.TheVariants.{Vacant, Live, Shadow}
 use Rattle.graft_actors.specs.Notes.{deed_of, WroteOne}
 use Rattle.router_core.proofs.Kept.{rest_of}
-use Rattle.router_core.proofs.PrefixSets.{keys_any}
 use Rattle.router_core.proofs.ReadSteps.{entry_is}
 
 -- ---- how many places are taken

@@ -23,7 +23,6 @@ pub mod PrefixSets
 pub mod PlaceTests
 pub mod ReadSteps
 pub mod ReadRows
-pub mod Listing
 pub mod FollowSteps
 pub mod SegmentSteps
 pub mod ReturnSteps

@@ -5,25 +5,12 @@ use Rattle.std.specs.List.{list_any}
 use Rattle.std.specs.Ordering.{eq_by_cmp}
 use Rattle.bgp_types.specs.Prefixes.{PrefixValue, same_prefix}
 use Rattle.bgp_types.specs.Tables.{prefix_cmp}
-use Rattle.bgp_types.proofs.OnceLaws.{same_itself, is_same}
-use Rattle.bgp_types.proofs.TableLaws.{tied}
 use Rattle.bgp_story.specs.Readings.{Routes}
 use Rattle.session_value.specs.Sets.{BestRoutes, Prefixes, has}
 use Rattle.rib_stages.proofs.Marks.{itself, has_inserted}
+use Rattle.tell_plan.proofs.Keys.{same_is, keys_any}
 use Rattle.router_core.specs.Reading.{AddsAll, IsDueAgain, IsDueBest}
 use Rattle.router_core.proofs.EnterSteps.{same_or_not, any_last, any_other}
-
-same_is : (p q : PrefixValue) → eq_by_cmp prefix_cmp p q ≡ same_prefix p q
-same_is p q = by_tests (eq_by_cmp prefix_cmp p q) (same_prefix p q) refl refl where
-  by_tests : (a b : Bool) → eq_by_cmp prefix_cmp p q ≡ a → same_prefix p q ≡ b → eq_by_cmp prefix_cmp p q ≡ same_prefix p q
-  by_tests true true e f = e ∙ sym f
-  by_tests false false e f = e ∙ sym f
-  by_tests true false e f = let g : true ≡ false = sym (same_itself p) ∙ (ap (same_prefix p) (tied p q e) ∙ f) in absurd (let x : ⊥ = cc in x)
-  by_tests false true e f = let g : true ≡ false = sym (itself p) ∙ (ap (eq_by_cmp prefix_cmp p) (is_same p q f) ∙ e) in absurd (let x : ⊥ = cc in x)
-
--- a prefix stands among the keys of a table exactly where it has a value
-pub keys_any : {A : Type 0} (t : map.FinMap prefix_cmp A) (x : PrefixValue) → list_any (same_prefix x) (map.keys t) ≡ is_some (map.get t x)
-keys_any t x = (λ i. list_any (λ y. sym (same_is x y) i) (map.keys t)) ∙ sym (map.contains_key-keys t x)
 
 pub adds_none : (a : Prefixes) → AddsAll a [] a
 adds_none a = record { members = λ x. or_false (has a x) } where

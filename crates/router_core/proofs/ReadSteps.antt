@@ -35,11 +35,11 @@ use Rattle.graft_model.specs.Setups.{rules_for}
 use Rattle.bgp_session.specs.Steps.{Tells}
 use Rattle.bgp_session.specs.declared.answers.ReadStep.{ReadStep}
 use Rattle.bgp_session.specs.declared.answers.ReadStep.TheVariants as steps
+use Rattle.tell_plan.proofs.Keys.{keys_any}
 use Rattle.router_core.specs.Entering.{entry_here, rules_by}
 use Rattle.router_core.specs.Parts.{IsDueWhileUp}
 use Rattle.router_core.specs.Reading.{KeepsRest, prefixes_in, DueBy}
 use Rattle.router_core.specs.declared.fields.Fields.{Fields}
-use Rattle.router_core.proofs.PrefixSets.{keys_any}
 
 -- ---- what a session brings in here
 

@@ -38,6 +38,7 @@ use Rattle.graft_model.specs.Steps.{RouterEvent}
 use Rattle.graft_model.specs.Steps as events
 use Rattle.graft_actors.specs.Emissions.{Tally}
 use Rattle.graft_actors.specs.Notes.{WroteOne}
+use Rattle.tell_plan.proofs.Keys.{keys_any}
 use Rattle.router_core.specs.Parts.{router_part, Keeps, KeepsPlace}
 use Rattle.router_core.specs.Places.{order_of, place_of, place_at, RunsAt}
 use Rattle.router_core.specs.Reading.{DueBy, FollowsStep, prefixes_in}
@@ -53,7 +54,6 @@ use Rattle.router_core.specs.declared.place.Place.TheVariants.{Vacant, Live, Sha
 use Rattle.router_core.proofs.Dids.{did_one}
 use Rattle.router_core.proofs.Kept.{at_is, places_at, rest_of, with_routes}
 use Rattle.router_core.proofs.PlaceSteps.{at_own}
-use Rattle.router_core.proofs.PrefixSets.{keys_any}
 use Rattle.router_core.proofs.ReadSteps.{entry_is}
 use Rattle.router_core.proofs.SendSteps.{some_none, visits_idle}
 use Rattle.router_core.proofs.Standing.{keeps_on, none_in}

@@ -7,7 +7,6 @@ pub mod Listed
 pub mod Plans
 pub mod Fits
 pub mod Sound
-pub mod Walks
 pub mod Keys
 pub mod SoFar
 pub mod Told

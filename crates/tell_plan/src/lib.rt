@@ -7,10 +7,8 @@ mod code;
 mod gather;
 mod laws;
 mod updates;
-mod walk;
 mod writable;
 
 pub use batch::Batch;
 pub use laws::{next_update_changes, next_update_is_one_way, rest_is_planned};
 pub use updates::plan;
-pub use walk::next_waiting;

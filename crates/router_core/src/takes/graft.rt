@@ -18,7 +18,7 @@ use crate::place::Place;
 use crate::takes::heard::enter;
 use crate::takes::kinds::{CLEAR, DROPPED, LAND, RETURN, TURN_BACK};
 use crate::takes::named::find_named;
-use crate::takes::prefixes::{due_again, prefixes_of};
+use crate::takes::prefixes::due_again;
 use crate::takes::reads::read_all;
 use bgp_session::{Capsule, Session};
 use bgp_types::{From, SessionState, TryCopy};
@@ -143,7 +143,7 @@ fn settle_in(router: &mut Fields, session: Session) -> Result<(), NoMemory>
     ensures { OnOk result (SettlesIn router.old session router.new) }
 {
     let place = usize::from(session.config().peering.0);
-    let prefixes = prefixes_of(router.alloc, session.heard())?;
+    let prefixes = session.heard().prefixes()?;
     enter(
         &mut router.rib,
         router.home_as,

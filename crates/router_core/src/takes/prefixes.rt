@@ -4,38 +4,11 @@ ghost use Rattle.std.specs.Prelude.{◌≡◌, IfOk, OnOk};
 ghost use Rattle.std.specs.FinMap as map;
 ghost use Rattle.router_core.specs.Reading.{AddsAll, IsDueAgain, IsDueBest};
 
-use adj_rib::AdjRib;
 use bgp_session::Session;
-use bgp_types::{Items, NoMemory, Prefix, PrefixList, Table};
+use bgp_types::{NoMemory, Prefix, Table};
 use prefix_trie::TrieTable;
 use rib_stages::Rib;
 use std::alloc::Global;
-
-/// The prefixes that have routes, in rising order.
-pub(crate) fn prefixes_of(alloc: Global, routes: &AdjRib) -> Result<PrefixList, NoMemory>
-    ensures { IfOk result (λ prefixes. prefixes ≡ map.keys routes.now) }
-{
-    let mut prefixes = Items::new(alloc);
-    let mut last = None;
-    while let Some(prefix) = routes.next_after(last) {
-        prefixes.push(prefix)?;
-        last = Some(prefix);
-    }
-    Ok(prefixes)
-}
-
-/// The prefixes that have a best route, in rising order.
-fn best_prefixes(alloc: Global, rib: &Rib) -> Result<PrefixList, NoMemory>
-    ensures { IfOk result (λ prefixes. prefixes ≡ map.keys rib.now.best) }
-{
-    let mut prefixes = Items::new(alloc);
-    let mut last = None;
-    while let Some(prefix) = rib.next_best(last) {
-        prefixes.push(prefix)?;
-        last = Some(prefix);
-    }
-    Ok(prefixes)
-}
 
 /// Puts a prefix into a set.
 fn insert(set: &mut TrieTable<()>, prefix: Prefix) -> Result<(), NoMemory>
@@ -62,7 +35,7 @@ pub(crate) fn all_best(alloc: Global, rib: &Rib) -> Result<TrieTable<()>, NoMemo
     ensures { IfOk result (λ set. IsDueBest rib.now.best set.contents) }
 {
     let mut set = TrieTable::new(alloc);
-    add_all(&mut set, best_prefixes(alloc, rib)?.as_slice())?;
+    add_all(&mut set, rib.best_prefixes()?.as_slice())?;
     Ok(set)
 }
 
@@ -75,6 +48,6 @@ pub(crate) fn due_again(
     ensures { IfOk result (λ set. IsDueAgain session.now.session.told rib.now.best set.contents) }
 {
     let mut set = all_best(alloc, rib)?;
-    add_all(&mut set, prefixes_of(alloc, session.told())?.as_slice())?;
+    add_all(&mut set, session.told().prefixes()?.as_slice())?;
     Ok(set)
 }
