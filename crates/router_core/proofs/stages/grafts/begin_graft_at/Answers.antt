@@ -1,10 +1,8 @@
-use Rattle.std.proofs.Common.{ℕ, [], ◌∷◌, refl, ap, subst, ◌∙◌}
+use Rattle.std.proofs.Common.{ℕ, [], ◌∷◌, refl, subst}
 use Rattle.std.proofs.lemmas.Result.{on_ok_weaker}
 use Rattle.graft_steps.specs.declared.item.Item.TheVariants as items
 use Rattle.graft_steps.specs.declared.refusal.Outcome.TheVariants as outcomes
 use Rattle.graft_actors.specs.Notes.{WroteOne}
-use Rattle.rib_stages.specs.Values.{table_at}
-use Rattle.graft_model.specs.Points.{at}
 use Rattle.router_core.specs.Leaving.{BegunAs}
 use Rattle.router_core.specs.declared.stages.grafts.Begun.{Begun}
 use Rattle.router_core.proofs.LeaveSteps.{begins_left, begins_nothing, begins_refused}
