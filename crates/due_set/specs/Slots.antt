@@ -1,0 +1,51 @@
+-- What a set of prefixes has that is kept in slots, and which of these are in it.
+use Rattle.std.specs.Prelude.{◌≡◌, ℕ, ◌≤◌, Bool, true, false, T, List, [], ◌∷◌, length, map as list_map, take, fold, Option, Some, None, if◌then◌else◌}
+use Rattle.std.specs.List.{filter}
+use Rattle.std.specs.Ordering.{is_lt}
+use Rattle.std.specs.FinMap as map
+use Rattle.std.specs.List.{AllByRecursion}
+use Rattle.bgp_types.specs.Prefixes.{PrefixValue}
+use Rattle.bgp_types.specs.Tables.{prefix_cmp}
+
+-- a set of prefixes
+abbrev pub PrefixSet : Type 0
+PrefixSet = map.FinMap prefix_cmp (Unit {0})
+
+-- a prefix, and whether it is in the set
+abbrev pub Slot : Type 0
+Slot = PrefixValue × Bool
+
+-- the set with what is in a slot
+abbrev pub with_slot : Slot → PrefixSet → PrefixSet
+with_slot (p, true) set = map.insert set p tt
+with_slot (p, false) set = set
+
+-- what is in the slots, and what is in a set beside them
+abbrev pub united : List Slot → PrefixSet → PrefixSet
+united [] beside = beside
+united (slot ∷ slots) beside = with_slot slot (united slots beside)
+
+-- The prefixes of the slots rise, and in none of the first ones is anything.
+pub record AreSlots (slots : List Slot) (start : ℕ) : Type 0 where
+  pub rise : T (map.is_sorted prefix_cmp slots)
+  pub start : start ≤ length slots
+  pub out : AllByRecursion (λ slot. slot.1 ≡ false) (take start slots)
+
+-- the prefixes that are in slots
+abbrev pub listed : List Slot → List PrefixValue
+listed slots = list_map (λ slot. slot.0) (filter (λ slot. slot.1) slots)
+
+-- the first of them
+abbrev pub first_in : List Slot → Option PrefixValue
+first_in [] = None
+first_in (slot ∷ slots) = if slot.1 then Some slot.0 else first_in slots
+
+-- the lesser of two prefixes, where there are any
+abbrev pub lesser_of : Option PrefixValue → Option PrefixValue → Option PrefixValue
+lesser_of None other = other
+lesser_of (Some one) None = Some one
+lesser_of (Some one) (Some other) = if is_lt (prefix_cmp other one) then Some other else Some one
+
+-- a set with prefixes beside those that are in it
+abbrev pub with_all : PrefixSet → List PrefixValue → PrefixSet
+with_all set prefixes = fold (λ s p. map.insert s p tt) set prefixes
