@@ -1,5 +1,5 @@
 -- How prefixes are gathered into UPDATEs, one by one.
-use Rattle.std.specs.Prelude.{◌≡◌, ◌≢◌, ◌≤◌, ◌<◌, ◌⊎◌, List, [], ◌∷◌, ◌++◌, length, Option, Some, None, Bool, All}
+use Rattle.std.specs.Prelude.{ℕ, ◌≡◌, ◌≢◌, ◌≤◌, ◌<◌, ◌⊎◌, List, [], ◌∷◌, ◌++◌, length, map, Option, Some, None, Bool, All}
 use Rattle.std.specs.BTreeMap.{get}
 use Rattle.std.specs.Cmp.Lexicographic.{slice_cmp}
 use Rattle.std.specs.Ordering.{nat_cmp}
@@ -7,7 +7,6 @@ use Rattle.bgp_types.specs.declared.attrs.Attrs.{Attrs}
 use Rattle.bgp_types.specs.Prefixes.{PrefixValue, IsPrefix}
 use Rattle.tell_plan.specs.declared.batch.Batch.{Batch}
 use Rattle.tell_plan.specs.declared.gather.Gathered.{Gathered}
-use Rattle.tell_plan.specs.declared.gather.Place.{Place}
 use Rattle.tell_plan.specs.Codes.{value_code}
 use Rattle.tell_plan.specs.Plans.{octets}
 
@@ -48,23 +47,26 @@ Gathers wide told to_tell prefix old new = ((told ≡ to_tell prefix) × (new �
 
 -- ---- how the UPDATEs that may be joined are found
 
--- where the last UPDATE that tells this stands, and how many octets it has
-pub record IsPlace (wide : Bool) (attrs : Option Attrs) (batches : List Batch) (place : Place) : Type 0 where
+-- where the last UPDATE that tells this stands
+pub record IsPlace (attrs : Option Attrs) (batches : List Batch) (number : ℕ) : Type 0 where
   pub before : List Batch
   pub batch : Batch
   pub after : List Batch
   pub there : LastThatTells attrs batches before batch after
-  pub number : place.number ≡ length before
-  pub counted : place.octets ≡ octets wide attrs batch.prefixes
-  pub fits : place.octets ≤ 4096
+  pub is_number : number ≡ length before
 
-abbrev pub PlaceFor : Bool → Option Attrs → List Batch → Option Place → Type 0
-PlaceFor wide attrs batches None = NoneTells attrs batches
-PlaceFor wide attrs batches (Some place) = IsPlace wide attrs batches place
+abbrev pub PlaceFor : Option Attrs → List Batch → Option ℕ → Type 0
+PlaceFor attrs batches None = NoneTells attrs batches
+PlaceFor attrs batches (Some number) = IsPlace attrs batches number
 
--- For each value that can be told, the last UPDATE that tells it is found by its code.
+-- how many octets the UPDATE has that tells a batch
+abbrev pub batch_octets : Bool → Batch → ℕ
+batch_octets wide batch = octets wide batch.attrs batch.prefixes
+
+-- For each value that can be told, the last UPDATE that tells it is found by its code. The octets of each UPDATE are counted.
 pub record Keeps (gathered : Gathered) : Type 0 where
-  pub found : (attrs : Option Attrs) → PlaceFor gathered.wide attrs gathered.batches.items (get (slice_cmp nat_cmp) gathered.places (value_code attrs))
+  pub found : (attrs : Option Attrs) → PlaceFor attrs gathered.batches.items (get (slice_cmp nat_cmp) gathered.places (value_code attrs))
+  pub counted : gathered.octets.items ≡ map (batch_octets gathered.wide) gathered.batches.items
 
 -- All prefixes of UPDATEs are prefixes.
 abbrev pub AreSound : List Batch → Type 0

@@ -1,6 +1,6 @@
 //! Prefixes that are told the same are gathered into UPDATEs.
 
-ghost use Rattle.std.specs.Prelude.{◌≡◌, ◌+◌, ◌-◌, ◌^◌, ◌≤◌, ◌<◌, ◌∷◌, ◌++◌, [], length, Some, None, OnOk, min};
+ghost use Rattle.std.specs.Prelude.{◌≡◌, ◌+◌, ◌-◌, ◌^◌, ◌≤◌, ◌<◌, ◌∷◌, ◌++◌, [], length, slice_index, slice_set, Some, None, OnOk, min};
 ghost use Rattle.std.specs.BTreeMap.{get, Updates};
 ghost use Rattle.std.specs.Cmp.Lexicographic.{slice_cmp};
 ghost use Rattle.std.specs.Ordering.{nat_cmp};
@@ -26,20 +26,16 @@ use std::collections::BTreeMap;
 /// The greatest number of octets in a message (RFC 4271, section 4.1).
 const LIMIT: usize = 4096;
 
-/// Where the last UPDATE that tells some value stands among all, and how many octets it has.
-#[derive(Clone, Copy, Debug)]
-pub(crate) struct Place {
-    number: usize,
-    octets: usize,
-}
-
 /// UPDATEs as they are gathered.
 #[derive(Drop)]
 pub(crate) struct Gathered {
     alloc: Global,
     wide: bool,
     batches: Vec<Batch>,
-    places: BTreeMap<Code, Place>,
+    /// How many octets each of them has.
+    octets: Vec<usize>,
+    /// Where the last one stands that tells the value of a code.
+    places: BTreeMap<Code, usize>,
 }
 
 /// How many octets a prefix is written in.
@@ -84,6 +80,7 @@ impl Gathered {
             alloc,
             wide,
             batches: Vec::new(alloc),
+            octets: Vec::new(alloc),
             places: BTreeMap::new(alloc),
         }
     }
@@ -96,49 +93,33 @@ impl Gathered {
     }
 
     /// Where the last UPDATE stands that tells the value of a code, if it holds so many octets more.
-    fn room_for(&self, code: &Code, len: usize) -> Option<Place>
-        requires { (place : _) → get (slice_cmp nat_cmp) self.now.places code.now ≡ Some place → place.octets + len < 2 ^ 64 }
-        ensures some { (place : _) → result ≡ Some place → (get (slice_cmp nat_cmp) self.now.places code.now ≡ Some place) × (place.octets + len ≤ 4096) }
-        ensures none { (place : _) → result ≡ None → get (slice_cmp nat_cmp) self.now.places code.now ≡ Some place → 4096 < place.octets + len }
+    fn room_for(&self, code: &Code, len: usize) -> Option<usize>
+        requires counted { (number : _) → get (slice_cmp nat_cmp) self.now.places code.now ≡ Some number → number < length self.now.octets.items }
+        requires len { len ≤ 4096 }
+        ensures some { (number : _) → result ≡ Some number → (get (slice_cmp nat_cmp) self.now.places code.now ≡ Some number) × (slice_index self.now.octets.items number + len ≤ 4096) }
+        ensures none { (number : _) → result ≡ None → get (slice_cmp nat_cmp) self.now.places code.now ≡ Some number → 4096 < slice_index self.now.octets.items number + len }
     {
-        let place = self.places.get(code)?;
-        if place.octets + len > LIMIT {
+        let number = *self.places.get(code)?;
+        if self.octets[number] > LIMIT - len {
             return None;
         }
-        Some(*place)
+        Some(number)
     }
 
-    /// An UPDATE has so many octets more. It asks for no memory.
-    fn count(&mut self, code: &Code, len: usize)
-        requires { (place : _) → get (slice_cmp nat_cmp) self.old.places code.now ≡ Some place → place.octets + len < 2 ^ 64 }
-        ensures others { self.new ≡ record self.old { places = self.new.places } }
-        ensures places { (place : _) → get (slice_cmp nat_cmp) self.old.places code.now ≡ Some place
-            → Updates (slice_cmp nat_cmp) self.old.places self.new.places code.now (Some (record place { octets = place.octets + len })) }
-    {
-        if let Some(place) = self.places.get_mut(code) {
-            place.octets += len;
-        }
-    }
-
-    /// Adds a prefix to the UPDATE that tells its value.
-    fn join(
-        &mut self,
-        code: &Code,
-        place: Place,
-        prefix: Prefix,
-        len: usize,
-    ) -> Result<(), NoMemory>
-        requires found { get (slice_cmp nat_cmp) self.old.places code.now ≡ Some place }
-        requires number { place.number < length self.old.batches.items }
-        requires room { place.octets + len ≤ 4096 }
+    /// Adds a prefix to an UPDATE.
+    fn join(&mut self, number: usize, prefix: Prefix, len: usize) -> Result<(), NoMemory>
+        requires number { number < length self.old.batches.items }
+        requires counted { number < length self.old.octets.items }
+        requires room { slice_index self.old.octets.items number + len ≤ 4096 }
         ensures wide { OnOk result (self.new.wide ≡ self.old.wide) }
-        ensures batches { (before : _) (batch : _) (after : _) → self.old.batches.items ≡ before ++ batch ∷ after → length before ≡ place.number
+        ensures batches { (before : _) (batch : _) (after : _) → self.old.batches.items ≡ before ++ batch ∷ after → length before ≡ number
             → OnOk result (self.new.batches.items ≡ before ++ with_prefix batch prefix ∷ after) }
-        ensures places { OnOk result (Updates (slice_cmp nat_cmp) self.old.places self.new.places code.now (Some (record place { octets = place.octets + len }))) }
+        ensures octets { OnOk result (self.new.octets.items ≡ slice_set self.old.octets.items number (slice_index self.old.octets.items number + len)) }
+        ensures places { OnOk result (self.new.places ≡ self.old.places) }
     {
-        let batch = &mut self.batches[place.number];
+        let batch = &mut self.batches[number];
         batch.prefixes.push(prefix)?;
-        self.count(code, len);
+        self.octets[number] += len;
         Ok(())
     }
 
@@ -147,13 +128,14 @@ impl Gathered {
         requires { octets_lem self.old.wide attrs (prefix ∷ []) ≤ 4096 }
         ensures wide { OnOk result (self.new.wide ≡ self.old.wide) }
         ensures batches { OnOk result (self.new.batches.items ≡ self.old.batches.items ++ record { attrs = attrs; prefixes = prefix ∷ [] } ∷ []) }
-        ensures places { OnOk result (Updates (slice_cmp nat_cmp) self.old.places self.new.places code (Some (record { number = length self.old.batches.items; octets = octets_lem self.old.wide attrs (prefix ∷ []) }))) }
+        ensures octets { OnOk result (self.new.octets.items ≡ self.old.octets.items ++ octets_lem self.old.wide attrs (prefix ∷ []) ∷ []) }
+        ensures places { OnOk result (Updates (slice_cmp nat_cmp) self.old.places self.new.places code (Some (length self.old.batches.items))) }
     {
         let prefixes = Items::one(self.alloc, prefix)?;
         let (batch, octets) = counted(self.alloc, Batch { attrs, prefixes }, self.wide);
-        let number = self.batches.len();
-        self.places.insert(code, Place { number, octets })?;
+        self.places.insert(code, self.batches.len())?;
         self.batches.push(batch)?;
+        self.octets.push(octets)?;
         Ok(())
     }
 
@@ -170,7 +152,7 @@ impl Gathered {
         let code = code_of(self.alloc, &attrs)?;
         let len = prefix_len(prefix);
         match self.room_for(&code, len) {
-            Some(place) => self.join(&code, place, prefix, len),
+            Some(number) => self.join(number, prefix, len),
             None => self.begin(code, prefix, attrs),
         }
     }
@@ -193,7 +175,7 @@ impl Gathered {
         let code = passed_code(self.alloc, attrs, rib.home_as(), view.local_address)?;
         let len = prefix_len(prefix);
         match self.room_for(&code, len) {
-            Some(place) => self.join(&code, place, prefix, len),
+            Some(number) => self.join(number, prefix, len),
             None => {
                 let told = rib.tell_out(prefix, view)?;
                 self.begin(code, prefix, told)

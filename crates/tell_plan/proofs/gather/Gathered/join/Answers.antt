@@ -3,7 +3,6 @@ use Rattle.std.specs.Prelude.{slice_set}
 use Rattle.std.proofs.lemmas.List.{get_or_at, set_at}
 use Rattle.bgp_types.specs.Prefixes.{PrefixValue}
 use Rattle.tell_plan.specs.declared.batch.Batch.{Batch}
-use Rattle.tell_plan.specs.declared.gather.Gathered.{Gathered}
 use Rattle.tell_plan.specs.Gathering.{with_prefix}
 use Rattle.tell_plan.proofs.gather.Gathered.join.Goals as goal
 
@@ -18,5 +17,4 @@ joined items before after batch lent n prefixes prefix is at lends pushed =
 
 pub returns-clause-batches : goal.returns-clause-batches
 returns-clause-batches c = λ before batch after is at.
-    ap (λ (x : Gathered). x.batches.items) c.count.ensures.others
-    ∙ joined c.args.self.now.batches.items before after batch c.index_mut-batch.result.now c.args.place.number c.push.new.self c.args.prefix is at c.index_mut-batch.ensures.value c.in_ok-push.ensures.ok
+    joined c.args.self.now.batches.items before after batch c.index_mut-batch.result.now c.args.number c.push.new.self c.args.prefix is at c.index_mut-batch.ensures.value c.in_ok-push.ensures.ok
