@@ -13,6 +13,7 @@ use Rattle.bgp_types.specs.Tables.{prefix_cmp, first_above}
 use Rattle.bgp_types.proofs.TableLaws.{prefix_total, exact_prefixes, rise_put, put_right, put_left}
 use Rattle.prefix_table.specs.Places.{AllBelow, AllAbove, IsPlace}
 use Rattle.prefix_table.proofs.Places.{put_at}
+use Rattle.prefix_trie.proofs.Nodes.{less_from_test}
 use Rattle.due_set.specs.Slots.{PrefixSet, Slot, with_slot, united, AreSlots, those_in, first_in, lesser_of}
 use Rattle.due_set.proofs.Sets.{behind}
 
@@ -98,17 +99,12 @@ slots_out slots start at p are place = record {
 
 -- ---- past all slots
 
-is_less : (o : Ordering) → is_lt o ≡ true → o ≡ Less
-is_less Less e = refl
-is_less Equal e = absurd cc
-is_less Greater e = absurd cc
-
 -- what is greater than the last is greater than each
 pub above_last : (slots : List Slot) (n : ℕ) (last : Slot) (p : PrefixValue) → T (map.is_sorted prefix_cmp slots) → suc n ≡ length slots → Some last ≡ slice_get slots n → is_lt (prefix_cmp last.0 p) ≡ true → AllBelow p slots
 above_last [] n last p rise len is less = tt
 above_last (slot ∷ []) zero last p rise len is less =
     let same : slot ≡ last = cc in
-    (prefix_total.antisymm p slot.0 ∙ ap ordering_reverse (ap (λ (e : Slot). prefix_cmp e.0 p) same ∙ is_less _ less), tt)
+    (prefix_total.antisymm p slot.0 ∙ ap ordering_reverse (ap (λ (e : Slot). prefix_cmp e.0 p) same ∙ less_from_test _ less), tt)
 above_last (slot ∷ []) (suc n) last p rise len is less = absurd (omega arith)
 above_last (slot ∷ next ∷ slots) zero last p rise len is less = absurd (omega arith)
 above_last (slot ∷ next ∷ slots) (suc n) last p rise len is less =
