@@ -1,6 +1,6 @@
 //! A set of prefixes that mostly come in rising order, are listed, and go.
 
-ghost use Rattle.std.specs.Prelude.{◌≡◌, ◌++◌, T, IsTrue, IfOk, IfErr, OnOk, OnErr, drop};
+ghost use Rattle.std.specs.Prelude.{◌≡◌, T, IsTrue, IfOk, OnOk, OnErr};
 ghost use Rattle.std.specs.FinMap as map;
 ghost use Rattle.bgp_types.specs.Tables.{prefix_cmp, first_above};
 ghost use Rattle.prefix_table.specs.Places.{AllBelow};
@@ -15,7 +15,8 @@ use std::marker::Model;
 /// A set of prefixes. Those that come in rising order stand in one list; a prefix that comes later than a greater one, and wasn't there, stands in a trie beside it.
 ///
 /// Where all come in rising order, each takes a constant time, and `remove` a search by halves. A list that `prefixes` gives takes a step for each, and `first` none beyond
-/// those by which a removal passes what is gone. For what stands in the trie, see `TrieTable`.
+/// those by which a removal passes what is gone. For what stands in the trie, see `TrieTable`. What is taken out of the list keeps its place there until the list has nothing
+/// that is in the set.
 #[derive(Drop)]
 pub struct DueSet {
     alloc: Global,
