@@ -443,6 +443,13 @@ impl Rib {
         Ok(changed)
     }
 
+    /// The AS number of the home network.
+    pub fn home_as(&self) -> u32
+        ensures { result ≡ self.now.config.home_as }
+    {
+        self.config.home_as
+    }
+
     /// The least dirty prefix.
     pub fn next_dirty(&self) -> Option<Prefix>
         ensures next { result ≡ first_above None (map.keys self.now.dirty) }

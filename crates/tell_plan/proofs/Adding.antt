@@ -1,5 +1,5 @@
 -- What a call leaves that adds a prefix.
-use Rattle.std.proofs.Common.{◌≡◌, ℕ, ◌+◌, ◌≤◌, ◌<◌, List, [], ◌∷◌, ◌++◌, length, Option, Some, sym, subst}
+use Rattle.std.proofs.Common.{◌≡◌, ℕ, ◌+◌, ◌^◌, ◌≤◌, ◌<◌, List, [], ◌∷◌, ◌++◌, length, Option, Some, sym, subst, arith}
 use Rattle.std.specs.Prelude.{Result, Ok, Err, OnOk}
 use Rattle.std.specs.BTreeMap.{get, Updates}
 use Rattle.std.specs.Cmp.Lexicographic.{slice_cmp}
@@ -13,6 +13,7 @@ use Rattle.tell_plan.specs.declared.gather.Place.{Place}
 use Rattle.tell_plan.specs.Codes.{value_code}
 use Rattle.tell_plan.specs.Gathering.{IsPlace, PlaceFor, Keeps, Adds, with_prefix}
 use Rattle.tell_plan.specs.Plans.{octets}
+use Rattle.tell_plan.proofs.Fits.{small}
 use Rattle.tell_plan.proofs.Places.{found, place_is, number_in, joins, keeps_joined, begins, keeps_begun}
 
 module _ (old : Gathered) (attrs : Option Attrs) (code : List ℕ) (keeps : Keeps old) (code_is : code ≡ value_code attrs) where
@@ -22,6 +23,12 @@ module _ (old : Gathered) (attrs : Option Attrs) (code : List ℕ) (keeps : Keep
 
     pub number : place.number < length old.batches.items
     number = number_in old.wide attrs old.batches.items place there
+
+    fits_word : (prefix : PrefixValue) (octets : ℕ) → octets ≤ 4096 → octets + prefix_size prefix < 2 ^ 64
+    fits_word prefix octets fits = let size = small prefix in omega arith
+
+    pub room : (prefix : PrefixValue) (len : ℕ) → len ≡ prefix_size prefix → place.octets + len < 2 ^ 64
+    room prefix len len_is = subst (λ n. place.octets + n < 2 ^ 64) (sym len_is) (fits_word prefix place.octets there.fits)
 
   module _ (new : Gathered) (prefix : PrefixValue) (len : ℕ) (len_is : len ≡ prefix_size prefix) where
     module _ (place : Place) (at : get (slice_cmp nat_cmp) old.places code ≡ Some place) (room : place.octets + len ≤ 4096) where

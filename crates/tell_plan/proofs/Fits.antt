@@ -15,7 +15,7 @@ use Rattle.route_policy.specs.Telling.{OutSide, tell_out, comes_from, exported, 
 use Rattle.session_value.specs.Cases.{update_for}
 use Rattle.tell_plan.specs.Plans.{octets}
 
-small : (p : PrefixValue) → prefix_size p ≤ 5
+pub small : (p : PrefixValue) → prefix_size p ≤ 5
 small p = omega (arith, length-take (octets_for p.len) (to_be_bytes w32 p.address))
 
 withdrawal : (wide : Bool) (prefix : PrefixValue) → octets wide None (prefix ∷ []) ≤ 4096

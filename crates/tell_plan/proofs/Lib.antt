@@ -12,3 +12,7 @@ pub mod SoFar
 pub mod Told
 pub mod PlanLaws
 pub mod Others
+pub mod Prepended
+pub mod Plain
+pub mod Passed
+pub mod Same

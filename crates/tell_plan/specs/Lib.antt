@@ -2,3 +2,4 @@ pub mod Plans
 pub mod ToTell
 pub mod Codes
 pub mod Gathering
+pub mod Passing

@@ -1,9 +1,12 @@
 //! Numbers that spell what is told, by which equal values are found.
 
-ghost use Rattle.std.specs.Prelude.{◌≡◌, ◌++◌, IfOk, OnOk};
+ghost use Rattle.std.specs.Prelude.{◌≡◌, ◌++◌, Some, IfOk, OnOk};
+ghost use Rattle.route_policy.specs.Paths.{prepend};
 ghost use Rattle.tell_plan.specs.Codes.{listed, part_code, path_code, raw_code, raws_code, origin_place, med_code, aggregator_code, head_code, value_code};
+ghost use Rattle.tell_plan.specs.Passing.{passed_on};
 
-use bgp_types::{Aggregator, AsPath, Attrs, NoMemory, Origin, PathPart, RawAttr, RawAttrs};
+use crate::path::split;
+use bgp_types::{Aggregator, Attrs, NoMemory, Origin, PathPart, RawAttr, RawAttrs};
 use std::alloc::Global;
 use std::cmp::Ordering;
 use std::marker::Model;
@@ -116,14 +119,25 @@ fn push_part(code: &mut Vec<u64>, part: &PathPart) -> Result<(), NoMemory>
 }
 
 /// Adds a path, and its end.
-fn push_path(code: &mut Vec<u64>, path: &AsPath) -> Result<(), NoMemory>
+fn push_path(code: &mut Vec<u64>, path: &[PathPart]) -> Result<(), NoMemory>
     ensures { OnOk result (code.new.items ≡ code.old.items ++ path_code path.now) }
 {
-    for part in path.iter() {
+    for part in path {
         push_part(code, part)?;
     }
     code.push(0)?;
     Ok(())
+}
+
+/// Adds a path with one more AS in front, and its end.
+fn push_prepended(code: &mut Vec<u64>, as_number: u32, path: &[PathPart]) -> Result<(), NoMemory>
+    ensures { OnOk result (code.new.items ≡ code.old.items ++ path_code (prepend as_number path.now)) }
+{
+    let (ases, parts) = split(path);
+    code.push(2)?;
+    code.push(u64::from(as_number) + 1)?;
+    push_numbers(code, ases)?;
+    push_path(code, parts)
 }
 
 /// Adds an attribute of an unknown type.
@@ -183,14 +197,19 @@ fn push_aggregator(code: &mut Vec<u64>, aggregator: Option<Aggregator>) -> Resul
     Ok(())
 }
 
-/// Adds the attributes of one number each.
-fn push_head(code: &mut Vec<u64>, attrs: &Attrs) -> Result<(), NoMemory>
-    ensures { OnOk result (code.new.items ≡ code.old.items ++ head_code attrs.now) }
+/// Adds the attributes of one number each, with this next hop and this MED.
+fn push_head(
+    code: &mut Vec<u64>,
+    attrs: &Attrs,
+    next_hop: u32,
+    med: Option<u32>,
+) -> Result<(), NoMemory>
+    ensures { OnOk result (code.new.items ≡ code.old.items ++ head_code (record attrs.now { next_hop = next_hop; med = med })) }
 {
     code.push(origin_number(attrs.origin))?;
-    code.push(u64::from(attrs.next_hop))?;
+    code.push(u64::from(next_hop))?;
     code.push(u64::from(attrs.atomic))?;
-    push_med(code, attrs.med)?;
+    push_med(code, med)?;
     push_aggregator(code, attrs.aggregator)
 }
 
@@ -203,7 +222,24 @@ pub(crate) fn code_of(alloc: Global, attrs: &Option<Attrs>) -> Result<Code, NoMe
         numbers.reserve(USUAL)?;
         push_path(&mut numbers, &attrs.path)?;
         push_raws(&mut numbers, &attrs.unknown)?;
-        push_head(&mut numbers, attrs)?;
+        push_head(&mut numbers, attrs, attrs.next_hop, attrs.med)?;
     }
+    Ok(Code { numbers })
+}
+
+/// The code of plain attributes as they pass on.
+pub(crate) fn passed_code(
+    alloc: Global,
+    attrs: &Attrs,
+    home_as: u32,
+    local_address: u32,
+) -> Result<Code, NoMemory>
+    ensures { IfOk result (λ code. code ≡ value_code (Some (passed_on home_as local_address attrs.now))) }
+{
+    let mut numbers = Vec::new(alloc);
+    numbers.reserve(USUAL)?;
+    push_prepended(&mut numbers, home_as, &attrs.path)?;
+    numbers.push(0)?;
+    push_head(&mut numbers, attrs, local_address, None)?;
     Ok(Code { numbers })
 }

@@ -11,10 +11,15 @@ ghost use Rattle.bgp_types.specs.declared.message.Message.TheVariants.{UpdateMsg
 ghost use Rattle.tell_plan.specs.Codes.{value_code};
 ghost use Rattle.tell_plan.specs.Gathering.{Adds, Keeps, with_prefix};
 ghost use Rattle.tell_plan.specs.Plans.{octets as octets_lem};
+ghost use Rattle.tell_plan.specs.Passing.{Passes};
+ghost use Rattle.tell_plan.specs.ToTell.{to_tell};
+ghost use Rattle.rib_stages.specs.Values.{rib_of};
+ghost use Rattle.route_policy.specs.Telling.{out_side};
 
 use crate::batch::Batch;
-use crate::code::{Code, code_of};
+use crate::code::{Code, code_of, passed_code};
 use bgp_types::{Attrs, Items, Message, NoMemory, Prefix, message_len};
+use rib_stages::{OutView, Rib};
 use std::alloc::Global;
 use std::collections::BTreeMap;
 
@@ -167,6 +172,32 @@ impl Gathered {
         match self.room_for(&code, len) {
             Some(place) => self.join(&code, place, prefix, len),
             None => self.begin(code, prefix, attrs),
+        }
+    }
+
+    /// Adds a prefix whose best route passes on with these attributes, as `add` does. A copy of them is made only where an UPDATE begins.
+    pub fn add_passing(
+        &mut self,
+        rib: &Rib,
+        view: &OutView<'_>,
+        prefix: Prefix,
+        attrs: &Attrs,
+    ) -> Result<(), NoMemory>
+        requires passes { Passes (rib_of rib.now) (out_side view.now) prefix attrs.now }
+        requires keeps { Keeps self.old }
+        ensures keeps { OnOk result (Keeps self.new) }
+        ensures wide { OnOk result (self.new.wide ≡ self.old.wide) }
+        ensures adds { OnOk result (Adds self.old.wide (to_tell (rib_of rib.now) (out_side view.now) prefix) prefix self.old.batches.items self.new.batches.items) }
+        ensures sound { IsPrefix prefix }
+    {
+        let code = passed_code(self.alloc, attrs, rib.home_as(), view.local_address)?;
+        let len = prefix_len(prefix);
+        match self.room_for(&code, len) {
+            Some(place) => self.join(&code, place, prefix, len),
+            None => {
+                let told = rib.tell_out(prefix, view)?;
+                self.begin(code, prefix, told)
+            }
         }
     }
 }

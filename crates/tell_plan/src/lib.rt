@@ -6,6 +6,8 @@ mod batch;
 mod code;
 mod gather;
 mod laws;
+mod passing;
+mod path;
 mod updates;
 mod writable;
 

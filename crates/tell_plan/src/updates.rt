@@ -7,9 +7,11 @@ ghost use Rattle.tell_plan.specs.Plans.{IsPlan};
 ghost use Rattle.tell_plan.specs.ToTell.{IsToTell, to_tell};
 ghost use Rattle.rib_stages.specs.Values.{rib_of};
 ghost use Rattle.tell_plan.specs.Gathering.{AreSound, Gathers, Keeps};
+ghost use Rattle.tell_plan.specs.Passing.{Passes};
 
 use crate::batch::Batch;
 use crate::gather::Gathered;
+use crate::passing::{is_told_on, passing};
 use adj_rib::AdjRib;
 use bgp_types::{Attrs, Items, NoMemory, Prefix};
 use due_set::DueSet;
@@ -28,8 +30,8 @@ fn is_told(told: Option<&Attrs>, attrs: &Option<Attrs>) -> bool
     }
 }
 
-/// Gathers a prefix that waits, unless what was told of it is what is to be told.
-fn gather(
+/// Gathers a prefix of which what is to be told has to be made, unless that was told.
+fn gather_made(
     rib: &Rib,
     told: &AdjRib,
     view: &OutView<'_>,
@@ -49,11 +51,54 @@ fn gather(
     gathered.add(prefix, attrs)
 }
 
+/// Gathers a prefix whose best route passes on with these attributes, unless that was told.
+fn gather_passing(
+    rib: &Rib,
+    told: &AdjRib,
+    view: &OutView<'_>,
+    prefix: Prefix,
+    attrs: &Attrs,
+    gathered: &mut Gathered,
+) -> Result<(), NoMemory>
+    requires keeps { Keeps gathered.old }
+    requires passes { Passes (rib_of rib.now) (out_side view.now) prefix attrs.now }
+    ensures keeps { OnOk result (Keeps gathered.new) }
+    ensures wide { OnOk result (gathered.new.wide ≡ gathered.old.wide) }
+    ensures gathers { OnOk result (Gathers gathered.old.wide (map.get told.now prefix) (to_tell (rib_of rib.now) (out_side view.now)) prefix gathered.old.batches.items gathered.new.batches.items) }
+    ensures sound { OnOk result (AreSound gathered.old.batches.items → AreSound gathered.new.batches.items) }
+{
+    if is_told_on(told.get(prefix), attrs, rib.home_as(), view.local_address) {
+        return Ok(());
+    }
+    gathered.add_passing(rib, view, prefix, attrs)
+}
+
+/// Gathers a prefix that waits, unless what was told of it is what is to be told.
+fn gather(
+    rib: &Rib,
+    told: &AdjRib,
+    view: &OutView<'_>,
+    prefix: Prefix,
+    gathered: &mut Gathered,
+) -> Result<(), NoMemory>
+    requires { Keeps gathered.old }
+    ensures keeps { OnOk result (Keeps gathered.new) }
+    ensures wide { OnOk result (gathered.new.wide ≡ gathered.old.wide) }
+    ensures gathers { OnOk result (Gathers gathered.old.wide (map.get told.now prefix) (to_tell (rib_of rib.now) (out_side view.now)) prefix gathered.old.batches.items gathered.new.batches.items) }
+    ensures sound { OnOk result (AreSound gathered.old.batches.items → AreSound gathered.new.batches.items) }
+{
+    match passing(rib, view, prefix) {
+        Some(attrs) => gather_passing(rib, told, view, prefix, attrs, gathered),
+        None => gather_made(rib, told, view, prefix, gathered),
+    }
+}
+
 /// The UPDATEs by which a router tells on a session what is due, isn't to be decided again, and was told otherwise, in the session's width
 /// of AS numbers. Each tells as many prefixes as 4,096 octets hold, the first of those that are told the same as the least one that is left.
 ///
-/// It visits each prefix that is due once, and makes one copy of the best route to each that waits, and for each a search among the values
-/// that are told.
+/// It visits each prefix that is due once. Of each that waits it compares what was told with what is to be told, and where they differ, it
+/// searches among the values that are told. It copies the best route only for a prefix that begins an UPDATE, where the session has an
+/// export policy, and where the route has a long path or an attribute of an unknown type.
 pub fn plan(
     alloc: Global,
     rib: &Rib,

@@ -1,6 +1,5 @@
-use Rattle.std.proofs.Common.{◌≡◌, List, sym, ◌∙◌, subst}
+use Rattle.std.proofs.Common.{List, sym, ◌∙◌, subst}
 use Rattle.std.specs.FinMap as map
-use Rattle.bgp_types.specs.Prefixes.{PrefixValue}
 use Rattle.route_policy.specs.Telling.{out_side}
 use Rattle.rib_stages.specs.Values.{rib_of}
 use Rattle.tell_plan.specs.declared.batch.Batch.{Batch}

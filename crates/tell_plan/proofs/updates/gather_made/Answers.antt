@@ -4,7 +4,7 @@ use Rattle.route_policy.specs.Telling.{out_side}
 use Rattle.tell_plan.specs.Plans.{octets}
 use Rattle.tell_plan.proofs.Fits.{fits_one}
 use Rattle.tell_plan.proofs.Sound.{sound_ok}
-use Rattle.tell_plan.proofs.updates.gather.Goals as goal
+use Rattle.tell_plan.proofs.updates.gather_made.Goals as goal
 
 pub add-requires-clause-fits : goal.add-requires-clause-fits
 add-requires-clause-fits c = subst (λ told. octets c.args.gathered.now.wide told (c.args.prefix ∷ []) ≤ 4096) (sym c.in_ok-attrs.ensures)
