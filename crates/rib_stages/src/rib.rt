@@ -249,13 +249,6 @@ impl Rib {
         })
     }
 
-    /// The AS of the home network.
-    pub fn home_as(&self) -> u32
-        ensures { result ≡ self.now.config.home_as }
-    {
-        self.config.home_as
-    }
-
     /// A peering gives an entry, or another router tells a route. The prefix is dirty where that is another than before. Own networks are
     /// configured: from `Own` nothing is taken. If memory runs out, the prefix may be dirty, and nothing else changes.
     pub fn set_in(&mut self, from: From, entry: InEntry) -> Result<(), NoMemory>
