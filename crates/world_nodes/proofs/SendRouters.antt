@@ -23,7 +23,7 @@ use Rattle.world_nodes.proofs.SendValues.{items, name, table, route, known}
 use Rattle.world_nodes.proofs.SendSessions.{session}
 
 ranks : IsSend Ranks.the_row
-ranks = search (sendable, crosses, maps.crosses) depth 40
+ranks = search (sendable, crosses) depth 40
 
 group : IsSend Group.the_row
 group = let r = ranks in search (sendable, crosses) depth 40
