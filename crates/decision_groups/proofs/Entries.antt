@@ -5,16 +5,13 @@ use Rattle.std.specs.List.Sorted.{IsStrictlySortedBy}
 use Rattle.std.specs.Map.{lookup, keys_of, remove_entry}
 use Rattle.std.specs.BTreeMap.{is_at, insert_entry}
 use Rattle.std.specs.Cmp.{IsTotalOrder}
-use Rattle.std.specs.Ordering.{is_eq, match_ordering}
+use Rattle.std.specs.Ordering.{is_eq, ordering_reverse, match_ordering}
 use Rattle.std.specs.declared.cmp.Ordering.{Ordering}
 use Rattle.std.specs.declared.cmp.Ordering.TheVariants.{Less, Equal, Greater}
 use Rattle.std.proofs.lemmas.Map.Keys.{sorted_head, sorted_tail}
 use Rattle.std.proofs.lemmas.Map.Lookups.{CmpEqualImpliesEq}
 use Rattle.std.proofs.lemmas.Cmp.{tied_itself}
-
--- a key stands before all others
-abbrev IsBelow : {K X : Type 0} → (K → K → Ordering) → K → List (K × X) → Type 0
-IsBelow R k es = AllByRecursion (λ q. R k q ≡ Less) (keys_of es)
+use Rattle.decision_groups.specs.Places.{IsBelow}
 
 below_further : {K : Type 0} {R : K → K → Ordering} → IsTotalOrder R → (j k : K) → R j k ≡ Less → (ks : List K) → AllByRecursion (λ q. R k q ≡ Less) ks → AllByRecursion (λ q. R j q ≡ Less) ks
 below_further o j k less [] h = tt
@@ -32,11 +29,11 @@ below_filter : {K X : Type 0} (R : K → K → Ordering) (k : K) (p : K × X →
 below_filter R k p [] h = tt
 below_filter R k p (e ∷ es) h = below_of_cond R k (p e) e (filter p es) h.0 (below_filter R k p es h.1)
 
-insert_below : {K X : Type 0} (R : K → K → Ordering) (k : K) (v : X) (es : List (K × X)) → IsBelow R k es → insert_entry R es k v ≡ (k, v) ∷ es
+pub insert_below : {K X : Type 0} (R : K → K → Ordering) (k : K) (v : X) (es : List (K × X)) → IsBelow R k es → insert_entry R es k v ≡ (k, v) ∷ es
 insert_below R k v [] h = refl
 insert_below R k v (e ∷ es) h = rw h.0 refl
 
-lookup_below : {K X : Type 0} (R : K → K → Ordering) (k : K) (es : List (K × X)) → IsBelow R k es → lookup (is_at (R k)) es ≡ None
+pub lookup_below : {K X : Type 0} (R : K → K → Ordering) (k : K) (es : List (K × X)) → IsBelow R k es → lookup (is_at (R k)) es ≡ None
 lookup_below R k [] h = refl
 lookup_below R k (e ∷ es) h = rw h.0 (lookup_below R k es h.1)
 
@@ -121,3 +118,43 @@ pub filter-remove : {K X : Type 0} {R : K → K → Ordering} → IsTotalOrder R
 filter-remove o p k [] s = refl
 filter-remove {R = R} o p k (e ∷ es) s =
     removed_step o p k e es (sorted_head R e.0 (keys_of es) s) (R k e.0) refl (filter-remove o p k es (sorted_tail R e.0 (keys_of es) s))
+
+-- ---- the order of what is put in or taken out
+
+below_placed : {K X : Type 0} (R : K → K → Ordering) (j k : K) (v : X) (e : K × X) (es fs : List (K × X)) (a : Ordering) → R j k ≡ Less → IsBelow R j (e ∷ es) → IsBelow R j fs → IsBelow R j (match_ordering a ((k, v) ∷ (e ∷ es)) ((e.0, v) ∷ es) (e ∷ fs))
+below_placed R j k v e es fs Less less h rest = (less, h)
+below_placed R j k v e es fs Equal less h rest = h
+below_placed R j k v e es fs Greater less h rest = (h.0, rest)
+
+below_insert : {K X : Type 0} (R : K → K → Ordering) (j k : K) (v : X) (es : List (K × X)) → R j k ≡ Less → IsBelow R j es → IsBelow R j (insert_entry R es k v)
+below_insert R j k v [] less h = (less, tt)
+below_insert R j k v (e ∷ es) less h = below_placed R j k v e es (insert_entry R es k v) (R k e.0) less h (below_insert R j k v es less h.1)
+
+sorted_placed : {K X : Type 0} {R : K → K → Ordering} → IsTotalOrder R → (k : K) (v : X) (e : K × X) (es : List (K × X)) (a : Ordering) → R k e.0 ≡ a → IsStrictlySortedBy R (keys_of (e ∷ es)) → IsStrictlySortedBy R (keys_of (insert_entry R es k v)) → IsStrictlySortedBy R (keys_of (match_ordering a ((k, v) ∷ (e ∷ es)) ((e.0, v) ∷ es) (e ∷ insert_entry R es k v)))
+unfolding IsStrictlySortedBy
+sorted_placed o k v e es Less is s rest = ((is, below_further o k e.0 is (keys_of es) s.0), s)
+sorted_placed o k v e es Equal is s rest = s
+sorted_placed {R = R} o k v e es Greater is s rest = (below_insert R e.0 k v es (o.antisymm e.0 k ∙ ap ordering_reverse is) s.0, rest)
+
+pub sorted-insert : {K X : Type 0} {R : K → K → Ordering} → IsTotalOrder R → (k : K) (v : X) (es : List (K × X)) → IsStrictlySortedBy R (keys_of es) → IsStrictlySortedBy R (keys_of (insert_entry R es k v))
+unfolding IsStrictlySortedBy
+sorted-insert o k v [] s = (tt, tt)
+sorted-insert {R = R} o k v (e ∷ es) s = sorted_placed o k v e es (R k e.0) refl s (sorted-insert o k v es s.1)
+
+below_taken : {K X : Type 0} (R : K → K → Ordering) (j : K) (b : Bool) (e : K × X) (es fs : List (K × X)) → IsBelow R j (e ∷ es) → IsBelow R j fs → IsBelow R j (cond b es (e ∷ fs))
+below_taken R j true e es fs h rest = h.1
+below_taken R j false e es fs h rest = (h.0, rest)
+
+below_remove : {K X : Type 0} (R : K → K → Ordering) (j : K) (test : K → Bool) (es : List (K × X)) → IsBelow R j es → IsBelow R j (remove_entry test es)
+below_remove R j test [] h = tt
+below_remove R j test (e ∷ es) h = below_taken R j (test e.0) e es (remove_entry test es) h (below_remove R j test es h.1)
+
+sorted_taken : {K X : Type 0} (R : K → K → Ordering) (b : Bool) (e : K × X) (es fs : List (K × X)) → IsStrictlySortedBy R (keys_of (e ∷ es)) → IsBelow R e.0 fs → IsStrictlySortedBy R (keys_of fs) → IsStrictlySortedBy R (keys_of (cond b es (e ∷ fs)))
+unfolding IsStrictlySortedBy
+sorted_taken R true e es fs s below rest = s.1
+sorted_taken R false e es fs s below rest = (below, rest)
+
+pub sorted-remove : {K X : Type 0} (R : K → K → Ordering) (test : K → Bool) (es : List (K × X)) → IsStrictlySortedBy R (keys_of es) → IsStrictlySortedBy R (keys_of (remove_entry test es))
+unfolding IsStrictlySortedBy
+sorted-remove R test [] s = tt
+sorted-remove R test (e ∷ es) s = sorted_taken R (test e.0) e es (remove_entry test es) s (below_remove R e.0 test es s.0) (sorted-remove R test es s.1)

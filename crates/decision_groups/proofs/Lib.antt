@@ -1,4 +1,5 @@
 pub mod Entries
+pub mod Places
 pub mod OrderLaws
 pub mod Kept
 pub mod Members

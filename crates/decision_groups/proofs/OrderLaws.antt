@@ -1,4 +1,4 @@
--- The order of candidates is a total one.
+-- The order of candidates is a total one, and the one that `cmp` of their sources computes.
 use Rattle.std.proofs.Common.{◌≡◌, ℕ, refl, ap, subst}
 use Rattle.std.proofs.Math.Path.{fun_ext}
 use Rattle.std.specs.Cmp.{IsTotalOrder}
@@ -8,6 +8,7 @@ use Rattle.std.proofs.lemmas.Cmp.{nat_cmp_total, on_total, then_total}
 use Rattle.std.proofs.lemmas.Map.Lookups.{CmpEqualImpliesEq, exact_unsigned}
 use Rattle.bgp_types.specs.declared.rank.From.{From}
 use Rattle.bgp_types.specs.declared.rank.From.TheVariants.{Own, Peering, Router}
+use Rattle.bgp_types.specs.contracts.rank.FromOrd.TheImpl.{ghosts}
 use Rattle.decision_groups.specs.Order.{from_order}
 
 abbrev kind_of : From → ℕ
@@ -47,3 +48,14 @@ from_order_exact (Peering p) (Router s) h = cc
 from_order_exact (Router r) Own h = cc
 from_order_exact (Router r) (Peering q) h = cc
 from_order_exact (Router r) (Router s) h = ap (λ n. Router (record { 0 = n })) (exact_unsigned r.0 s.0 h)
+
+pub derived_order : (a b : From) → ghosts.cmp a b ≡ from_order a b
+derived_order Own Own = refl
+derived_order Own (Peering q) = refl
+derived_order Own (Router s) = refl
+derived_order (Peering p) Own = refl
+derived_order (Peering p) (Peering q) = refl
+derived_order (Peering p) (Router s) = refl
+derived_order (Router r) Own = refl
+derived_order (Router r) (Peering q) = refl
+derived_order (Router r) (Router s) = refl

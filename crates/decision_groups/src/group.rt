@@ -33,10 +33,8 @@ impl Group {
     pub fn one(alloc: Global, from: From, rank: Rank) -> Result<Group, NoMemory>
         ensures { IfOk result (λ group. group ≡ (from, rank) ∷ []) }
     {
-        let mut members = Ranks::new(alloc);
-        members.insert(from, rank)?;
         Ok(Group {
-            members,
+            members: Ranks::one(alloc, from, rank)?,
             champion: Some((from, rank)),
         })
     }

@@ -1,20 +1,21 @@
 //! Ranks by where their routes come from.
 
-ghost use Rattle.std.specs.Prelude.{◌≡◌, ◌↔◌, [], IsTrue, IfOk, OnErr, OnOk, None, length};
+ghost use Rattle.std.specs.Prelude.{◌≡◌, ◌↔◌, [], ◌∷◌, IsTrue, IfOk, IfErr, OnErr, OnOk, None, length};
 ghost use Rattle.std.specs.Option.{option_copied};
-ghost use Rattle.decision_groups.specs.Order.{IsInOrder, rank_at, with_rank, without};
+ghost use Rattle.decision_groups.specs.Order.{RankedSource, from_order, IsInOrder, rank_at, with_rank, without};
 ghost use Rattle.decision_groups.specs.Groups.{champion_of, beats_champion as beats_champion_lem, beats as beats_lem};
+ghost use Rattle.decision_groups.specs.Places.{IsPlace, IsGap};
 
 use bgp_types::{From, NoMemory, Rank};
 use decision_core::{is_nearer, leads};
 use std::alloc::Global;
-use std::collections::BTreeMap;
 use std::marker::Model;
+use std::mem;
 
 /// At most one rank of each `From`, in their order.
 #[derive(Drop)]
 pub(crate) struct Ranks {
-    map: BTreeMap<From, Rank>,
+    entries: Vec<(From, Rank)>,
 }
 
 impl Model for Ranks {
@@ -23,9 +24,9 @@ impl Model for Ranks {
 
     ghost Value = { List RankedSource };
 
-    ghost view = { λ s. s.map.entries };
+    ghost view = { λ s. s.entries.items };
 
-    ghost invariant = { λ s. IsInOrder s.map.entries };
+    ghost invariant = { λ s. IsInOrder s.entries.items };
 }
 
 /// Whether the first rank beats the second by the nine rules, where one neighbour AS told both. MEDs of
@@ -55,32 +56,54 @@ fn beats_champion(champion: &Option<(From, Rank)>, rank: &Rank) -> bool
     }
 }
 
+// Where the rank of what comes from there stands, or where it would stand.
+fn place(entries: &[(From, Rank)], from: From) -> Result<usize, usize>
+    requires { IsInOrder entries.now }
+    ensures found { IfOk result (IsPlace from_order from entries.now) }
+    ensures absent { IfErr result (IsGap from_order from entries.now) }
+{
+    entries.binary_search_by_key(&from, |entry| entry.0)
+}
+
 impl Ranks {
+    /// No ranks. It takes no memory before the first.
     pub fn new(alloc: Global) -> Ranks
         ensures { result ≡ [] }
     {
         Ranks {
-            map: BTreeMap::new(alloc),
+            entries: Vec::new(alloc),
         }
+    }
+
+    /// One rank, with memory for no more.
+    pub fn one(alloc: Global, from: From, rank: Rank) -> Result<Ranks, NoMemory>
+        ensures { IfOk result (λ ranks. ranks ≡ (from, rank) ∷ []) }
+    {
+        Ok(Ranks {
+            entries: Vec::from_array(alloc, [(from, rank)])?,
+        })
     }
 
     pub fn len(&self) -> usize
         ensures len { result ≡ length self.now }
         ensures in_order { IsInOrder self.now }
     {
-        self.map.len()
+        self.entries.as_slice().len()
     }
 
     pub fn is_empty(&self) -> bool
         ensures { IsTrue result ↔ (self.now ≡ []) }
     {
-        self.map.is_empty()
+        self.entries.as_slice().is_empty()
     }
 
     pub fn get(&self, from: From) -> Option<&Rank>
         ensures { option_copied result ≡ rank_at self.now from }
     {
-        self.map.get(&from)
+        match place(&self.entries, from) {
+            Ok(at) => Some(&self.entries[at].1),
+            Err(_) => None,
+        }
     }
 
     /// Puts a rank in its place, and answers the one that it replaces. Memory can run out only where there
@@ -92,7 +115,13 @@ impl Ranks {
         ensures err { OnErr result (self.new ≡ self.old) }
         ensures in_order { IsInOrder self.new }
     {
-        Ok(self.map.insert(from, rank)?)
+        match place(&self.entries, from) {
+            Ok(at) => Ok(Some(mem::replace(&mut self.entries[at].1, rank))),
+            Err(at) => {
+                self.entries.insert(at, (from, rank))?;
+                Ok(None)
+            }
+        }
     }
 
     /// Takes a rank out. It takes no memory.
@@ -101,7 +130,10 @@ impl Ranks {
         ensures left { self.new ≡ without self.old from }
         ensures in_order { IsInOrder self.new }
     {
-        self.map.remove(&from)
+        match place(&self.entries, from) {
+            Ok(at) => Some(self.entries.remove(at).1),
+            Err(_) => None,
+        }
     }
 
     /// The first of the ranks that no other one beats, where one neighbour AS told them all.
@@ -109,7 +141,7 @@ impl Ranks {
         ensures { result ≡ champion_of self.now }
     {
         let mut champion: Option<(From, Rank)> = None;
-        for (from, rank) in &self.map {
+        for (from, rank) in &self.entries {
             if beats_champion(&champion, rank) {
                 champion = Some((*from, *rank));
             }

@@ -1,9 +1,8 @@
 -- What a set of prefixes has that is kept in slots, and which of these are in it.
 use Rattle.std.specs.Prelude.{◌≡◌, ℕ, ◌≤◌, Bool, true, false, T, List, [], ◌∷◌, length, map as list_map, take, fold, Option, Some, None, if◌then◌else◌}
-use Rattle.std.specs.List.{filter}
 use Rattle.std.specs.Ordering.{is_lt}
 use Rattle.std.specs.FinMap as map
-use Rattle.std.specs.List.{AllByRecursion}
+use Rattle.std.specs.List.{AllByRecursion, filter}
 use Rattle.bgp_types.specs.Prefixes.{PrefixValue}
 use Rattle.bgp_types.specs.Tables.{prefix_cmp}
 
@@ -28,12 +27,12 @@ united (slot ∷ slots) beside = with_slot slot (united slots beside)
 -- The prefixes of the slots rise, and in none of the first ones is anything.
 pub record AreSlots (slots : List Slot) (start : ℕ) : Type 0 where
   pub rise : T (map.is_sorted prefix_cmp slots)
-  pub start : start ≤ length slots
+  pub within : start ≤ length slots
   pub out : AllByRecursion (λ slot. slot.1 ≡ false) (take start slots)
 
 -- the prefixes that are in slots
-abbrev pub listed : List Slot → List PrefixValue
-listed slots = list_map (λ slot. slot.0) (filter (λ slot. slot.1) slots)
+abbrev pub those_in : List Slot → List PrefixValue
+those_in slots = list_map (λ slot. slot.0) (filter (λ slot. slot.1) slots)
 
 -- the first of them
 abbrev pub first_in : List Slot → Option PrefixValue

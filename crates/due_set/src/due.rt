@@ -1,12 +1,13 @@
 //! A set of prefixes that mostly come in rising order, are listed, and go.
 
-ghost use Rattle.std.specs.Prelude.{◌≡◌, T, IsTrue, IfOk, IfErr, OnOk, OnErr};
+ghost use Rattle.std.specs.Prelude.{◌≡◌, T, IsTrue, IfOk, OnOk, OnErr};
 ghost use Rattle.std.specs.FinMap as map;
 ghost use Rattle.bgp_types.specs.Tables.{prefix_cmp, first_above};
-ghost use Rattle.prefix_table.specs.Places.{IsPlace, IsGap, AllBelow};
-ghost use Rattle.due_set.specs.Slots.{AreSlots, first_in, lesser_of, listed as listed_lem, with_all};
+ghost use Rattle.prefix_table.specs.Places.{AllBelow};
+ghost use Rattle.due_set.specs.Slots.{AreSlots, first_in, lesser_of, those_in, with_all};
 
 use bgp_types::{Items, NoMemory, Prefix, PrefixList, Table};
+use prefix_table::place;
 use prefix_trie::TrieTable;
 use std::alloc::Global;
 use std::marker::Model;
@@ -14,7 +15,8 @@ use std::marker::Model;
 /// A set of prefixes. Those that come in rising order stand in one list; a prefix that comes later than a greater one, and wasn't there, stands in a trie beside it.
 ///
 /// Where all come in rising order, each takes a constant time, and `remove` a search by halves. A list that `prefixes` gives takes a step for each, and `first` none beyond
-/// those by which a removal passes what is gone. For what stands in the trie, see `TrieTable`.
+/// those by which a removal passes what is gone. For what stands in the trie, see `TrieTable`. What is taken out of the list keeps its place there until the list has nothing
+/// that is in the set.
 #[derive(Drop)]
 pub struct DueSet {
     alloc: Global,
@@ -41,25 +43,27 @@ impl Model for DueSet {
     ghost invariant = { λ s. AreSlots s.slots.items s.start };
 }
 
-/// Where a prefix stands, or where it would stand.
-fn place(slots: &[(Prefix, bool)], prefix: Prefix) -> Result<usize, usize>
+/// Whether a prefix is greater than those of all slots.
+fn is_past(slots: &[(Prefix, bool)], prefix: Prefix) -> bool
     requires { T (map.is_sorted prefix_cmp slots.now) }
-    ensures found { IfOk result (IsPlace slots.now prefix) }
-    ensures absent { IfErr result (IsGap slots.now prefix) }
+    ensures { IsTrue result → AllBelow prefix slots.now }
 {
-    slots.binary_search_by_key(&prefix, |slot| slot.0)
+    match slots.last() {
+        Some(last) => last.0 < prefix,
+        None => true,
+    }
 }
 
-/// Puts prefixes into a table.
-fn add_all(table: &mut TrieTable<()>, prefixes: &[Prefix]) -> Result<(), NoMemory>
-    ensures { OnOk result (table.new.contents ≡ with_all table.old.contents prefixes.now) }
+/// The first place from `start` on in whose slot something is, or else the end.
+fn passed(slots: &[(Prefix, bool)], start: usize) -> usize
+    requires { AreSlots slots.now start }
+    ensures { AreSlots slots.now result }
 {
-    for prefix in prefixes {
-        let Ok(_) = table.set(*prefix, ()) else {
-            return Err(NoMemory);
-        };
+    let mut at = start;
+    while at < slots.len() && !slots[at].1 {
+        at += 1;
     }
-    Ok(())
+    at
 }
 
 /// The first prefix of the slots that is in the set.
@@ -79,10 +83,35 @@ fn lesser(one: Option<Prefix>, other: Option<Prefix>) -> Option<Prefix>
     ensures { result ≡ lesser_of one other }
 {
     match (one, other) {
-        (Some(one), Some(other)) => Some(one.min(other)),
+        (Some(one), Some(other)) => Some(if other < one { other } else { one }),
         (one, None) => one,
         (None, other) => other,
     }
+}
+
+/// The prefixes of the slots that are in the set, in memory that is asked for once.
+fn listed(alloc: Global, slots: &[(Prefix, bool)]) -> Result<PrefixList, NoMemory>
+    ensures { IfOk result (λ prefixes. prefixes ≡ those_in slots.now) }
+{
+    let mut prefixes = Items::from_vec(Vec::with_capacity(alloc, slots.len())?);
+    for (prefix, is_in) in slots {
+        if *is_in {
+            prefixes.push(*prefix)?;
+        }
+    }
+    Ok(prefixes)
+}
+
+/// Puts prefixes into a table.
+fn add_all(table: &mut TrieTable<()>, prefixes: &[Prefix]) -> Result<(), NoMemory>
+    ensures { OnOk result (table.new.contents ≡ with_all table.old.contents prefixes.now) }
+{
+    for prefix in prefixes {
+        let Ok(_) = table.set(*prefix, ()) else {
+            return Err(NoMemory);
+        };
+    }
+    Ok(())
 }
 
 impl DueSet {
@@ -98,29 +127,18 @@ impl DueSet {
         }
     }
 
-    /// Whether a prefix is greater than those of all slots.
-    fn is_past(&self, prefix: Prefix) -> bool
-        requires { AreSlots self.now.slots.items self.now.start }
-        ensures { IsTrue result → AllBelow prefix self.now.slots.items }
-    {
-        match self.slots.last() {
-            Some(last) => last.0 < prefix,
-            None => true,
-        }
-    }
-
     /// Puts a prefix into the set. If memory runs out, nothing changes.
     pub fn insert(&mut self, prefix: Prefix) -> Result<(), NoMemory>
         ensures ok { OnOk result (self.new ≡ map.insert self.old prefix tt) }
         ensures err { OnErr result (self.new ≡ self.old) }
     {
-        if self.is_past(prefix) {
+        if is_past(&self.slots, prefix) {
             self.slots.push((prefix, true))?;
             return Ok(());
         }
         match place(&self.slots, prefix) {
             Ok(at) if at >= self.start => {
-                self.slots[at].1 = true;
+                self.slots[at] = (prefix, true);
                 Ok(())
             }
             _ => match self.late.set(prefix, ()) {
@@ -134,20 +152,18 @@ impl DueSet {
     pub fn remove(&mut self, prefix: Prefix)
         ensures { self.new ≡ map.remove self.old prefix }
     {
+        self.late.remove(prefix);
         if let Ok(at) = place(&self.slots, prefix) {
-            self.slots[at].1 = false;
+            self.slots[at] = (prefix, false);
             self.skip();
         }
-        self.late.remove(prefix);
     }
 
     /// Passes the first slots in which nothing is any more. Where nothing is in any slot, all go.
     fn skip(&mut self)
         ensures { self.new ≡ self.old }
     {
-        while self.start < self.slots.len() && !self.slots[self.start].1 {
-            self.start += 1;
-        }
+        self.start = passed(&self.slots, self.start);
         if self.start == self.slots.len() {
             self.slots.clear();
             self.start = 0;
@@ -164,25 +180,11 @@ impl DueSet {
         )
     }
 
-    /// The prefixes of the slots that are in the set, in rising order, in memory that is asked for once.
-    fn listed(&self) -> Result<PrefixList, NoMemory>
-        ensures { IfOk result (λ prefixes. prefixes ≡ listed_lem self.now.slots.items) }
-    {
-        let slots = &self.slots[self.start..];
-        let mut prefixes = Items::from_vec(Vec::with_capacity(self.alloc, slots.len())?);
-        for (prefix, is_in) in slots {
-            if *is_in {
-                prefixes.push(*prefix)?;
-            }
-        }
-        Ok(prefixes)
-    }
-
     /// The prefixes, in rising order.
     pub fn prefixes(&self) -> Result<PrefixList, NoMemory>
         ensures { IfOk result (λ prefixes. prefixes ≡ map.keys self.now) }
     {
-        let listed = self.listed()?;
+        let listed = listed(self.alloc, &self.slots[self.start..])?;
         if self.late.len() == 0 {
             return Ok(listed);
         }

@@ -3,4 +3,4 @@
 
 mod sorted;
 
-pub use sorted::SortedTable;
+pub use sorted::{SortedTable, place};

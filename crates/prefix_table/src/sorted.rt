@@ -88,8 +88,8 @@ impl<V: Drop> Table<V> for SortedTable<V> {
     }
 }
 
-// Where a prefix stands, or where it would stand.
-fn place<V>(entries: &[(Prefix, V)], prefix: Prefix) -> Result<usize, usize>
+/// Where a prefix stands among entries whose prefixes rise, or where it would stand. It takes a search by halves.
+pub fn place<V>(entries: &[(Prefix, V)], prefix: Prefix) -> Result<usize, usize>
     requires { T (map.is_sorted prefix_cmp entries.now) }
     ensures found { IfOk result (IsPlace entries.now prefix) }
     ensures absent { IfErr result (IsGap entries.now prefix) }

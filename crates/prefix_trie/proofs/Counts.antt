@@ -35,13 +35,13 @@ rising_node {V} p o zs os node rz ro =
 
 pub rising_trie : {V : Type 0} (t : Tree V) → IsTrie t → T (is_sorted prefix_cmp (entries t))
 rising_trie Leaf h = tt
-rising_trie (Fork' at p o zero one) h = rising_node p o (entries zero) (entries one) h.0 (rising_trie zero h.1) (rising_trie one h.2)
+rising_trie (Fork' at p zero one o) h = rising_node p o (entries zero) (entries one) h.0 (rising_trie zero h.1) (rising_trie one h.2)
 
 -- ---- how many
 
 all_are : {V : Type 0} (t : Tree V) → IsTrie t → AllByRecursion (λ e. IsPrefix e.0) (entries t)
 all_are Leaf h = tt
-all_are {V} (Fork' at p o zero one) h = every_both IsPrefix (own p o) (entries zero ++ entries one) (itself o)
+all_are {V} (Fork' at p zero one o) h = every_both IsPrefix (own p o) (entries zero ++ entries one) (itself o)
     (every_both IsPrefix (entries zero) (entries one) (every (Within p.address (middle p) p.len) IsPrefix (entries zero) (λ q w. w.is) h.0.zeros) (every (Within (middle p) (past p) p.len) IsPrefix (entries one) (λ q w. w.is) h.0.ones))
   where
     itself : (x : Option V) → AllByRecursion (λ e. IsPrefix e.0) (own p x)

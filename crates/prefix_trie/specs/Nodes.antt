@@ -15,7 +15,7 @@ own p (Some v) = (p, v) ∷ []
 -- its prefixes with their values, each before those that it covers
 abbrev pub entries : {V : Type 0} → Tree V → List (PrefixValue × V)
 entries Leaf = []
-entries (Fork' at p value zero one) = own p value ++ (entries zero ++ entries one)
+entries (Fork' at p zero one value) = own p value ++ (entries zero ++ entries one)
 
 -- Below a prefix, longer ones of its first half stand in one branch, and those of its second half in
 -- the other.
@@ -26,7 +26,7 @@ pub record IsNode {V : Type 0} (p : PrefixValue) (zero one : List (PrefixValue �
 
 abbrev pub IsTrie : {V : Type 0} → Tree V → Type 0
 IsTrie Leaf = Unit {0}
-IsTrie (Fork' at p value zero one) = IsNode p (entries zero) (entries one) × IsTrie zero × IsTrie one
+IsTrie (Fork' at p zero one value) = IsNode p (entries zero) (entries one) × IsTrie zero × IsTrie one
 
 -- All prefixes are under one, which doesn't cover p.
 pub record IsApart {V : Type 0} (at p : PrefixValue) (es : List (PrefixValue × V)) : Type 0 where

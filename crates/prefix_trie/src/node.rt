@@ -24,13 +24,15 @@ pub enum Tree<V> {
     Fork(Box<Node<V>>),
 }
 
+/// The fields that a way down reads stand together, ahead of the value: so it reads the first bytes of each node alone, however
+/// large the values are.
 #[cycle(trie)]
 #[derive(Drop)]
 pub struct Node<V> {
     pub prefix: Prefix,
-    pub value: Option<V>,
     pub zero: Tree<V>,
     pub one: Tree<V>,
+    pub value: Option<V>,
 }
 
 /// Nodes that are kept for later.

@@ -2,29 +2,21 @@
 
 use adj_rib::AdjRib;
 use anyhow::Result;
-use bgp_types::{Message, NoMemory, Octets, PeeringId, Prefix, Table};
+use bgp_types::{Message, NoMemory, Octets, PeeringId};
 use bgp_wire::write_message;
-use prefix_trie::TrieTable;
+use due_set::DueSet;
 use rib_stages::{OutView, Rib};
 use std::alloc::Global;
 use tell_plan::{next_update_is_one_way, plan};
 
-/// Puts a prefix into a set.
-fn add(set: &mut TrieTable<()>, prefix: Prefix) -> Result<(), NoMemory> {
-    match set.set(prefix, ()) {
-        Ok(_) => Ok(()),
-        Err(_) => Err(NoMemory),
-    }
-}
-
 /// Puts the prefixes that have a best route into a set, up to 100.
-fn add_all(rib: &Rib, set: &mut TrieTable<()>) -> Result<(), NoMemory> {
+fn add_all(rib: &Rib, set: &mut DueSet) -> Result<(), NoMemory> {
     let mut last = None;
     for _n in 0..100u32 {
         let Some(prefix) = rib.next_best(last) else {
             return Ok(());
         };
-        add(set, prefix)?;
+        set.insert(prefix)?;
         last = Some(prefix);
     }
     Ok(())
@@ -34,7 +26,7 @@ fn add_all(rib: &Rib, set: &mut TrieTable<()>) -> Result<(), NoMemory> {
 fn written(
     alloc: Global,
     rib: &Rib,
-    due: &TrieTable<()>,
+    due: &DueSet,
     peering: u8,
 ) -> Result<Option<Octets>, NoMemory> {
     let view = OutView {
@@ -67,7 +59,7 @@ fn octets_text(alloc: Global, octets: &Octets) -> Result<String> {
 
 /// The octets of the one UPDATE that tells on a session all that has a best route, without the marker.
 pub fn planned(alloc: Global, rib: &Rib, peering: u8) -> Result<String> {
-    let mut due = TrieTable::new(alloc);
+    let mut due = DueSet::new(alloc);
     add_all(rib, &mut due)?;
     match written(alloc, rib, &due, peering)? {
         Some(octets) => octets_text(alloc, &octets),

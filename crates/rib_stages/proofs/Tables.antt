@@ -2,7 +2,7 @@
 use Rattle.std.proofs.Common.{◌≡◌, ℕ, zero, suc, ◌<◌, ◌≤◌, ◌==◌, Bool, true, false, cond, List, [], ◌∷◌, length, replicate, ◌++◌, ◌+◌, get_or, set, add-one, refl, sym, ap, subst, ◌∙◌, arith}
 use Rattle.std.proofs.lemmas.Bool.{eqb-true}
 use Rattle.std.proofs.lemmas.Bool.Decides.{nat_tests}
-use Rattle.std.proofs.lemmas.List.{length-map, map-append}
+use Rattle.std.proofs.lemmas.List.{length-map, map-append, map-set}
 use Rattle.std.specs.Prelude.{Result, Ok, Err, OnOk}
 use Rattle.bgp_types.specs.Prefixes.{PrefixValue}
 use Rattle.std.specs.FinMap as map
@@ -11,7 +11,7 @@ use Rattle.prefix_trie.specs.Table.{TableValue}
 use Rattle.session_value.specs.Points.{at}
 use Rattle.rib_stages.specs.Values.{table_at, contents_of, tables_of, room_at}
 
-length_replicate : {B : Type 0} (n : ℕ) (x : B) → length (replicate n x) ≡ n
+pub length_replicate : {B : Type 0} (n : ℕ) (x : B) → length (replicate n x) ≡ n
 length_replicate zero x = refl
 length_replicate (suc n) x = omega (arith, length_replicate n x)
 
@@ -25,16 +25,20 @@ both_suc : (k n : ℕ) → (k == n) ≡ (suc k == suc n)
 both_suc k n = grind (arith, nat_tests)
 
 module _ {A : Type 0} where
-  one_set : (ts : List (TableValue A)) (n k : ℕ) (t : TableValue A) → n < length ts → tables_of (set ts n t) k ≡ cond (k == n) t.contents (tables_of ts k)
-  one_set [] n k t h = absurd (omega (arith, h))
-  one_set (x ∷ ts) zero zero t h = refl
-  one_set (x ∷ ts) zero (suc k) t h = ap (λ (b : Bool). cond b t.contents (tables_of ts k)) (sym (not_zero k))
-  one_set (x ∷ ts) (suc n) zero t h = ap (λ (b : Bool). cond b t.contents x.contents) (sym (zero_not n))
-  one_set (x ∷ ts) (suc n) (suc k) t h = one_set ts n k t (omega (arith, h)) ∙ ap (λ (b : Bool). cond b t.contents (tables_of ts k)) (both_suc k n)
+  one_set : (cs : List (map.FinMap prefix_cmp A)) (n k : ℕ) (c : map.FinMap prefix_cmp A) → n < length cs → table_at (set cs n c) k ≡ cond (k == n) c (table_at cs k)
+  one_set [] n k c h = absurd (omega (arith, h))
+  one_set (x ∷ cs) zero zero c h = refl
+  one_set (x ∷ cs) zero (suc k) c h = ap (λ (b : Bool). cond b c (table_at cs k)) (sym (not_zero k))
+  one_set (x ∷ cs) (suc n) zero c h = ap (λ (b : Bool). cond b c x) (sym (zero_not n))
+  one_set (x ∷ cs) (suc n) (suc k) c h = one_set cs n k c (omega (arith, h)) ∙ ap (λ (b : Bool). cond b c (table_at cs k)) (both_suc k n)
 
   -- one of the tables is another
+  pub table-set : (cs : List (map.FinMap prefix_cmp A)) (n : ℕ) (c : map.FinMap prefix_cmp A) → n < length cs → table_at (set cs n c) ≡ at (table_at cs) n c
+  table-set cs n c h = λ i k. one_set cs n k c h i
+
+  -- the same of tables with their room
   pub tables-set : (ts : List (TableValue A)) (n : ℕ) (t : TableValue A) → n < length ts → tables_of (set ts n t) ≡ at (tables_of ts) n t.contents
-  tables-set ts n t h = λ i k. one_set ts n k t h i
+  tables-set ts n t h = ap table_at (map-set (λ (x : TableValue A). x.contents) ts n t) ∙ table-set (contents_of ts) n t.contents (omega (arith, h, length-map ts (λ (x : TableValue A). x.contents)))
 
   itself : (f : ℕ → map.FinMap prefix_cmp A) (n k : ℕ) (b : Bool) → (k == n) ≡ b → cond b (f n) (f k) ≡ f k
   itself f n k true e = ap f (sym (eqb-true k n e))
@@ -44,6 +48,11 @@ module _ {A : Type 0} where
   at-itself f n = λ i k. itself f n k (k == n) refl i
 
   -- what is read at a place is the table there
+  pub read_is : (cs : List (map.FinMap prefix_cmp A)) (n : ℕ) (x : map.FinMap prefix_cmp A) → n < length cs → x ≡ get_or cs n x → table_at cs n ≡ x
+  read_is [] n x h is = absurd (omega (arith, h))
+  read_is (y ∷ cs) zero x h is = sym is
+  read_is (y ∷ cs) (suc n) x h is = read_is cs n x (omega (arith, h)) is
+
   pub table_is : (ts : List (TableValue A)) (n : ℕ) (x : TableValue A) → n < length ts → x ≡ get_or ts n x → tables_of ts n ≡ x.contents
   table_is [] n x h is = absurd (omega (arith, h))
   table_is (y ∷ ts) zero x h is = ap (λ (t : TableValue A). t.contents) (sym is)
@@ -99,7 +108,7 @@ module _ {A : Type 0} where
   abbrev pub empties : ℕ → List (map.FinMap prefix_cmp A)
   empties n = replicate n map.empty
 
-  one_more : (n : ℕ) → empties n ++ map.empty ∷ [] ≡ empties (suc n)
+  pub one_more : (n : ℕ) → empties n ++ map.empty ∷ [] ≡ empties (suc n)
   one_more zero = refl
   one_more (suc n) = ap (λ (ts : List (map.FinMap prefix_cmp A)). map.empty ∷ ts) (one_more n)
 

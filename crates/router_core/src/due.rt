@@ -1,20 +1,20 @@
 //! What is due to be told, by number.
 
-ghost use Rattle.std.specs.Prelude.{ℕ, ◌≡◌, ◌<◌, length, IfOk, OnOk, OnErr};
+ghost use Rattle.std.specs.Prelude.{ℕ, ◌≡◌, ◌<◌, None, length, IfOk, OnOk, OnErr};
 ghost use Rattle.std.specs.FinMap as map;
 ghost use Rattle.bgp_types.specs.Tables.{first_above};
 ghost use Rattle.session_value.specs.Points.{at};
 ghost use Rattle.rib_stages.specs.Values.{table_at};
 
-use bgp_types::{NoMemory, Prefix, Table};
-use prefix_trie::TrieTable;
+use bgp_types::{NoMemory, Prefix};
+use due_set::DueSet;
 use std::alloc::Global;
 use std::marker::Model;
 
 /// Sets of prefixes by number.
 #[derive(Drop)]
 pub(crate) struct DueSets {
-    sets: Vec<TrieTable<()>>,
+    sets: Vec<DueSet>,
 }
 
 impl Model for DueSets {
@@ -24,24 +24,12 @@ impl Model for DueSets {
     ghost use base.Stored.{coded_unit};
     ghost use Rattle.bgp_types.specs.Tables.{coded_prefix};
     ghost use Rattle.session_value.specs.Sets.{Prefixes};
-    ghost use Rattle.rib_stages.specs.Values.{contents_of};
 
     ghost Value = { List Prefixes };
 
     ghost coded = { coded_list (map.code coded_prefix coded_unit) };
 
-    ghost view = { λ due. contents_of due.sets.items };
-}
-
-/// Puts a prefix into a set. If memory runs out, nothing changes.
-fn insert(set: &mut TrieTable<()>, prefix: Prefix) -> Result<(), NoMemory>
-    ensures ok { OnOk result (set.new.contents ≡ map.insert set.old.contents prefix tt) }
-    ensures err { OnErr result (set.new.contents ≡ set.old.contents) }
-{
-    match set.set(prefix, ()) {
-        Ok(_) => Ok(()),
-        Err(_) => Err(NoMemory),
-    }
+    ghost view = { λ due. due.sets.items };
 }
 
 impl DueSets {
@@ -52,7 +40,7 @@ impl DueSets {
     {
         let mut sets = Vec::new(alloc);
         for _n in 0..count {
-            sets.push(TrieTable::new(alloc))?;
+            sets.push(DueSet::new(alloc))?;
         }
         Ok(DueSets { sets })
     }
@@ -65,19 +53,19 @@ impl DueSets {
     }
 
     /// The set of a number, which there is.
-    pub(crate) fn set(&self, n: usize) -> &TrieTable<()>
+    pub(crate) fn set(&self, n: usize) -> &DueSet
         requires { n < length self.now }
-        ensures { result.now.contents ≡ table_at self.now n }
+        ensures { result.now ≡ table_at self.now n }
     {
         &self.sets[n]
     }
 
-    /// The least prefix that is due, or the least above another.
-    pub(crate) fn next_after(&self, n: usize, prefix: Option<Prefix>) -> Option<Prefix>
+    /// The least prefix that is due.
+    pub(crate) fn first(&self, n: usize) -> Option<Prefix>
         requires { n < length self.now }
-        ensures { result ≡ first_above prefix (map.keys (table_at self.now n)) }
+        ensures { result ≡ first_above None (map.keys (table_at self.now n)) }
     {
-        self.sets[n].next_after(prefix)
+        self.sets[n].first()
     }
 
     /// Makes a prefix due. If memory runs out, nothing changes.
@@ -87,7 +75,7 @@ impl DueSets {
         ensures ok { OnOk result (table_at self.new ≡ at (table_at self.old) n (map.insert (table_at self.old n) prefix tt)) }
         ensures err { OnErr result (table_at self.new ≡ table_at self.old) }
     {
-        insert(&mut self.sets[n], prefix)
+        self.sets[n].insert(prefix)
     }
 
     /// A prefix is due no more.
@@ -100,10 +88,10 @@ impl DueSets {
     }
 
     /// Another set is due.
-    pub(crate) fn put(&mut self, n: usize, set: TrieTable<()>)
+    pub(crate) fn put(&mut self, n: usize, set: DueSet)
         requires { n < length self.old }
         ensures length { length self.new ≡ length self.old }
-        ensures put { table_at self.new ≡ at (table_at self.old) n set.contents }
+        ensures put { table_at self.new ≡ at (table_at self.old) n set }
     {
         self.sets[n] = set;
     }

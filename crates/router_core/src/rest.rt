@@ -20,7 +20,7 @@ fn first_due(due: &DueSets) -> Option<u8>
     ensures { IsLowestOf (λ n. HasSome (table_at due.now n)) result }
 {
     for number in 0..due.len() {
-        if due.next_after(number, None).is_some() {
+        if due.first(number).is_some() {
             return Some(number as u8);
         }
     }

@@ -1,4 +1,5 @@
 mod adj;
+mod due;
 mod loc;
 mod side_by_side;
 mod sorted;

@@ -14,7 +14,7 @@ use crate::gather::Gathered;
 use crate::passing::{is_told_on, passing};
 use adj_rib::AdjRib;
 use bgp_types::{Attrs, Items, NoMemory, Prefix};
-use prefix_trie::TrieTable;
+use due_set::DueSet;
 use rib_stages::{OutView, Rib};
 use std::alloc::Global;
 
@@ -102,12 +102,12 @@ fn gather(
 pub fn plan(
     alloc: Global,
     rib: &Rib,
-    due: &TrieTable<()>,
+    due: &DueSet,
     told: &AdjRib,
     view: &OutView<'_>,
     wide: bool,
 ) -> Result<Items<Batch>, NoMemory>
-    ensures planned { IfOk result (λ batches. IsPlan (IsToTell due.now.contents rib.now.dirty told.now (to_tell (rib_of rib.now) (out_side view.now))) (to_tell (rib_of rib.now) (out_side view.now)) wide batches) }
+    ensures planned { IfOk result (λ batches. IsPlan (IsToTell due.now rib.now.dirty told.now (to_tell (rib_of rib.now) (out_side view.now))) (to_tell (rib_of rib.now) (out_side view.now)) wide batches) }
     ensures sound { IfOk result AreSound }
 {
     let prefixes = due.prefixes()?;

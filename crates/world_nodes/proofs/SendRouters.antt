@@ -3,6 +3,7 @@ use denote.RattleType.{RattleType}
 use denote.Param.Send.{IsSend, sendable}
 use Rattle.std.proofs.Crossing.{crosses}
 use Rattle.std.proofs.MapsCrossing as maps
+use Rattle.due_set.specs.contracts.due.DueSet as DueSet
 use Rattle.decision_groups.specs.contracts.ranks.Ranks as Ranks
 use Rattle.decision_groups.specs.contracts.group.Group as Group
 use Rattle.decision_groups.specs.contracts.group_set.GroupSet as GroupSet
@@ -22,7 +23,7 @@ use Rattle.world_nodes.proofs.SendValues.{items, name, table, route, known}
 use Rattle.world_nodes.proofs.SendSessions.{session}
 
 ranks : IsSend Ranks.the_row
-ranks = search (sendable, crosses, maps.crosses) depth 40
+ranks = search (sendable, crosses) depth 40
 
 group : IsSend Group.the_row
 group = let r = ranks in search (sendable, crosses) depth 40
@@ -57,8 +58,11 @@ policy_by_name = let n = name in let p = policy in search (sendable, crosses) de
 place : IsSend (Place.the_field).row
 place = let s = session in search (sendable, crosses) depth 40
 
+due_set : IsSend DueSet.the_row
+due_set = search (sendable, crosses, table) depth 40
+
 due : IsSend DueSets.the_row
-due = search (sendable, crosses, table) depth 40
+due = let d = due_set in search (sendable, crosses) depth 40
 
 fields : IsSend (Fields.the_field).row
 fields = let k = known in let p = policy_by_name in let r = rib in let l = place in let d = due in search (sendable, crosses, items) depth 40

@@ -136,7 +136,7 @@ fn put_nothing(
     ensures edges { SameEdges post.old post.new }
     ensures puts { OnOk result (PutsAt n router.old post.old router.new post.new) }
 {
-    if router.due_out.next_after(n, None).is_none() {
+    if router.due_out.first(n).is_none() {
         return Ok(());
     }
     router.due_out.clear(n);

@@ -53,7 +53,7 @@ fn tell_router(
     ensures edges { SameEdges post.old post.new }
     ensures told { OnOk result (TellsRouter q router.old post.old router.new post.new) }
 {
-    while let Some(prefix) = router.due_in.next_after(q, None) {
+    while let Some(prefix) = router.due_in.first(q) {
         tell_one(router, q, prefix, post)?;
     }
     Ok(())

@@ -28,4 +28,4 @@ returns-clause-planned c =
     ∙ ap (λ (k : SessionConfig). let y : OutSide = record { peering = k.peering; local_address = k.local_address; export_rules = rules_by f.policies k.export } in y) c.config-config.ensures in
     subst (λ (x : Place). PlannedAt f.known.setup f.number.0 (router_part f) n x (reverse c.reverse.new.self.items)) (sym is)
     (subst (λ (l : List Batch). PlannedAt f.known.setup f.number.0 (router_part f) n (Live s o) l) (sym all)
-    (planned f n s o c.requires.keeps is c.set-due.result.now.contents c.told.result.now c.wide.result out c.in_ok-batches.batches c.set-due.ensures c.told.ensures c.wide.ensures out_is c.in_ok-batches.ensures.planned))
+    (planned f n s o c.requires.keeps is c.set-due.result.now c.told.result.now c.wide.result out c.in_ok-batches.batches c.set-due.ensures c.told.ensures c.wide.ensures out_is c.in_ok-batches.ensures.planned))

@@ -7,6 +7,6 @@ use Rattle.router_core.proofs.PrefixSets.{due_best}
 use Rattle.router_core.proofs.takes.prefixes.all_best.Goals as goal
 
 pub returns : goal.returns
-returns c = due_best c.args.rib.now.best c.add_all.new.set.contents
-    (subst (λ (ks : List PrefixValue). AddsAll map.empty ks c.add_all.new.set.contents) (c.as_slice.ensures ∙ c.in_ok-best_prefixes.ensures)
-    (subst (λ (m : Prefixes). AddsAll m c.as_slice.result.now c.add_all.new.set.contents) c.new-set.ensures.contents c.in_ok-add_all.ensures))
+returns c = due_best c.args.rib.now.best c.add_all.new.set
+    (subst (λ (ks : List PrefixValue). AddsAll map.empty ks c.add_all.new.set) (c.as_slice.ensures ∙ c.in_ok-best_prefixes.ensures)
+    (subst (λ (m : Prefixes). AddsAll m c.as_slice.result.now c.add_all.new.set) c.new-set.ensures c.in_ok-add_all.ensures))

@@ -16,9 +16,9 @@ use Rattle.router_core.proofs.takes.reads.follow.Goals as goal
 pub returns-in_ok-due-in-Established : goal.returns-in_ok-due-in-Established
 returns-in_ok-due-in-Established c = λ s o live own.
     subst (λ (st : ReadStep). FollowsStep c.args.router.now c.args.peering.0 s st (let g : Fields = record c.args.router.now { due_out = c.put.new.self } in g)) (sym c.in-Established.is)
-    (follows_due c.args.router.now (let g : Fields = record c.args.router.now { due_out = c.put.new.self } in g) c.args.peering.0 s steps.Established c.in_ok-due-in-Established.due.contents refl
+    (follows_due c.args.router.now (let g : Fields = record c.args.router.now { due_out = c.put.new.self } in g) c.args.peering.0 s steps.Established c.in_ok-due-in-Established.due refl
     (enters_none (rib_of c.args.router.now.rib) c.args.peering.0 (entry_here c.args.router.now.home_as c.args.router.now.policies s.session)) c.put.ensures.length
-    (c.put.ensures.put ∙ ap (λ (n : ℕ). at (table_at c.args.router.now.due_out) n c.in_ok-due-in-Established.due.contents) c.from-place.ensures) c.in_ok-due-in-Established.ensures)
+    (c.put.ensures.put ∙ ap (λ (n : ℕ). at (table_at c.args.router.now.due_out) n c.in_ok-due-in-Established.due) c.from-place.ensures) c.in_ok-due-in-Established.ensures)
 
 pub returns-in-Changed : goal.returns-in-Changed
 returns-in-Changed c = λ s o live own.
