@@ -4,13 +4,13 @@ use Rattle.std.specs.List.{filter, AllByRecursion}
 use Rattle.std.specs.List.Sorted.{IsStrictlySortedBy}
 use Rattle.std.specs.Map.{lookup, keys_of, remove_entry}
 use Rattle.std.specs.BTreeMap.{is_at, insert_entry}
-use Rattle.std.specs.Cmp.{IsTotalOrder}
+use Rattle.std.specs.Cmp.{IsTotalOrder, Equal-is}
 use Rattle.std.specs.Ordering.{is_eq, ordering_reverse, match_ordering}
 use Rattle.std.specs.declared.cmp.Ordering.{Ordering}
 use Rattle.std.specs.declared.cmp.Ordering.TheVariants.{Less, Equal, Greater}
 use Rattle.std.proofs.lemmas.Map.Keys.{sorted_head, sorted_tail}
 use Rattle.std.proofs.lemmas.Map.Lookups.{CmpEqualImpliesEq}
-use Rattle.std.proofs.lemmas.Cmp.{tied_itself}
+use Rattle.std.proofs.lemmas.Cmp.{tied_itself, alike_right}
 use Rattle.decision_groups.specs.Places.{IsBelow}
 
 below_further : {K : Type 0} {R : K → K → Ordering} → IsTotalOrder R → (j k : K) → R j k ≡ Less → (ks : List K) → AllByRecursion (λ q. R k q ≡ Less) ks → AllByRecursion (λ q. R j q ≡ Less) ks
@@ -158,3 +158,26 @@ pub sorted-remove : {K X : Type 0} (R : K → K → Ordering) (test : K → Bool
 unfolding IsStrictlySortedBy
 sorted-remove R test [] s = tt
 sorted-remove R test (e ∷ es) s = sorted_taken R (test e.0) e es (remove_entry test es) s (below_remove R e.0 test es s.0) (sorted-remove R test es s.1)
+
+-- ---- what is found once an entry is put in
+
+found_equal : {X : Type 0} (a : Bool) (v w : X) (o : Option X) → cond a (Some v) o ≡ cond a (Some v) (cond a (Some w) o)
+found_equal true v w o = refl
+found_equal false v w o = refl
+
+found_greater : {X : Type 0} (a b : Bool) (v w : X) (o : Option X) → (a ≡ true → b ≡ true → ⊥) → cond b (Some w) (cond a (Some v) o) ≡ cond a (Some v) (cond b (Some w) o)
+found_greater true true v w o apart = absurd (apart refl refl)
+found_greater true false v w o apart = refl
+found_greater false b v w o apart = refl
+
+found_placed : {K X : Type 0} {R : K → K → Ordering} → IsTotalOrder R → (q k : K) (v : X) (e : K × X) (es fs : List (K × X)) (a : Ordering) → R k e.0 ≡ a → lookup (is_at (R q)) fs ≡ cond (is_at (R q) k) (Some v) (lookup (is_at (R q)) es) → lookup (is_at (R q)) (match_ordering a ((k, v) ∷ (e ∷ es)) ((e.0, v) ∷ es) (e ∷ fs)) ≡ cond (is_at (R q) k) (Some v) (lookup (is_at (R q)) (e ∷ es))
+found_placed o q k v e es fs Less is rest = refl
+found_placed {R = R} o q k v e es fs Equal is rest =
+    rw (alike_right o k e.0 q is) (found_equal (is_at (R q) e.0) v e.1 (lookup (is_at (R q)) es))
+found_placed {R = R} o q k v e es fs Greater is rest =
+    rw rest (found_greater (is_at (R q) k) (is_at (R q) e.0) v e.1 (lookup (is_at (R q)) es)
+    (λ here there. let equal : R k e.0 ≡ Equal = sym (o.congr q k e.0 ((Equal-is (R q k)).0 here)) ∙ (Equal-is (R q e.0)).0 there in cc))
+
+pub lookup-insert_entry : {K X : Type 0} {R : K → K → Ordering} → IsTotalOrder R → (q k : K) (v : X) (es : List (K × X)) → lookup (is_at (R q)) (insert_entry R es k v) ≡ cond (is_at (R q) k) (Some v) (lookup (is_at (R q)) es)
+lookup-insert_entry o q k v [] = refl
+lookup-insert_entry {R = R} o q k v (e ∷ es) = found_placed o q k v e es (insert_entry R es k v) (R k e.0) refl (lookup-insert_entry o q k v es)

@@ -1,5 +1,6 @@
 pub mod Entries
 pub mod Places
+pub mod Numbered
 pub mod OrderLaws
 pub mod Kept
 pub mod Members

@@ -1,12 +1,11 @@
 -- What a search by halves finds among entries in the order of their keys, and what a change there leaves.
-use Rattle.std.proofs.Common.{◌≡◌, ℕ, zero, suc, ◌+◌, ◌<◌, ◌≤◌, false, List, [], ◌∷◌, length, get_or, set, Some, None, Result, Ok, Err, IfOk, IfErr, refl, sym, ap, ◌∙◌, arith, add-one}
+use Rattle.std.proofs.Common.{◌≡◌, ℕ, zero, suc, ◌+◌, ◌<◌, ◌≤◌, false, List, [], ◌∷◌, length, get_or, set, Some, None, Result, Ok, Err, IfOk, IfErr, refl, sym, ap, ◌∙◌, arith}
 use Rattle.std.specs.List as list
-use Rattle.std.specs.List.{AllByRecursion}
 use Rattle.std.specs.List.Sorted.{IsStrictlySortedBy, IsSearchInRange, IsBinarySearchResult}
 use Rattle.std.specs.Map.{lookup, keys_of, remove_entry}
 use Rattle.std.specs.BTreeMap.{is_at, insert_entry}
 use Rattle.std.specs.Cmp.{IsTotalOrder}
-use Rattle.std.specs.Ordering.{is_eq, is_lt, ordering_reverse}
+use Rattle.std.specs.Ordering.{is_lt, ordering_reverse}
 use Rattle.std.specs.declared.cmp.Ordering.{Ordering}
 use Rattle.std.specs.declared.cmp.Ordering.TheVariants.{Less, Equal, Greater}
 use Rattle.std.proofs.lemmas.Cmp.{tied_back}
@@ -97,6 +96,12 @@ module _ {K X : Type 0} (R : K → K → Ordering) (k : K) where
   remove_place [] at here = absurd here
   remove_place (e ∷ es) zero here = rw here refl
   remove_place (e ∷ es) (suc at) here = rw here.0 (ap (λ (fs : List (K × X)). e ∷ fs) (remove_place es at here.1))
+
+  -- what was written over an entry is gone with it
+  pub remove_over : (es : List (K × X)) (at : ℕ) (e : K × X) → IsPlace R k es at → list.remove (set es at e) at ≡ list.remove es at
+  remove_over [] at e here = absurd here
+  remove_over (f ∷ es) zero e here = refl
+  remove_over (f ∷ es) (suc at) e here = ap (λ (fs : List (K × X)). f ∷ fs) (remove_over es at e here.1)
 
   pub lookup_gap : (es : List (K × X)) (at : ℕ) → IsGap R k es at → lookup (is_at (R k)) es ≡ None
   lookup_gap es zero gap = lookup_below R k es gap

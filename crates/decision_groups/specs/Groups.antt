@@ -1,7 +1,9 @@
 -- What is kept of each neighbour AS, and how the choice is found of it.
 use Rattle.std.specs.Prelude.{◌≡◌, ℕ, nat_lt, Bool, true, List, [], ◌∷◌, Option, Some, None, unwrap_or}
 use Rattle.std.specs.Ordering.{nat_cmp, is_lt}
-use Rattle.std.specs.BTreeMap.{BTreeMap, get}
+use Rattle.std.specs.List.Sorted.{IsStrictlySortedBy}
+use Rattle.std.specs.Map.{lookup, keys_of}
+use Rattle.std.specs.BTreeMap.{is_at}
 use Rattle.bgp_types.specs.declared.rank.Rank.{Rank}
 use Rattle.decision_core.specs.Choice.{Rule}
 use Rattle.decision_core.specs.Search.{in_turn, leads, is_nearer, pick, best_by}
@@ -39,11 +41,23 @@ abbrev pub some_members : List RankedSource → Option (List RankedSource)
 some_members [] = None
 some_members (c ∷ cs) = Some (c ∷ cs)
 
+-- the members of a group beside the number of its neighbour AS
+abbrev pub NumberedGroup : Type 0
+NumberedGroup = ℕ × List RankedSource
+
+-- by rising number of the neighbour AS, and none twice
+abbrev pub AreNumbered : List NumberedGroup → Type 0
+AreNumbered groups = IsStrictlySortedBy nat_cmp (keys_of groups)
+
+-- a neighbour AS' group
+abbrev pub group_at : List NumberedGroup → ℕ → Option (List RankedSource)
+group_at groups neighbour = lookup (is_at (nat_cmp neighbour)) groups
+
 -- the members of a neighbour AS' group
-abbrev pub members_of : BTreeMap ℕ (List RankedSource) → ℕ → List RankedSource
-members_of groups neighbour = unwrap_or (get nat_cmp groups neighbour) []
+abbrev pub members_of : List NumberedGroup → ℕ → List RankedSource
+members_of groups neighbour = unwrap_or (group_at groups neighbour) []
 
 -- each group has exactly the candidates of its neighbour AS, and none is empty
-pub record AreGroupsOf (candidates : List RankedSource) (groups : BTreeMap ℕ (List RankedSource)) : Type 0 where
+pub record AreGroupsOf (candidates : List RankedSource) (groups : List NumberedGroup) : Type 0 where
   pub in_order : IsInOrder candidates
-  pub each : (neighbour : ℕ) → get nat_cmp groups neighbour ≡ some_members (group_of neighbour candidates)
+  pub each : (neighbour : ℕ) → group_at groups neighbour ≡ some_members (group_of neighbour candidates)

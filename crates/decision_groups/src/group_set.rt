@@ -5,11 +5,10 @@ ghost use Rattle.std.specs.Option.{option_copied};
 ghost use Rattle.decision_core.specs.Choice.{choice};
 ghost use Rattle.decision_groups.specs.Order.{IsInOrder, rank_at, with_rank, without};
 
-use crate::groups::{Groups, best_champion, join, leave};
+use crate::groups::Groups;
 use crate::ranks::Ranks;
 use bgp_types::{From, NoMemory, Rank};
 use std::alloc::Global;
-use std::collections::BTreeMap;
 use std::marker::Model;
 
 /// The ranks of the routes to one prefix, at most one of each `From`. Contracts see the list of them
@@ -44,7 +43,7 @@ impl GroupSet {
         GroupSet {
             alloc,
             ranks: Ranks::new(alloc),
-            groups: BTreeMap::new(alloc),
+            groups: Groups::new(alloc),
         }
     }
 
@@ -75,17 +74,17 @@ impl GroupSet {
         ensures err { OnErr result (self.new ≡ self.old) }
         ensures in_order { IsInOrder self.new }
     {
-        join(&mut self.groups, self.alloc, from, rank)?;
+        self.groups.join(self.alloc, from, rank)?;
         match self.ranks.insert(from, rank) {
             Ok(Some(old)) => {
                 if old.neighbour != rank.neighbour {
-                    leave(&mut self.groups, from, old.neighbour);
+                    self.groups.leave(from, old.neighbour);
                 }
                 Ok(())
             }
             Ok(None) => Ok(()),
             Err(no_memory) => {
-                leave(&mut self.groups, from, rank.neighbour);
+                self.groups.leave(from, rank.neighbour);
                 Err(no_memory)
             }
         }
@@ -101,7 +100,7 @@ impl GroupSet {
     {
         match self.ranks.remove(from) {
             Some(held) => {
-                leave(&mut self.groups, from, held.neighbour);
+                self.groups.leave(from, held.neighbour);
                 true
             }
             None => false,
@@ -117,6 +116,6 @@ impl GroupSet {
         ensures choice { result ≡ choice self.now }
         ensures in_order { IsInOrder self.now }
     {
-        best_champion(&self.groups).map(|(from, _)| from)
+        self.groups.best_champion().map(|(from, _)| from)
     }
 }

@@ -1,52 +1,34 @@
 //! The groups of all neighbour ASes.
 
-ghost use Rattle.std.specs.Prelude.{◌≡◌, ℕ, ◌==◌, Some, [], OnOk, OnErr, if◌then◌else◌, filter_map};
+ghost use Rattle.std.specs.Prelude.{◌≡◌, ℕ, ◌==◌, Some, [], OnOk, OnErr, IfOk, IfErr, if◌then◌else◌, filter_map};
 ghost use Rattle.std.specs.Ordering.{nat_cmp};
-ghost use Rattle.std.specs.BTreeMap.{get, values, IsOrdered};
+ghost use Rattle.std.specs.Map.{values_of};
 ghost use Rattle.decision_core.specs.Search.{best_by};
 ghost use Rattle.decision_groups.specs.Order.{with_rank, without};
-ghost use Rattle.decision_groups.specs.Groups.{members_of, some_members, champion_of, comes_first as comes_first_lem, better_of};
+ghost use Rattle.decision_groups.specs.Groups.{NumberedGroup, AreNumbered, group_at, members_of, some_members, champion_of, comes_first as comes_first_lem, better_of};
+ghost use Rattle.decision_groups.specs.Places.{IsPlace, IsGap};
 
 use crate::group::Group;
 use bgp_types::{From, NoMemory, Rank};
 use decision_core::{is_nearer, leads};
 use std::alloc::Global;
-use std::collections::BTreeMap;
+use std::marker::Model;
 
-/// The groups by the number of their neighbour AS.
-pub(crate) type Groups = BTreeMap<u32, Group>;
-
-/// Puts a rank into the group of its neighbour AS, which is made where it isn't there.
-pub(crate) fn join(
-    groups: &mut Groups,
-    alloc: Global,
-    from: From,
-    rank: Rank,
-) -> Result<(), NoMemory>
-    ensures ok { OnOk result ((n : ℕ) → get nat_cmp groups.new n ≡ (if n == rank.neighbour then Some (with_rank (members_of groups.old n) from rank) else get nat_cmp groups.old n)) }
-    ensures err { OnErr result ((n : ℕ) → get nat_cmp groups.new n ≡ get nat_cmp groups.old n) }
-{
-    match groups.get_mut(&rank.neighbour) {
-        Some(group) => group.set(from, rank),
-        None => {
-            let group = Group::one(alloc, from, rank)?;
-            groups.insert(rank.neighbour, group)?;
-            Ok(())
-        }
-    }
+/// The groups of the neighbour ASes that told a rank, by rising number of the neighbour.
+#[derive(Drop)]
+pub(crate) struct Groups {
+    entries: Vec<(u32, Group)>,
 }
 
-/// Takes a rank out of a neighbour AS' group. A group whose last rank goes, goes too.
-pub(crate) fn leave(groups: &mut Groups, from: From, neighbour: u32)
-    ensures { (n : ℕ) → get nat_cmp groups.new n ≡ (if n == neighbour then some_members (without (members_of groups.old n) from) else get nat_cmp groups.old n) }
-{
-    let Some(group) = groups.get_mut(&neighbour) else {
-        return;
-    };
-    group.remove(from);
-    if group.is_empty() {
-        groups.remove(&neighbour);
-    }
+impl Model for Groups {
+    ghost use Rattle.std.specs.Prelude.{List};
+    ghost use Rattle.decision_groups.specs.Groups.{NumberedGroup, AreNumbered};
+
+    ghost Value = { List NumberedGroup };
+
+    ghost view = { λ g. g.entries.items };
+
+    ghost invariant = { λ g. AreNumbered g.entries.items };
 }
 
 /// Whether a champion is better than another by the rules but MED, or equal by them and earlier in the
@@ -77,14 +59,63 @@ fn better(best: Option<(From, Rank)>, champion: Option<(From, Rank)>) -> Option<
     }
 }
 
-/// The champion that comes before all others.
-pub(crate) fn best_champion(groups: &Groups) -> Option<(From, Rank)>
-    ensures best { result ≡ best_by comes_first_lem (filter_map champion_of (values groups.now)) }
-    ensures ordered { IsOrdered nat_cmp groups.now }
+// Where the group of a neighbour AS stands, or where it would stand.
+fn place(entries: &[(u32, Group)], neighbour: u32) -> Result<usize, usize>
+    requires { AreNumbered entries.now }
+    ensures found { IfOk result (IsPlace nat_cmp neighbour entries.now) }
+    ensures absent { IfErr result (IsGap nat_cmp neighbour entries.now) }
 {
-    let mut best: Option<(From, Rank)> = None;
-    for group in groups.values() {
-        best = better(best, group.champion());
+    entries.binary_search_by_key(&neighbour, |entry| entry.0)
+}
+
+impl Groups {
+    /// No groups. It takes no memory before the first.
+    pub fn new(alloc: Global) -> Groups
+        ensures { result ≡ [] }
+    {
+        Groups {
+            entries: Vec::new(alloc),
+        }
     }
-    best
+
+    /// Puts a rank into the group of its neighbour AS, which is made where it isn't there.
+    pub fn join(&mut self, alloc: Global, from: From, rank: Rank) -> Result<(), NoMemory>
+        ensures ok { OnOk result ((n : ℕ) → group_at self.new n ≡ (if n == rank.neighbour then Some (with_rank (members_of self.old n) from rank) else group_at self.old n)) }
+        ensures err { OnErr result ((n : ℕ) → group_at self.new n ≡ group_at self.old n) }
+    {
+        match place(&self.entries, rank.neighbour) {
+            Ok(at) => self.entries[at].1.set(from, rank),
+            Err(at) => {
+                let group = Group::one(alloc, from, rank)?;
+                self.entries.insert(at, (rank.neighbour, group))?;
+                Ok(())
+            }
+        }
+    }
+
+    /// Takes a rank out of a neighbour AS' group. A group whose last rank goes, goes too.
+    pub fn leave(&mut self, from: From, neighbour: u32)
+        ensures { (n : ℕ) → group_at self.new n ≡ (if n == neighbour then some_members (without (members_of self.old n) from) else group_at self.old n) }
+    {
+        let Ok(at) = place(&self.entries, neighbour) else {
+            return;
+        };
+        let group = &mut self.entries[at].1;
+        group.remove(from);
+        if group.is_empty() {
+            self.entries.remove(at);
+        }
+    }
+
+    /// The champion that comes before all others.
+    pub fn best_champion(&self) -> Option<(From, Rank)>
+        ensures best { result ≡ best_by comes_first_lem (filter_map champion_of (values_of self.now)) }
+        ensures numbered { AreNumbered self.now }
+    {
+        let mut best: Option<(From, Rank)> = None;
+        for (_, group) in &self.entries {
+            best = better(best, group.champion());
+        }
+        best
+    }
 }

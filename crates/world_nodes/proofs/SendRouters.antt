@@ -2,10 +2,10 @@
 use denote.RattleType.{RattleType}
 use denote.Param.Send.{IsSend, sendable}
 use Rattle.std.proofs.Crossing.{crosses}
-use Rattle.std.proofs.MapsCrossing as maps
 use Rattle.due_set.specs.contracts.due.DueSet as DueSet
 use Rattle.decision_groups.specs.contracts.ranks.Ranks as Ranks
 use Rattle.decision_groups.specs.contracts.group.Group as Group
+use Rattle.decision_groups.specs.contracts.groups.Groups as Groups
 use Rattle.decision_groups.specs.contracts.group_set.GroupSet as GroupSet
 use Rattle.route_policy.specs.contracts.best.Best as Best
 use Rattle.route_policy.specs.contracts.entry.Entry as Entry
@@ -28,8 +28,11 @@ ranks = search (sendable, crosses) depth 40
 group : IsSend Group.the_row
 group = let r = ranks in search (sendable, crosses) depth 40
 
-groups : IsSend GroupSet.the_row
-groups = let r = ranks in let g = group in search (sendable, crosses, maps.crosses) depth 40
+groups : IsSend Groups.the_row
+groups = let g = group in search (sendable, crosses) depth 40
+
+group_set : IsSend GroupSet.the_row
+group_set = let r = ranks in let g = groups in search (sendable, crosses) depth 40
 
 best : IsSend (Best.the_field).row
 best = let r = route in search (sendable, crosses) depth 40
@@ -50,7 +53,7 @@ rib_config : IsSend (RibConfig.the_field).row
 rib_config = search (sendable, crosses, items) depth 40
 
 rib : IsSend Rib.the_row
-rib = let c = rib_config in let r = route in let e = entry in let g = groups in let l = loc_rib in search (sendable, crosses, table, sources) depth 40
+rib = let c = rib_config in let r = route in let e = entry in let g = group_set in let l = loc_rib in search (sendable, crosses, table, sources) depth 40
 
 policy_by_name : IsSend (NamedPolicy.the_field).row
 policy_by_name = let n = name in let p = policy in search (sendable, crosses) depth 40
