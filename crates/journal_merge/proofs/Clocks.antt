@@ -4,7 +4,7 @@ use Rattle.std.specs.List.{AllByRecursion}
 use Rattle.ring_net.specs.Deeds.{Noted, IsLater, Clocked, Rising, deeds}
 use Rattle.ring_net.proofs.Replays.{all-append, clocked-append, clocked_rises, clocked_later, rising-append}
 use Rattle.ring_net.proofs.Takes.{deeds_both}
-use Rattle.journal_merge.specs.Growth.{UpToLevel, ClockedOver}
+use Rattle.journal_merge.specs.Growth.{ClockedOver}
 
 module _ {I : Type 0} where
   -- the same clocks before, and the same events

@@ -1,5 +1,5 @@
 -- A sorted list with the entries of journals is their merge.
-use Rattle.std.proofs.Common.{◌≡◌, ◌≢◌, ◌≤◌, ◌<◌, ◌+◌, ℕ, zero, suc, Bool, true, false, List, [], ◌∷◌, ◌++◌, ◌==◌, ◌&&◌, if◌then◌else◌, length, get_or, flat_map, refl, ap, sym, subst, ◌∙◌, arith, ◌⊎◌, inl, inr}
+use Rattle.std.proofs.Common.{◌≡◌, ◌≢◌, ◌≤◌, ◌<◌, ◌+◌, ℕ, zero, suc, Bool, true, false, List, [], ◌∷◌, ◌++◌, ◌==◌, ◌&&◌, if◌then◌else◌, get_or, flat_map, refl, ap, sym, subst, ◌∙◌, arith, ◌⊎◌, inl, inr}
 use Rattle.std.proofs.Math.ListN.{set}
 use Rattle.std.specs.Prelude.{IsPermutation, sum_by}
 use Rattle.std.specs.List.{AllByRecursion}

@@ -1,5 +1,5 @@
 -- Pieces of what a net did: phases, levels and calls at a mark, one after another, and the run that they are.
-use Rattle.std.proofs.Common.{◌≡◌, ◌≢◌, ◌≤◌, ◌<◌, ◌+◌, ℕ, Bool, true, false, List, [], ◌∷◌, ◌++◌, Option, Some, None, ◌==◌, if◌then◌else◌, length, get_or, refl, ap, sym, subst, ◌∙◌, arith, ◌⊎◌, inl, inr, append_assoc, map}
+use Rattle.std.proofs.Common.{◌≡◌, ◌≢◌, ◌≤◌, ◌<◌, ℕ, Bool, true, false, List, [], ◌∷◌, ◌++◌, Option, Some, None, ◌==◌, if◌then◌else◌, length, get_or, refl, ap, sym, subst, ◌∙◌, arith, ◌⊎◌, inl, inr, append_assoc, map}
 use Rattle.std.specs.Prelude.{slice_get}
 use Rattle.std.specs.List.{AllByRecursion}
 use Rattle.std.proofs.lemmas.Bool.Decides.{nat_tests}
@@ -8,8 +8,8 @@ use Rattle.std.proofs.lemmas.List.Concat.{flat_map-append}
 use Rattle.std.proofs.lemmas.Option.{slice_get-get_or, slice_get_past}
 use Rattle.ring_net.specs.declared.entry.JournalEntry.{JournalEntry}
 use Rattle.ring_net.specs.declared.entry.Stamped.{Stamped}
-use Rattle.ring_net.specs.Deeds.{Deed, Noted, Makes, Replay, IsOwn, IsLater, TakesNone, Counted, Clocked, Rising, stamped, puts, gets, sent_to, taken_from, deeds, noted, entries_of}
-use Rattle.ring_net.specs.Phases.{View, IsGreatest, InOrder, AllAt, Levelled, Phase, Between}
+use Rattle.ring_net.specs.Deeds.{Deed, Noted, Makes, Replay, IsOwn, IsLater, Clocked, Rising, stamped, puts, gets, sent_to, taken_from, deeds, noted, entries_of}
+use Rattle.ring_net.specs.Phases.{View, InOrder, AllAt, Levelled, Phase, Between}
 use Rattle.journal_merge.specs.Merges.{AreSorted, Interleaves, IsCut}
 use Rattle.journal_merge.specs.Worlds.{World}
 use Rattle.ring_net.proofs.Replays.{all-append, deeds_noted, entries_noted, sent_noted, none_taken, clocked_none, rising_counted, replay-append}

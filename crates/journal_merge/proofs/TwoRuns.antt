@@ -1,7 +1,7 @@
 -- The merge of two sorted lists, and of many, two at a time.
-use Rattle.std.proofs.Common.{◌≡◌, ◌≢◌, ◌≤◌, ◌<◌, ◌+◌, ◌-◌, ℕ, zero, suc, Bool, true, false, if◌then◌else◌, List, [], ◌∷◌, ◌++◌, length, get_or, take, drop, length-drop, refl, ap, sym, subst, ◌∙◌, arith, add-one, append_assoc, ◌⊎◌, inl, inr}
+use Rattle.std.proofs.Common.{◌≡◌, ◌≤◌, ◌<◌, ◌+◌, ◌-◌, ℕ, zero, suc, Bool, true, false, if◌then◌else◌, List, [], ◌∷◌, ◌++◌, length, get_or, take, drop, length-drop, refl, ap, sym, subst, ◌∙◌, arith, add-one, append_assoc, ◌⊎◌, inl, inr}
 use Rattle.std.specs.Prelude.{IsPermutation}
-use Rattle.std.specs.List.{AllByRecursion}
+use Rattle.std.specs.List.{AllByRecursion, remove}
 use Rattle.std.proofs.Math.Seq.{drop-cons}
 use Rattle.std.proofs.lemmas.Bool.Decides.{nat_tests}
 use Rattle.std.proofs.lemmas.List.{append-nil, take_all}
@@ -133,13 +133,34 @@ merging_done first second i j so_far (inr l) h = ap (λ zs. (so_far ++ drop i fi
 -- ---- the loop over many
 
 -- two lists of the queue are one at its end
-pub joined_more : (x y m : List JournalEntry) (rest : List (List JournalEntry)) → IsPermutation (x ++ y) m → IsPermutation (joined (x ∷ y ∷ rest)) (joined (rest ++ m ∷ []))
-joined_more x y m rest h = rw (joined-append rest m, sym (append_assoc x y (joined rest)))
-    (IsPermutation-trans ((x ++ y) ++ joined rest) (m ++ joined rest) (joined rest ++ m) (IsPermutation-append_left (joined rest) (x ++ y) m h) (IsPermutation-append_comm m (joined rest)))
+-- a list that is merged of two of many stands behind the others
+pub joined_more : (xs : List JournalEntry) (x y m : List JournalEntry) (two one rest : List (List JournalEntry)) → IsPermutation (joined two) (x ++ joined one) → IsPermutation (joined one) (y ++ joined rest)
+    → IsPermutation (x ++ y) m → IsPermutation xs (joined two) → IsPermutation xs (joined (rest ++ m ∷ []))
+joined_more xs x y m two one rest first second both all = rw (joined-append rest m)
+    (IsPermutation-trans xs (joined two) (joined rest ++ m) all
+    (IsPermutation-trans (joined two) (x ++ joined one) (joined rest ++ m) first
+    (IsPermutation-trans (x ++ joined one) (x ++ (y ++ joined rest)) (joined rest ++ m) (IsPermutation-append_right x (joined one) (y ++ joined rest) second)
+    (rw (sym (append_assoc x y (joined rest)))
+    (IsPermutation-trans ((x ++ y) ++ joined rest) (m ++ joined rest) (joined rest ++ m) (IsPermutation-append_left (joined rest) (x ++ y) m both) (IsPermutation-append_comm m (joined rest)))))))
   where
     joined-append : (js : List (List JournalEntry)) (m : List JournalEntry) → joined (js ++ m ∷ []) ≡ joined js ++ m
     joined-append [] m = append-nil m
     joined-append (j ∷ js) m = ap (λ xs. j ++ xs) (joined-append js m) ∙ sym (append_assoc j (joined js) m)
+
+-- one of many lists is taken out
+pub pulled : (runs : List (List JournalEntry)) (i : ℕ) (x : List JournalEntry) → i < length runs → x ≡ get_or runs i x → IsPermutation (joined runs) (x ++ joined (remove runs i))
+pulled [] i x h is = absurd (omega (arith, h))
+pulled (r ∷ runs) zero x h is = subst (λ (y : List JournalEntry). IsPermutation (r ++ joined runs) (y ++ joined runs)) (sym is) (IsPermutation-refl (r ++ joined runs))
+pulled (r ∷ runs) (suc i) x h is =
+    let rest = joined (remove runs i) in
+    IsPermutation-trans (r ++ joined runs) (r ++ (x ++ rest)) (x ++ (r ++ rest)) (IsPermutation-append_right r (joined runs) (x ++ rest) (pulled runs i x (omega (arith, h)) is))
+    (subst (λ (ys : List JournalEntry). IsPermutation ys (x ++ (r ++ rest))) (append_assoc r x rest)
+    (subst (λ (ys : List JournalEntry). IsPermutation ((r ++ x) ++ rest) ys) (append_assoc x r rest) (IsPermutation-append_left rest (r ++ x) (x ++ r) (IsPermutation-append_comm r x))))
+
+pub ordered_pulled : (runs : List (List JournalEntry)) (i : ℕ) (x : List JournalEntry) → i < length runs → x ≡ get_or runs i x → AllOrdered runs → NoneBefore x × AllOrdered (remove runs i)
+ordered_pulled [] i x h is order = absurd (omega (arith, h))
+ordered_pulled (r ∷ runs) zero x h is order = (subst (λ (y : List JournalEntry). NoneBefore y) (sym is) order.0, order.1)
+ordered_pulled (r ∷ runs) (suc i) x h is order = let rest = ordered_pulled runs i x (omega (arith, h)) is order.1 in (rest.0, (order.0, rest.1))
 
 pub ordered_more : (runs : List (List JournalEntry)) (m : List JournalEntry) → AllOrdered runs → NoneBefore m → AllOrdered (runs ++ m ∷ [])
 ordered_more [] m h k = (k, tt)

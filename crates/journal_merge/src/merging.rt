@@ -1,13 +1,12 @@
 //! The merge of journals.
 
-ghost use Rattle.std.specs.Prelude.{◌≡◌, ◌++◌, [], flat_map, slice_index_or, IfOk};
+ghost use Rattle.std.specs.Prelude.{◌≡◌, ◌<◌, ◌+◌, ◌++◌, [], flat_map, length, slice_index_or, IfOk};
 ghost use Rattle.std.specs.Prelude.{IsPermutation};
 ghost use Rattle.journal_merge.specs.Merges.{IsMerged, Interleaves, NoneBefore, AllOrdered, by_clock};
 
 use graft_edge::{Items, NoMemory};
 use ring_net::{Journal, JournalEntry, Journals};
 use std::alloc::Global;
-use std::collections::VecDeque;
 
 /// Whether an entry stands before another: by clock, and at one clock by actor.
 fn is_before(first: &JournalEntry, second: &JournalEntry) -> bool
@@ -44,26 +43,53 @@ fn merge_two(
     Ok(Items::from_vec(merged))
 }
 
-/// The entries of sorted lists as one sorted list. Two lists at a time are merged, in turn.
-fn merge_all(alloc: Global, mut runs: VecDeque<Journal>) -> Result<Journal, NoMemory>
+/// The place of a shortest one of lists.
+fn shortest(runs: &[Journal]) -> usize
+    requires { 0 < length runs.now }
+    ensures { result < length runs.now }
+{
+    let mut shortest = 0;
+    for at in 1..runs.len() {
+        if runs[at].len() < runs[shortest].len() {
+            shortest = at;
+        }
+    }
+    shortest
+}
+
+/// Takes a shortest one of sorted lists out.
+fn take_shortest(runs: &mut Vec<Journal>) -> Journal
+    requires { 0 < length runs.old.items }
+    ensures all { IsPermutation (flat_map (λ run. run) runs.old.items) (result ++ flat_map (λ run. run) runs.new.items) }
+    ensures order { AllOrdered runs.old.items → NoneBefore result × AllOrdered runs.new.items }
+    ensures fewer { length runs.new.items + 1 ≡ length runs.old.items }
+{
+    let at = shortest(runs);
+    runs.remove(at)
+}
+
+/// The entries of sorted lists as one sorted list. The two shortest lists are merged, again and again.
+fn merge_all(alloc: Global, mut runs: Vec<Journal>) -> Result<Journal, NoMemory>
     requires { AllOrdered runs.items }
     ensures all { IfOk result (IsPermutation (flat_map (λ run. run) runs.items)) }
     ensures order { IfOk result NoneBefore }
 {
-    while let Some(first) = runs.pop_front() {
-        let Some(second) = runs.pop_front() else {
-            return Ok(first);
-        };
-        runs.push_back(merge_two(alloc, first.as_slice(), second.as_slice())?)?;
+    while runs.len() > 1 {
+        let first = take_shortest(&mut runs);
+        let second = take_shortest(&mut runs);
+        runs.push(merge_two(alloc, first.as_slice(), second.as_slice())?)?;
     }
-    Ok(Items::new(alloc))
+    match runs.pop() {
+        Some(run) => Ok(run),
+        None => Ok(Items::new(alloc)),
+    }
 }
 
 /// All entries by clock, and at one clock by actor. Its time grows with their number times the
-/// logarithm of the number of journals, and it holds at most all entries twice.
+/// logarithm of the number of journals, and with the square of the number of journals; and it holds at most all entries twice.
 pub fn merge(alloc: Global, journals: Journals) -> Result<Journal, NoMemory>
     ensures merged { IfOk result (IsMerged journals) }
     ensures each { IfOk result (Interleaves (λ k. slice_index_or journals k [])) }
 {
-    merge_all(alloc, VecDeque::from_vec(journals.into_items().into_vec()))
+    merge_all(alloc, journals.into_items().into_vec())
 }
