@@ -4,3 +4,4 @@ pub mod Nexts
 pub mod Puts
 pub mod Counts
 pub mod Longests
+pub mod Changes

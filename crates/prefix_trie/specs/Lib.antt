@@ -1,3 +1,4 @@
+pub mod Changes
 pub mod Halves
 pub mod Longest
 pub mod Nodes

@@ -4,6 +4,8 @@
 
 ghost use Rattle.std.specs.Prelude.{Some, None, false, [], ◌+◌, ◌-◌, ◌<◌, ◌≤◌, ◌≡◌, ℕ, not, nat_lt, option_copied, map, length, ◌++◌, if◌then◌else◌, IsOk, IsSome, IfSome, IfNone, IsTrue, OnSome, OnOk, OnErr, ◌/◌, ◌^◌, ◌↔◌};
 ghost use Rattle.std.specs.FinMap as table;
+ghost use Rattle.std.specs.Fn.{FnOnceReturnsAtMut};
+ghost use Rattle.prefix_trie.specs.Changes.{ChangeResult};
 ghost use Rattle.std.specs.FinMap.Entries.{where_key};
 ghost use Rattle.std.specs.Ordering.{eq_by_cmp};
 ghost use Rattle.bgp_types.specs.Tables.{prefix_cmp, first_above};
@@ -99,6 +101,37 @@ pub fn find<V>(tree: &Tree<V>, prefix: Prefix) -> Option<&V>
         };
     }
     None
+}
+
+/// Changes the value of a prefix in place, and answers what the change answers. Where the prefix has no value, nothing changes, and
+/// the answer is None.
+pub fn change<V, R, F: FnOnce(&mut V) -> R>(
+    tree: &mut Tree<V>,
+    prefix: Prefix,
+    edit: F,
+) -> Option<R>
+    requires trie { IsTrie tree.old }
+    requires callable { F.IsAlwaysCallable edit }
+    ensures trie { IsTrie tree.new }
+    ensures changed { ChangeResult (FnOnceReturnsAtMut F.FnOnce edit) prefix result (entries tree.old) (entries tree.new) }
+{
+    let Tree::Fork(node) = tree else {
+        return None;
+    };
+    let node: &mut Node<V> = node;
+    if node.prefix.len() >= prefix.len() {
+        if node.prefix != prefix {
+            return None;
+        }
+        return match &mut node.value {
+            Some(value) => Some(edit(value)),
+            None => None,
+        };
+    }
+    if is_early(prefix.address(), node.prefix) {
+        return change(&mut node.zero, prefix, edit);
+    }
+    change(&mut node.one, prefix, edit)
 }
 
 /// The least prefix of all. A node without a value has two branches, and neither is empty, so this

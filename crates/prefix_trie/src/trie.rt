@@ -1,13 +1,16 @@
 //! A table of prefixes as a trie.
 
-ghost use Rattle.std.specs.Prelude.{◌≡◌, ◌+◌, ◌≤◌, ℕ, IsOk, IsSome, IfOk, IfErr, OnOk, OnErr, option_copied};
+ghost use Rattle.std.specs.Prelude.{◌≡◌, ◌+◌, ◌≤◌, ℕ, None, IfSome, IfNone, IsOk, IsSome, IfOk, IfErr, OnOk, OnErr, option_copied};
 ghost use Rattle.std.specs.FinMap as map;
+ghost use Rattle.std.specs.Fn.{FnOnceReturnsAtMut};
+ghost use Rattle.prefix_trie.specs.Changes.{ChangesAt};
 ghost use Rattle.bgp_types.specs.Prefixes.{prefix_of};
 ghost use Rattle.bgp_types.specs.Tables.{prefix_cmp, first_above};
 ghost use Rattle.prefix_trie.specs.Longest.{LongestOf};
 
 use crate::node::{
-    Node, Spares, Tree, clear, find, first, list, longest, make_places, next, put, reserve, take,
+    Node, Spares, Tree, change, clear, find, first, list, longest, make_places, next, put, reserve,
+    take,
 };
 use bgp_types::{Items, NoMemory, Prefix, PrefixList, SpareTable, Table};
 use std::alloc::Global;
@@ -77,6 +80,18 @@ impl<V: Drop> TrieTable<V> {
         let mut prefixes = Items::from_vec(Vec::with_capacity(self.alloc, self.len)?);
         list(&self.root, &mut prefixes)?;
         Ok(prefixes)
+    }
+
+    /// Changes the value of a prefix in place, on one way down, and answers what the change answers. Where the prefix has no value,
+    /// nothing changes, and the answer is None. It asks for no memory.
+    pub fn change<R, F: FnOnce(&mut V) -> R>(&mut self, prefix: Prefix, edit: F) -> Option<R>
+        requires { F.IsAlwaysCallable edit }
+        ensures changed { IfSome result (λ r. ChangesAt (FnOnceReturnsAtMut F.FnOnce edit) prefix r self.old.contents self.new.contents) }
+        ensures none { IfNone result (map.get self.old.contents prefix ≡ None) }
+        ensures same { IfNone result (self.new.contents ≡ self.old.contents) }
+        ensures room { self.new.room ≡ self.old.room }
+    {
+        change(&mut self.root, prefix, edit)
     }
 
     /// Takes all prefixes out, and keeps their nodes as `remove` does. It asks for no memory.
