@@ -322,7 +322,6 @@ impl Rib {
         self.loc.mark(prefix)?;
         drop_rank(
             &mut self.groups,
-            self.alloc,
             prefix,
             From::Peering(PeeringId(n)),
         );
@@ -372,7 +371,6 @@ impl Rib {
         self.loc.mark(prefix)?;
         drop_rank(
             &mut self.groups,
-            self.alloc,
             prefix,
             From::Router(RouterId(n)),
         );
