@@ -1,10 +1,10 @@
 //! The ranks of the routes to each prefix.
 
-ghost use Rattle.std.specs.Prelude.{◌≡◌, [], Some, None, IsOk, IsSome, IfOk, OnOk, OnErr};
+ghost use Rattle.std.specs.Prelude.{◌≡◌, ◌↔◌, [], Some, None, IsTrue, OnOk, OnErr};
 ghost use Rattle.std.specs.FinMap as map;
 ghost use Rattle.bgp_types.specs.Prefixes.{PrefixValue};
 ghost use Rattle.decision_core.specs.Choice.{choice};
-ghost use Rattle.decision_groups.specs.Order.{IsInOrder};
+ghost use Rattle.decision_groups.specs.Order.{IsInOrder, without};
 ghost use Rattle.rib_stages.specs.Ranks.{ranks_at, ranks_with, SetsRank};
 
 use bgp_types::{From, NoMemory, Prefix, Rank, Table};
@@ -37,18 +37,24 @@ pub(crate) fn set_rank(
     }
 }
 
+/// Takes a rank out of a prefix's ranks, and answers whether none is left.
+fn take_rank(set: &mut GroupSet, from: From) -> bool
+    ensures left { set.new ≡ without set.old from }
+    ensures empty { IsTrue result ↔ (set.new ≡ []) }
+    ensures in_order { IsInOrder set.old }
+{
+    set.remove(from);
+    set.is_empty()
+}
+
 /// Takes a rank out. The ranks of a prefix go with their last one.
 pub(crate) fn drop_rank(groups: &mut Groups, prefix: Prefix, from: From)
     ensures { SetsRank groups.old.contents prefix from None groups.new.contents }
 {
-    let outcome = groups.change(prefix, |set| {
-        set.remove(from);
-        set.is_empty()
-    });
-    let Some(left_empty) = outcome else {
+    let Some(is_empty) = groups.change(prefix, |set| take_rank(set, from)) else {
         return;
     };
-    if left_empty {
+    if is_empty {
         groups.remove(prefix);
     }
 }

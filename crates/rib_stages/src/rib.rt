@@ -320,11 +320,7 @@ impl Rib {
         ensures err { OnErr result (rib_of self.new ≡ rib_of self.old) }
     {
         self.loc.mark(prefix)?;
-        drop_rank(
-            &mut self.groups,
-            prefix,
-            From::Peering(PeeringId(n)),
-        );
+        drop_rank(&mut self.groups, prefix, From::Peering(PeeringId(n)));
         self.peerings.remove(n, prefix);
         Ok(())
     }
@@ -369,11 +365,7 @@ impl Rib {
         ensures err { OnErr result (rib_of self.new ≡ rib_of self.old) }
     {
         self.loc.mark(prefix)?;
-        drop_rank(
-            &mut self.groups,
-            prefix,
-            From::Router(RouterId(n)),
-        );
+        drop_rank(&mut self.groups, prefix, From::Router(RouterId(n)));
         self.routers.remove(n, prefix);
         Ok(())
     }

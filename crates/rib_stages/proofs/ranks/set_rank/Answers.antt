@@ -1,6 +1,5 @@
-use Rattle.std.proofs.Common.{◌≡◌, [], Some, None, rules, sym, ap, ◌∙◌}
+use Rattle.std.proofs.Common.{◌≡◌, Some, None, rules, ap, ◌∙◌}
 use Rattle.std.specs.Prelude.{OnOk, OnErr, Ok}
-use Rattle.std.specs.FinMap as map
 use Rattle.decision_groups.specs.Order.{with_rank}
 use Rattle.rib_stages.specs.Ranks.{RankSets, ranks_at, ranks_with}
 use Rattle.rib_stages.proofs.RankSets.{ranks_there, ranks_put, call_sets, call_keeps}
