@@ -1,6 +1,6 @@
 -- Ranks by prefix, where one of them is set or taken out.
 use Rattle.std.proofs.Common.{◌≡◌, Bool, true, false, cond, List, [], ◌∷◌, Option, Some, None, refl, sym, ap, subst, ◌∙◌}
-use Rattle.std.specs.Prelude.{◌≢◌, IsSome, Result, Ok, Err, OnOk, OnErr}
+use Rattle.std.specs.Prelude.{◌≢◌, Result, Ok, Err, OnOk, OnErr}
 use Rattle.std.specs.BTreeMap.{is_at, insert_entry}
 use Rattle.std.specs.Cmp.{IsTotalOrder, eq_by_cmp_equiv}
 use Rattle.std.specs.FinMap as map
@@ -129,26 +129,29 @@ again ranks p q = by_test (eq_by_cmp prefix_cmp q p) refl where
   by_test true e = ap (λ (t : Bool). cond t (ranks p) (ranks q)) (sym (tests_same q p) ∙ e) ∙ ap ranks (sym (Rattle.bgp_types.proofs.TableLaws.tied q p e))
   by_test false e = ap (λ (t : Bool). cond t (ranks p) (ranks q)) (sym (tests_same q p) ∙ e)
 
-module _ (before left after : RankSets) (p : PrefixValue) (xs : List RankedSource) (taken : left ≡ map.insert before p []) (put : ranks_at after ≡ ranks_with (ranks_at left) p xs) where
-  -- what was taken out and put back is all that changes
-  pub ranks_after : ranks_at after ≡ ranks_with (ranks_at before) p xs
-  ranks_after = put ∙ (ap (λ (s : RankSets). ranks_with (ranks_at s) p xs) taken ∙ (ap (λ (f : PrefixValue → List RankedSource). ranks_with f p xs) (ranks_put before p []) ∙ λ i q. twice (ranks_at before) p [] xs q i))
-
+module _ (before after : RankSets) (p : PrefixValue) (xs : List RankedSource) (put : ranks_at after ≡ ranks_with (ranks_at before) p xs) where
   -- nothing changes where the same is put back
   pub ranks_back : xs ≡ ranks_at before p → ranks_at after ≡ ranks_at before
-  ranks_back is = ranks_after ∙ (ap (ranks_with (ranks_at before) p) is ∙ λ i q. again (ranks_at before) p q i)
+  ranks_back is = put ∙ (ap (ranks_with (ranks_at before) p) is ∙ λ i q. again (ranks_at before) p q i)
 
   pub sets_rank : (from : From) (rank : Option Rank) → rank_at xs from ≡ rank → ((other : From) → other ≢ from → rank_at xs other ≡ rank_at (ranks_at before p) other) → SetsRank before p from rank after
   sets_rank from rank there others =
-      let here : ranks_at after p ≡ xs = ap (λ (f : PrefixValue → List RankedSource). f p) ranks_after ∙ ap (λ (b : Bool). cond b xs (ranks_at before p)) (sym (tests_same p p) ∙ itself p) in record {
+      let here : ranks_at after p ≡ xs = ap (λ (f : PrefixValue → List RankedSource). f p) put ∙ ap (λ (b : Bool). cond b xs (ranks_at before p)) (sym (tests_same p p) ∙ itself p) in record {
         there = ap (λ (ys : List RankedSource). rank_at ys from) here ∙ there;
         others = λ other differs. ap (λ (ys : List RankedSource). rank_at ys other) here ∙ others other differs;
-        elsewhere = λ q differs. ap (λ (f : PrefixValue → List RankedSource). f q) ranks_after ∙ ap (λ (b : Bool). cond b xs (ranks_at before q)) (sym (tests_same q p) ∙ apart p q differs);
+        elsewhere = λ q differs. ap (λ (f : PrefixValue → List RankedSource). f q) put ∙ ap (λ (b : Bool). cond b xs (ranks_at before q)) (sym (tests_same q p) ∙ apart p q differs);
       }
 
--- what was put in is there
-pub is_there : (before left : RankSets) (p : PrefixValue) (xs : List RankedSource) → left ≡ map.insert before p xs → IsSome (map.get left p)
-is_there before left p xs is = subst IsSome (sym (ap (λ (s : RankSets). map.get s p) is ∙ (map.get-insert prefix_total before p xs p ∙ ap (λ (b : Bool). cond b (Some xs) (map.get before p)) (itself p)))) refl
+-- what goes again once nothing is left
+pub ranks_emptied : (before left : RankSets) (p : PrefixValue) (xs : List RankedSource) → left ≡ map.insert before p xs → xs ≡ [] → ranks_at (map.remove left p) ≡ ranks_with (ranks_at before) p xs
+ranks_emptied before left p xs is empty =
+    ranks_gone left p xs empty
+    ∙ (ap (λ (s : RankSets). ranks_with (ranks_at s) p xs) is
+    ∙ (ap (λ (f : PrefixValue → List RankedSource). ranks_with f p xs) (ranks_put before p xs) ∙ λ i q. twice (ranks_at before) p xs xs q i))
+
+-- the ranks of a prefix that is there, or not
+pub ranks_there : (sets : RankSets) (p : PrefixValue) (o : Option (List RankedSource)) → map.get sets p ≡ o → unwrap_or o [] ≡ ranks_at sets p
+ranks_there sets p o is = ap (λ x. unwrap_or x []) (sym is)
 
 -- a prefix without ranks has none of a source
 pub none_there : (before : RankSets) (p : PrefixValue) (from : From) → map.get before p ≡ None → SetsRank before p from None before
@@ -176,18 +179,18 @@ none_in_order sets p none = subst (λ o. IsInOrder (unwrap_or o [])) (sym none) 
 
 -- ---- whole calls
 
-module _ (before left after : RankSets) (p : PrefixValue) (from : From) (ranks xs : List RankedSource) (taken : ranks ≡ ranks_at before p) (empty : left ≡ map.insert before p []) (put : ranks_at after ≡ ranks_with (ranks_at left) p xs) where
+module _ (before after : RankSets) (p : PrefixValue) (from : From) (ranks xs : List RankedSource) (there : ranks ≡ ranks_at before p) (put : ranks_at after ≡ ranks_with (ranks_at before) p xs) where
   pub call_sets : {A E : Type 0} (r : Result A E) (rank : Rank) → OnOk r (xs ≡ with_rank ranks from rank) → OnOk r (SetsRank before p from (Some rank) after)
-  call_sets (Ok v) rank is = sets_rank before left after p xs empty put from (Some rank)
+  call_sets (Ok v) rank is = sets_rank before after p xs put from (Some rank)
       (ap (λ (ys : List RankedSource). rank_at ys from) is ∙ rank_there ranks from rank)
-      (λ other differs. ap (λ (ys : List RankedSource). rank_at ys other) is ∙ (rank_other ranks from rank other differs ∙ ap (λ (ys : List RankedSource). rank_at ys other) taken))
+      (λ other differs. ap (λ (ys : List RankedSource). rank_at ys other) is ∙ (rank_other ranks from rank other differs ∙ ap (λ (ys : List RankedSource). rank_at ys other) there))
   call_sets (Err e) rank is = tt
 
   pub call_keeps : {A E : Type 0} (r : Result A E) → OnErr r (xs ≡ ranks) → OnErr r (ranks_at after ≡ ranks_at before)
   call_keeps (Ok v) is = tt
-  call_keeps (Err e) is = ranks_back before left after p xs empty put (is ∙ taken)
+  call_keeps (Err e) is = ranks_back before after p xs put (is ∙ there)
 
   pub call_drops : IsInOrder ranks → xs ≡ without ranks from → SetsRank before p from None after
-  call_drops ordered is = sets_rank before left after p xs empty put from None
+  call_drops ordered is = sets_rank before after p xs put from None
       (ap (λ (ys : List RankedSource). rank_at ys from) is ∙ rank_gone ranks from ordered)
-      (λ other differs. ap (λ (ys : List RankedSource). rank_at ys other) is ∙ (rank_left ranks from ordered other differs ∙ ap (λ (ys : List RankedSource). rank_at ys other) taken))
+      (λ other differs. ap (λ (ys : List RankedSource). rank_at ys other) is ∙ (rank_left ranks from ordered other differs ∙ ap (λ (ys : List RankedSource). rank_at ys other) there))

@@ -1,10 +1,10 @@
 //! The ranks of the routes to each prefix.
 
-ghost use Rattle.std.specs.Prelude.{◌≡◌, [], Some, None, IsOk, IsSome, IfOk, OnOk, OnErr};
+ghost use Rattle.std.specs.Prelude.{◌≡◌, ◌↔◌, [], Some, None, IsTrue, OnOk, OnErr};
 ghost use Rattle.std.specs.FinMap as map;
 ghost use Rattle.bgp_types.specs.Prefixes.{PrefixValue};
 ghost use Rattle.decision_core.specs.Choice.{choice};
-ghost use Rattle.decision_groups.specs.Order.{IsInOrder};
+ghost use Rattle.decision_groups.specs.Order.{IsInOrder, without};
 ghost use Rattle.rib_stages.specs.Ranks.{ranks_at, ranks_with, SetsRank};
 
 use bgp_types::{From, NoMemory, Prefix, Rank, Table};
@@ -14,36 +14,6 @@ use std::alloc::Global;
 
 /// For each prefix that has routes, their ranks.
 pub(crate) type Groups = TrieTable<GroupSet>;
-
-/// Takes a prefix's ranks out, and leaves no rank in their place. If memory runs out, nothing changes.
-fn take_ranks(groups: &mut Groups, alloc: Global, prefix: Prefix) -> Result<GroupSet, NoMemory>
-    ensures taken { IfOk result (λ set. set ≡ ranks_at groups.old.contents prefix) }
-    ensures left { OnOk result (groups.new.contents ≡ map.insert groups.old.contents prefix []) }
-    ensures err { OnErr result (groups.new.contents ≡ groups.old.contents) }
-    // What is there is taken without more memory.
-    ensures present { IsSome (map.get groups.old.contents prefix) → IsOk result }
-{
-    match groups.set(prefix, GroupSet::new(alloc)) {
-        Ok(Some(set)) => Ok(set),
-        Ok(None) => Ok(GroupSet::new(alloc)),
-        Err(_) => Err(NoMemory),
-    }
-}
-
-/// Gives a prefix that is there these ranks. Where there are none, it goes.
-fn put_ranks(groups: &mut Groups, prefix: Prefix, set: GroupSet)
-    requires { IsSome (map.get groups.old.contents prefix) }
-    ensures { ranks_at groups.new.contents ≡ ranks_with (ranks_at groups.old.contents) prefix set }
-{
-    if set.is_empty() {
-        groups.remove(prefix);
-        return;
-    }
-    match groups.set(prefix, set) {
-        Ok(_) => (),
-        Err(_) => unreachable!(),
-    }
-}
 
 /// Gives a prefix a rank. If memory runs out, no rank changes.
 pub(crate) fn set_rank(
@@ -56,25 +26,36 @@ pub(crate) fn set_rank(
     ensures ok { OnOk result (SetsRank groups.old.contents prefix from (Some rank) groups.new.contents) }
     ensures err { OnErr result (ranks_at groups.new.contents ≡ ranks_at groups.old.contents) }
 {
-    let mut set = take_ranks(groups, alloc, prefix)?;
-    let outcome = set.set(from, rank);
-    put_ranks(groups, prefix, set);
-    outcome
+    if let Some(outcome) = groups.change(prefix, |set| set.set(from, rank)) {
+        return outcome;
+    }
+    let mut set = GroupSet::new(alloc);
+    set.set(from, rank)?;
+    match groups.set(prefix, set) {
+        Ok(_) => Ok(()),
+        Err(_) => Err(NoMemory),
+    }
+}
+
+/// Takes a rank out of a prefix's ranks, and answers whether none is left.
+fn take_rank(set: &mut GroupSet, from: From) -> bool
+    ensures left { set.new ≡ without set.old from }
+    ensures empty { IsTrue result ↔ (set.new ≡ []) }
+    ensures in_order { IsInOrder set.old }
+{
+    set.remove(from);
+    set.is_empty()
 }
 
 /// Takes a rank out. The ranks of a prefix go with their last one.
-pub(crate) fn drop_rank(groups: &mut Groups, alloc: Global, prefix: Prefix, from: From)
+pub(crate) fn drop_rank(groups: &mut Groups, prefix: Prefix, from: From)
     ensures { SetsRank groups.old.contents prefix from None groups.new.contents }
 {
-    if groups.get(prefix).is_none() {
+    let Some(is_empty) = groups.change(prefix, |set| take_rank(set, from)) else {
         return;
-    }
-    match take_ranks(groups, alloc, prefix) {
-        Ok(mut set) => {
-            set.remove(from);
-            put_ranks(groups, prefix, set);
-        }
-        Err(_) => unreachable!(),
+    };
+    if is_empty {
+        groups.remove(prefix);
     }
 }
 

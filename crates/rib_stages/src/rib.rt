@@ -313,12 +313,7 @@ impl Rib {
         ensures err { OnErr result (rib_of self.new ≡ rib_of self.old) }
     {
         self.loc.mark(prefix)?;
-        drop_rank(
-            &mut self.groups,
-            self.alloc,
-            prefix,
-            From::Peering(PeeringId(n)),
-        );
+        drop_rank(&mut self.groups, prefix, From::Peering(PeeringId(n)));
         self.peerings.remove(n, prefix);
         Ok(())
     }
@@ -363,12 +358,7 @@ impl Rib {
         ensures err { OnErr result (rib_of self.new ≡ rib_of self.old) }
     {
         self.loc.mark(prefix)?;
-        drop_rank(
-            &mut self.groups,
-            self.alloc,
-            prefix,
-            From::Router(RouterId(n)),
-        );
+        drop_rank(&mut self.groups, prefix, From::Router(RouterId(n)));
         self.routers.remove(n, prefix);
         Ok(())
     }
