@@ -20,7 +20,7 @@ use std::marker::Model;
 /// places are made when prefixes are set: it asks for no memory.
 ///
 /// On a way down from the root each prefix is longer than the one above it. So a way has at most 33
-/// nodes, however many prefixes there are. `get`, `set`, `remove` and `longest_match` go one way, and
+/// nodes, however many prefixes there are. `get`, `set`, `change`, `remove` and `longest_match` go one way, and
 /// `next_after` at most one further way from a node of the first; `prefixes` visits each node once. `len` and `spare` read a number.
 /// `reserve` takes a step for each node that it makes.
 #[derive(Drop)]

@@ -29,11 +29,7 @@ pub(crate) fn all_best(alloc: Global, rib: &Rib) -> Result<DueSet, NoMemory>
 }
 
 /// The set of the prefixes that were told on a session or have a best route: what is due on a session that is live again.
-pub(crate) fn due_again(
-    alloc: Global,
-    rib: &Rib,
-    session: &Session,
-) -> Result<DueSet, NoMemory>
+pub(crate) fn due_again(alloc: Global, rib: &Rib, session: &Session) -> Result<DueSet, NoMemory>
     ensures { IfOk result (λ set. IsDueAgain session.now.session.told rib.now.best set) }
 {
     let mut set = all_best(alloc, rib)?;
