@@ -75,13 +75,13 @@ impl Ranks {
         }
     }
 
-    /// One rank, with memory for no more.
+    /// One rank, with memory for a second.
     pub fn one(alloc: Global, from: From, rank: Rank) -> Result<Ranks, NoMemory>
         ensures { IfOk result (λ ranks. ranks ≡ (from, rank) ∷ []) }
     {
-        Ok(Ranks {
-            entries: Vec::from_array(alloc, [(from, rank)])?,
-        })
+        let mut entries = Vec::with_capacity(alloc, 2)?;
+        entries.push((from, rank))?;
+        Ok(Ranks { entries })
     }
 
     pub fn len(&self) -> usize

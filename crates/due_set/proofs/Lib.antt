@@ -1,2 +1,2 @@
-mod Sets
+pub mod Sets
 mod Slots

@@ -1,13 +1,16 @@
 -- What a set that is kept in slots answers, and what a change of it leaves.
 use Rattle.std.proofs.Common.{◌≡◌, Bool, true, false, cond, List, [], ◌∷◌, Option, Some, None, refl, sym, ap, ◌∙◌, subst}
-use Rattle.std.specs.Prelude.{T, is_some, ◌||◌, ◌&&◌}
+use Rattle.std.specs.Prelude.{T, is_some, IsSome, option_copied, ◌||◌, ◌&&◌}
+use Rattle.std.specs.Borrow.{Bor}
+use Rattle.std.proofs.lemmas.List.{append-nil}
+use Rattle.prefix_table.specs.Places.{AllBelow}
 use Rattle.std.specs.Ordering.{eq_by_cmp}
 use Rattle.std.specs.List.{list_any}
 use Rattle.std.specs.FinMap as map
 use Rattle.std.specs.FinMap.Entries.{find-put}
 use Rattle.bgp_types.specs.Prefixes.{PrefixValue}
 use Rattle.bgp_types.specs.Tables.{prefix_cmp}
-use Rattle.bgp_types.proofs.TableLaws.{prefix_total, exact_prefixes, tied, AllAbove, find_above, rising_parts, rise_put}
+use Rattle.bgp_types.proofs.TableLaws.{prefix_total, exact_prefixes, tied, AllAbove, find_above, find_right, rising_parts, rise_put}
 use Rattle.due_set.specs.Slots.{PrefixSet, Slot, united, those_in, with_all}
 
 and_second : (a b : Bool) → T (a && b) → T b
@@ -19,7 +22,7 @@ pub behind : (slot : Slot) (slots : List Slot) → T (map.is_sorted prefix_cmp (
 behind slot slots rise = record { above = (rising_parts prefix_total [] slot slots rise).1; rise = and_second _ _ rise }
 
 -- whether a slot that is found says that its prefix is in the set
-abbrev says_in : Option Bool → Bool
+abbrev pub says_in : Option Bool → Bool
 says_in None = false
 says_in (Some is_in) = is_in
 
@@ -54,6 +57,60 @@ listed_get ((p, true) ∷ slots) beside q =
       | false ↦ listed_get slots beside q
     ]
 listed_get ((p, false) ∷ slots) beside q = listed_get slots beside q
+
+-- whether a prefix is in the set that no slot holds, by what the set beside has
+pub get_beside : (slots : List Slot) → T (map.is_sorted prefix_cmp slots) → (beside : PrefixSet) (p : PrefixValue) → says_in (map.find prefix_cmp p slots) ≡ false → map.get (united slots beside) p ≡ map.get beside p
+get_beside slots rise beside p out = united_get slots rise beside p ∙ ap (λ (b : Bool). cond b here (map.get beside p)) out
+
+-- a prefix that a slot holds is in the set
+pub get_held : (slots : List Slot) → T (map.is_sorted prefix_cmp slots) → (beside : PrefixSet) (p : PrefixValue) → map.find prefix_cmp p slots ≡ Some true → map.get (united slots beside) p ≡ here
+get_held slots rise beside p held = united_get slots rise beside p ∙ ap (λ (o : Option Bool). cond (says_in o) here (map.get beside p)) held
+
+one_value : (o : Option (Unit {0})) → is_some o ≡ true → o ≡ here
+one_value None is = absurd (let e : ◌≡◌ {A = Bool} false true = is in cc)
+one_value (Some u) is = refl
+
+either_here : (b : Bool) → cond b here here ≡ here
+either_here true = refl
+either_here false = refl
+
+-- a prefix that the set beside has is in the set
+pub get_late : (slots : List Slot) → T (map.is_sorted prefix_cmp slots) → (beside : PrefixSet) (p : PrefixValue) → is_some (map.get beside p) ≡ true → map.get (united slots beside) p ≡ here
+get_late slots rise beside p is = united_get slots rise beside p ∙ (ap (cond (says_in (map.find prefix_cmp p slots)) here) (one_value (map.get beside p) is) ∙ either_here (says_in (map.find prefix_cmp p slots)))
+
+-- what greater prefixes follow isn't among those that are below it
+pub find_past : (slots : List Slot) (p : PrefixValue) → AllBelow p slots → map.find prefix_cmp p slots ≡ None
+find_past slots p below = ap (map.find prefix_cmp p) (sym (append-nil slots)) ∙ find_right prefix_cmp p slots [] below
+
+pub not_some : (o : Option (Unit {0})) → o ≡ None → IsSome o → ⊥
+not_some None is some = cc
+not_some (Some u) is some = absurd (let e : ◌≡◌ {A = Option (Unit {0})} (Some u) None = is in cc)
+
+pub nothing : (o : Option (Unit {0})) → is_some o ≡ false → o ≡ None
+nothing None is = refl
+nothing (Some u) is = absurd (let e : ◌≡◌ {A = Bool} true false = is in cc)
+
+-- what is lent is there exactly where it is
+pub lent_some : (o : Option (Bor (Unit {0}))) → is_some (option_copied o) ≡ is_some o
+lent_some None = refl
+lent_some (Some u) = refl
+
+either_none : (b : Bool) → ◌≡◌ {A = Option (Unit {0})} (cond b None None) None
+either_none true = refl
+either_none false = refl
+
+-- nothing is taken out of an empty set
+pub removed_empty : (set : PrefixSet) (p : PrefixValue) → map.len set ≡ 0 → set ≡ map.remove set p
+removed_empty set p none = map.same_map prefix_total exact_prefixes _ _ (λ q.
+    let absent : map.get set q ≡ None = ap (λ (s : PrefixSet). map.get s q) (map.empty_of_len set none) ∙ map.get-empty prefix_cmp q in
+    absent ∙ sym (map.get-remove prefix_total set p q ∙ (ap (cond (eq_by_cmp prefix_cmp q p) None) absent ∙ either_none (eq_by_cmp prefix_cmp q p))))
+
+-- a value that is there is put in again
+pub inserted_again : {A : Type 0} (table : map.FinMap prefix_cmp A) (p : PrefixValue) (x : A) → map.get table p ≡ Some x → map.insert table p x ≡ table
+inserted_again table p x is = map.same_map prefix_total exact_prefixes (map.insert table p x) table (λ q. map.get-insert prefix_total table p x q ∙ by_test q (eq_by_cmp prefix_cmp q p) refl) where
+  by_test : (q : PrefixValue) (b : Bool) → eq_by_cmp prefix_cmp q p ≡ b → cond b (Some x) (map.get table q) ≡ map.get table q
+  by_test q true e = sym is ∙ ap (map.get table) (sym (tied q p e))
+  by_test q false e = refl
 
 -- ---- a prefix comes
 

@@ -97,6 +97,13 @@ slots_out slots start at p are place = record {
   out = out_set slots start at p are.out;
 }
 
+-- one of the first slots, in none of which is anything
+pub early_out : (slots : List Slot) (start at : ℕ) (d : Slot) → AllOut (take start slots) → at < start → at < length slots → (get_or slots at d).1 ≡ false
+early_out [] start at d out early h = absurd (omega arith)
+early_out (slot ∷ slots) zero at d out early h = absurd (omega arith)
+early_out (slot ∷ slots) (suc start) zero d out early h = out.0
+early_out (slot ∷ slots) (suc start) (suc at) d out early h = early_out slots start at d out.1 (omega arith) (omega arith)
+
 -- ---- past all slots
 
 -- what is greater than the last is greater than each

@@ -1,9 +1,9 @@
 //! A set of prefixes that mostly come in rising order, are listed, and go.
 
-ghost use Rattle.std.specs.Prelude.{◌≡◌, T, IsTrue, IfOk, OnOk, OnErr};
+ghost use Rattle.std.specs.Prelude.{◌≡◌, T, is_some, IsOk, IsSome, IsTrue, IfOk, IfErr, OnOk, OnErr};
 ghost use Rattle.std.specs.FinMap as map;
 ghost use Rattle.bgp_types.specs.Tables.{prefix_cmp, first_above};
-ghost use Rattle.prefix_table.specs.Places.{AllBelow};
+ghost use Rattle.prefix_table.specs.Places.{AllBelow, IsGap, IsPlace};
 ghost use Rattle.due_set.specs.Slots.{AreSlots, first_in, lesser_of, those_in, with_all};
 
 use bgp_types::{Items, NoMemory, Prefix, PrefixList, Table};
@@ -66,6 +66,18 @@ fn passed(slots: &[(Prefix, bool)], start: usize) -> usize
     at
 }
 
+/// Where a prefix stands in the slots, or where it would stand: at once for that of the first slot from `start` on, and else by halves.
+fn place_from(slots: &[(Prefix, bool)], start: usize, prefix: Prefix) -> Result<usize, usize>
+    requires { T (map.is_sorted prefix_cmp slots.now) }
+    ensures found { IfOk result (IsPlace slots.now prefix) }
+    ensures absent { IfErr result (IsGap slots.now prefix) }
+{
+    if start < slots.len() && slots[start].0 == prefix {
+        return Ok(start);
+    }
+    place(slots, prefix)
+}
+
 /// The first prefix of the slots that is in the set.
 fn first_of(slots: &[(Prefix, bool)]) -> Option<Prefix>
     ensures { result ≡ first_in slots.now }
@@ -114,6 +126,15 @@ fn add_all(table: &mut TrieTable<()>, prefixes: &[Prefix]) -> Result<(), NoMemor
     Ok(())
 }
 
+/// Takes a prefix out of a table, most of which are empty.
+fn take_out(table: &mut TrieTable<()>, prefix: Prefix)
+    ensures { table.new.contents ≡ map.remove table.old.contents prefix }
+{
+    if table.len() != 0 {
+        table.remove(prefix);
+    }
+}
+
 impl DueSet {
     /// The empty set. It takes no memory before the first prefix.
     pub fn new(alloc: Global) -> DueSet
@@ -131,7 +152,12 @@ impl DueSet {
     pub fn insert(&mut self, prefix: Prefix) -> Result<(), NoMemory>
         ensures ok { OnOk result (self.new ≡ map.insert self.old prefix tt) }
         ensures err { OnErr result (self.new ≡ self.old) }
+        // What is in the set wants no memory.
+        ensures present { IsSome (map.get self.old prefix) → IsOk result }
     {
+        if self.late.get(prefix).is_some() {
+            return Ok(());
+        }
         if is_past(&self.slots, prefix) {
             self.slots.push((prefix, true))?;
             return Ok(());
@@ -152,8 +178,8 @@ impl DueSet {
     pub fn remove(&mut self, prefix: Prefix)
         ensures { self.new ≡ map.remove self.old prefix }
     {
-        self.late.remove(prefix);
-        if let Ok(at) = place(&self.slots, prefix) {
+        take_out(&mut self.late, prefix);
+        if let Ok(at) = place_from(&self.slots, self.start, prefix) {
             self.slots[at] = (prefix, false);
             self.skip();
         }
@@ -167,6 +193,16 @@ impl DueSet {
         if self.start == self.slots.len() {
             self.slots.clear();
             self.start = 0;
+        }
+    }
+
+    /// Whether a prefix is in the set.
+    pub fn contains(&self, prefix: Prefix) -> bool
+        ensures { result ≡ is_some (map.get self.now prefix) }
+    {
+        match place_from(&self.slots, self.start, prefix) {
+            Ok(at) if self.slots[at].1 => true,
+            _ => self.late.get(prefix).is_some(),
         }
     }
 

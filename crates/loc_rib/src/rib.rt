@@ -1,11 +1,12 @@
 //! Best routes and dirty prefixes.
 
-ghost use Rattle.std.specs.Prelude.{◌≡◌, ◌≢◌, Some, None, option_copied, is_some, IsOk, IsSome, IfOk, OnOk, OnErr, MatchBool};
+ghost use Rattle.std.specs.Prelude.{◌≡◌, Some, None, option_copied, is_some, IsOk, IsSome, IfOk, OnOk, OnErr};
 ghost use Rattle.std.specs.FinMap as map;
 ghost use Rattle.bgp_types.specs.Tables.{first_above};
 ghost use Rattle.loc_rib.specs.Values.{with_best, AreApart};
 
 use bgp_types::{From, NoMemory, Prefix, PrefixList, Route, Table, TryCopy};
+use due_set::DueSet;
 use prefix_trie::TrieTable;
 use route_policy::Best;
 use std::alloc::Global;
@@ -15,7 +16,7 @@ use std::marker::Model;
 #[derive(Drop)]
 pub struct LocRib {
     best: TrieTable<Best>,
-    dirty: TrieTable<()>,
+    dirty: DueSet,
 }
 
 impl Model for LocRib {
@@ -26,7 +27,7 @@ impl Model for LocRib {
 
     ghost coded = { coded_loc best_type.the_row.coded };
 
-    ghost view = { λ rib. record { best = rib.best.contents; dirty = rib.dirty.contents } };
+    ghost view = { λ rib. record { best = rib.best.contents; dirty = rib.dirty } };
 }
 
 /// Whether the two aren't the same.
@@ -41,15 +42,19 @@ fn are_apart(a: Option<&Best>, b: Option<&Best>) -> bool
     }
 }
 
-/// Whether a best route is this one.
+/// Gives a best route this source and a copy of this route, unless it is these already, and answers whether it was another. If memory runs out, nothing changes.
 #[tactic(auto, using(bgp_types::proofs::Equality::route_equal))]
-fn is_this(best: Option<&Best>, from: From, route: &Route) -> bool
-    ensures { MatchBool result (option_copied best.entry ≡ Some (record { from = from; route = route.now })) (option_copied best.entry ≢ Some (record { from = from; route = route.now })) }
+fn replace(best: &mut Best, from: From, route: &Route) -> Result<bool, NoMemory>
+    ensures changed { IfOk result (λ changed. AreApart (record { from = from; route = route.now }) best.old changed) }
+    ensures ok { OnOk result (best.new ≡ record { from = from; route = route.now }) }
+    ensures err { OnErr result (best.new ≡ best.old) }
 {
-    match best {
-        Some(best) => best.from == from && best.route == *route,
-        None => false,
+    if best.from == from && best.route == *route {
+        return Ok(false);
     }
+    best.route = route.copy()?;
+    best.from = from;
+    Ok(true)
 }
 
 impl LocRib {
@@ -59,7 +64,7 @@ impl LocRib {
     {
         LocRib {
             best: TrieTable::new(alloc),
-            dirty: TrieTable::new(alloc),
+            dirty: DueSet::new(alloc),
         }
     }
 
@@ -95,14 +100,16 @@ impl LocRib {
 
     /// Gives a prefix a copy of this route for its best, unless it has it already, and answers whether that is
     /// another than it had. If memory runs out, nothing changes.
-    #[tactic(auto, using(crate::proofs::Tables::inserted_again))]
     pub fn set_copy(&mut self, prefix: Prefix, from: From, route: &Route) -> Result<bool, NoMemory>
         ensures changed { IfOk result (λ changed. AreApart (Some (record { from = from; route = route.now })) (map.get self.old.best prefix) changed) }
         ensures ok { OnOk result (self.new ≡ record self.old { best = with_best self.old.best prefix (Some (record { from = from; route = route.now })) }) }
         ensures err { OnErr result (self.new ≡ self.old) }
     {
-        if is_this(self.best.get(prefix), from, route) {
-            return Ok(false);
+        if let Some(outcome) = self
+            .best
+            .change(prefix, |best| replace(best, from, route))
+        {
+            return outcome;
         }
         let best = Best {
             from,
@@ -120,24 +127,21 @@ impl LocRib {
         ensures err { OnErr result (self.new ≡ self.old) }
         ensures present { IsSome (map.get self.old.dirty prefix) → IsOk result }
     {
-        match self.dirty.set(prefix, ()) {
-            Ok(_) => Ok(()),
-            Err(_) => Err(NoMemory),
-        }
+        self.dirty.insert(prefix)
     }
 
     /// Whether a prefix is dirty.
     pub fn is_dirty(&self, prefix: Prefix) -> bool
         ensures { result ≡ is_some (map.get self.now.dirty prefix) }
     {
-        self.dirty.get(prefix).is_some()
+        self.dirty.contains(prefix)
     }
 
     /// The least dirty prefix.
     pub fn next_dirty(&self) -> Option<Prefix>
         ensures { result ≡ first_above None (map.keys self.now.dirty) }
     {
-        self.dirty.next_after(None)
+        self.dirty.first()
     }
 
     /// Ends that a prefix is dirty.

@@ -41,7 +41,8 @@ module _ {V : Type 0} where
       (All-from_recursion (λ x. prefix_cmp (get_or es k d).0 x.0 ≡ Less) (drop (suc k) es) parts.1 0 d (omega (arith, length-drop (suc k) es))) in
       ap is_lt (prefix_total.antisymm (get_or es (k + 1) d).0 (get_or es k d).0 ∙ ap ordering_reverse less)
 
-  placed : (es : List (PrefixValue × V)) → T (is_sorted prefix_cmp es) → (p : PrefixValue) (at : ℕ) → at < length es → ((d : PrefixValue × V) → (get_or es at d).0 ≡ p) → IsPlace es p at
+  -- where a prefix stands is its place
+  pub placed : (es : List (PrefixValue × V)) → T (is_sorted prefix_cmp es) → (p : PrefixValue) (at : ℕ) → at < length es → ((d : PrefixValue × V) → (get_or es at d).0 ≡ p) → IsPlace es p at
   placed [] rise p at h has = absurd (omega arith)
   placed (e ∷ es) rise p at h has =
       let all = e ∷ es in

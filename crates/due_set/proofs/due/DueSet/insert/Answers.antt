@@ -1,12 +1,49 @@
-use Rattle.std.proofs.Common.{true, List, refl, sym, ap, ◌∙◌, subst}
+use Rattle.std.proofs.Common.{◌≡◌, true, false, List, refl, sym, ap, ◌∙◌, subst, arith}
+use Rattle.std.specs.Prelude.{is_some}
 use Rattle.std.specs.FinMap as map
-use Rattle.prefix_table.specs.Places.{AllBelow, IsPlace}
-use Rattle.prefix_table.proofs.Places.{put_at}
+use Rattle.bgp_types.specs.Tables.{prefix_cmp}
+use Rattle.prefix_table.specs.Places.{AllBelow, IsGap, IsPlace}
+use Rattle.prefix_table.proofs.Places.{put_at, find_at, find_gap}
 use Rattle.due_set.specs.Slots.{PrefixSet, Slot, AreSlots, united}
-use Rattle.due_set.proofs.Sets.{insert_slot, insert_late}
-use Rattle.due_set.proofs.Slots.{put_end, slots_push, slots_in}
+use Rattle.due_set.proofs.Sets.{insert_slot, insert_late, get_beside, get_late, find_past, not_some, nothing, lent_some, inserted_again, says_in}
+use Rattle.due_set.proofs.Slots.{put_end, slots_push, slots_in, early_out}
 use Rattle.due_set.proofs.due.DueSet.insert.Goals as goal
-use Rattle.due_set.proofs.due.DueSet.insert.Goals.{in-Ok-set, in-Err}
+use Rattle.due_set.proofs.due.DueSet.insert.Goals.{in-Ok-set, in-Err, in_default-via-in-Ok+else-at-self, in_default-via-in_default}
+
+pub returns-then-is_some-clause-ok : goal.returns-then-is_some-clause-ok
+returns-then-is_some-clause-ok c =
+    let es = c.self.inside.slots.items in
+    let late = c.self.inside.late.contents in
+    let there = get_late es c.self.invariant.rise late c.args.prefix (ap is_some (sym c.get.ensures) ∙ (lent_some c.get.result ∙ (sym c.is_some.ensures ∙ c.if-is_some.true))) in
+    subst (λ (set : PrefixSet). set ≡ map.insert set c.args.prefix tt) c.self.view_is (sym (inserted_again (united es late) c.args.prefix tt there))
+
+pub returns-in_err-push-clause-present : goal.returns-in_err-push-clause-present
+returns-in_err-push-clause-present c =
+    let es = c.self.inside.slots.items in
+    let late = c.self.inside.late.contents in
+    let below = subst (λ (xs : List Slot). AllBelow c.args.prefix xs) c.deref.ensures.value (c.if-is_past.ensures refl) in
+    let absent = nothing (map.get late c.args.prefix) (ap is_some (sym c.get.ensures) ∙ (lent_some c.get.result ∙ (sym c.is_some.ensures ∙ c.if-is_some.false))) in
+    λ some. absurd (not_some (map.get c.args.self.now c.args.prefix)
+    (ap (λ (set : PrefixSet). map.get set c.args.prefix) (sym c.self.view_is)
+    ∙ (get_beside es c.self.invariant.rise late c.args.prefix (ap says_in (find_past es c.args.prefix below)) ∙ absent)) some)
+
+pub returns-after-set-clause-present : goal.returns-after-set-clause-present
+returns-after-set-clause-present c =
+    let es = c.self.inside.slots.items in
+    let late = c.self.inside.late.contents in
+    let absent = nothing (map.get late c.args.prefix) (ap is_some (sym c.get.ensures) ∙ (lent_some c.get.result ∙ (sym c.is_some.ensures ∙ c.if-is_some.false))) in
+    let out : says_in (map.find prefix_cmp c.args.prefix es) ≡ false = elim c.in_default.branch [
+      | in_default-via-in-Ok+else-at-self w ↦ (
+          let here = subst (λ (xs : List Slot). IsPlace xs c.args.prefix w.in-Ok.at) c.deref-2.ensures.value w.in-Ok.ensures.found in
+          let early = early_out es c.self.inside.start w.in-Ok.at (c.args.prefix, false) c.self.invariant.out (omega (arith, w.if-at-self.false)) here.in_range in
+          ap says_in (find_at es c.args.prefix w.in-Ok.at here (c.args.prefix, false)) ∙ early)
+      | in_default-via-in_default w ↦ (
+          let gap = subst (λ (xs : List Slot). IsGap xs c.args.prefix w.in_default.field-0) c.deref-2.ensures.value w.in_default.ensures.absent in
+          ap says_in (find_gap es c.args.prefix w.in_default.field-0 gap))
+    ] in
+    λ some. absurd (not_some (map.get c.args.self.now c.args.prefix)
+    (ap (λ (set : PrefixSet). map.get set c.args.prefix) (sym c.self.view_is)
+    ∙ (get_beside es c.self.invariant.rise late c.args.prefix out ∙ absent)) some)
 
 pub invariant_of-self-then-is_past : goal.invariant_of-self-then-is_past
 invariant_of-self-then-is_past c =

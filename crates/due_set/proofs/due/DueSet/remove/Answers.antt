@@ -20,8 +20,8 @@ returns-in-Ok c =
     let late = c.self.inside.late.contents in
     let here = subst (λ (xs : List Slot). IsPlace xs c.args.prefix c.in-Ok.at) c.deref.ensures.value c.in-Ok.ensures.found in
     c.skip.ensures
-    ∙ (ap (λ (xs : List Slot). united xs c.remove.new.self.contents) (sym (put_at es c.args.prefix c.in-Ok.at here (c.args.prefix, false) false))
-    ∙ (ap (united (map.put prefix_cmp c.args.prefix false es)) c.remove.ensures.removed
+    ∙ (ap (λ (xs : List Slot). united xs c.take_out.new.table.contents) (sym (put_at es c.args.prefix c.in-Ok.at here (c.args.prefix, false) false))
+    ∙ (ap (united (map.put prefix_cmp c.args.prefix false es)) c.take_out.ensures
     ∙ (remove_slot es c.self.invariant.rise late c.args.prefix
     ∙ ap (λ (set : PrefixSet). map.remove set c.args.prefix) c.self.view_is)))
 
@@ -30,6 +30,6 @@ returns-in_default c =
     let es = c.self.inside.slots.items in
     let late = c.self.inside.late.contents in
     let gap = subst (λ (xs : List Slot). IsGap xs c.args.prefix c.in_default.field-0) c.deref.ensures.value c.in_default.ensures.absent in
-    ap (united es) c.remove.ensures.removed
+    ap (united es) c.take_out.ensures
     ∙ (remove_late es c.self.invariant.rise late c.args.prefix (find_gap es c.args.prefix c.in_default.field-0 gap)
     ∙ ap (λ (set : PrefixSet). map.remove set c.args.prefix) c.self.view_is)
