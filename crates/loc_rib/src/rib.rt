@@ -105,10 +105,7 @@ impl LocRib {
         ensures ok { OnOk result (self.new ≡ record self.old { best = with_best self.old.best prefix (Some (record { from = from; route = route.now })) }) }
         ensures err { OnErr result (self.new ≡ self.old) }
     {
-        if let Some(outcome) = self
-            .best
-            .change(prefix, |best| replace(best, from, route))
-        {
+        if let Some(outcome) = self.best.change(prefix, |best| replace(best, from, route)) {
             return outcome;
         }
         let best = Best {

@@ -116,6 +116,10 @@ fn run_case(rt: &impl Abort, alloc: Global, case: &Case) -> Result<(), Fail> {
         "{}",
         case.shows
     );
+    for number in 1..=4 {
+        let is_left = case.left.contains(&number);
+        assert_eq!(rt; set.contains(prefix(number)?), is_left, "{}", case.shows);
+    }
     Ok(())
 }
 
