@@ -1,6 +1,6 @@
 -- What a set that is kept in slots answers, and what a change of it leaves.
 use Rattle.std.proofs.Common.{◌≡◌, Bool, true, false, cond, List, [], ◌∷◌, Option, Some, None, refl, sym, ap, ◌∙◌, subst}
-use Rattle.std.specs.Prelude.{T, is_some, IsSome, option_copied, ◌||◌, ◌&&◌}
+use Rattle.std.specs.Prelude.{T, is_some, Result, Ok, Err, IsOk, IsSome, OnErr, option_copied, ◌||◌, ◌&&◌}
 use Rattle.std.specs.Borrow.{Bor}
 use Rattle.std.proofs.lemmas.List.{append-nil}
 use Rattle.prefix_table.specs.Places.{AllBelow}
@@ -82,13 +82,14 @@ get_late slots rise beside p is = united_get slots rise beside p ∙ (ap (cond (
 pub find_past : (slots : List Slot) (p : PrefixValue) → AllBelow p slots → map.find prefix_cmp p slots ≡ None
 find_past slots p below = ap (map.find prefix_cmp p) (sym (append-nil slots)) ∙ find_right prefix_cmp p slots [] below
 
-pub not_some : (o : Option (Unit {0})) → o ≡ None → IsSome o → ⊥
+not_some : (o : Option (Unit {0})) → o ≡ None → IsSome o → ⊥
 not_some None is some = cc
 not_some (Some u) is some = absurd (let e : ◌≡◌ {A = Option (Unit {0})} (Some u) None = is in cc)
 
-pub nothing : (o : Option (Unit {0})) → is_some o ≡ false → o ≡ None
-nothing None is = refl
-nothing (Some u) is = absurd (let e : ◌≡◌ {A = Bool} true false = is in cc)
+-- what is there fails for no want of memory, where only what isn't there does
+pub ok_where_there : {A E : Type 0} (r : Result A E) (o : Option (Unit {0})) → OnErr r (o ≡ None) → IsSome o → IsOk r
+ok_where_there (Ok a) o absent some = refl
+ok_where_there (Err e) o absent some = absurd (not_some o absent some)
 
 -- what is lent is there exactly where it is
 pub lent_some : (o : Option (Bor (Unit {0}))) → is_some (option_copied o) ≡ is_some o

@@ -1,6 +1,6 @@
 //! A set of prefixes that mostly come in rising order, are listed, and go.
 
-ghost use Rattle.std.specs.Prelude.{◌≡◌, T, is_some, IsOk, IsSome, IsTrue, IfOk, IfErr, OnOk, OnErr};
+ghost use Rattle.std.specs.Prelude.{◌≡◌, T, None, true, is_some, IsOk, IsSome, IsTrue, IfOk, IfErr, OnOk, OnErr};
 ghost use Rattle.std.specs.FinMap as map;
 ghost use Rattle.bgp_types.specs.Tables.{prefix_cmp, first_above};
 ghost use Rattle.prefix_table.specs.Places.{AllBelow, IsGap, IsPlace};
@@ -126,6 +126,17 @@ fn add_all(table: &mut TrieTable<()>, prefixes: &[Prefix]) -> Result<(), NoMemor
     Ok(())
 }
 
+/// Where a prefix can't be added for want of memory: nothing is wanted if it is in the table.
+fn there_or_none(table: &TrieTable<()>, prefix: Prefix) -> Result<(), NoMemory>
+    ensures there { OnOk result (is_some (map.get table.now.contents prefix) ≡ true) }
+    ensures absent { OnErr result (map.get table.now.contents prefix ≡ None) }
+{
+    match table.get(prefix) {
+        Some(_) => Ok(()),
+        None => Err(NoMemory),
+    }
+}
+
 /// Takes a prefix out of a table, most of which are empty.
 fn take_out(table: &mut TrieTable<()>, prefix: Prefix)
     ensures { table.new.contents ≡ map.remove table.old.contents prefix }
@@ -155,12 +166,11 @@ impl DueSet {
         // What is in the set wants no memory.
         ensures present { IsSome (map.get self.old prefix) → IsOk result }
     {
-        if self.late.get(prefix).is_some() {
-            return Ok(());
-        }
         if is_past(&self.slots, prefix) {
-            self.slots.push((prefix, true))?;
-            return Ok(());
+            return match self.slots.push((prefix, true)) {
+                Ok(()) => Ok(()),
+                Err(_) => there_or_none(&self.late, prefix),
+            };
         }
         match place(&self.slots, prefix) {
             Ok(at) if at >= self.start => {
