@@ -8,6 +8,7 @@ mod group_set;
 mod groups;
 mod laws;
 mod ranks;
+mod room;
 
 pub use bgp_types::{From, NoMemory, PeeringId, Rank, RouterId};
 pub use group_set::GroupSet;

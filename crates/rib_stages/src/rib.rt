@@ -510,6 +510,17 @@ impl Rib {
         }
     }
 
+    /// The prefixes with a route from there, in rising order. It visits each of them once, and asks for memory once.
+    pub fn entry_prefixes(&self, from: From) -> Result<PrefixList, NoMemory>
+        ensures { IfOk result (λ prefixes. prefixes ≡ prefixes_from (rib_of self.now) from) }
+    {
+        match from {
+            From::Own => self.networks.prefixes(),
+            From::Peering(p) => self.peerings.prefixes(p.0),
+            From::Router(q) => self.routers.prefixes(q.0),
+        }
+    }
+
     /// What another home router is told of a prefix: a copy of the best route where that is own or external.
     pub fn tell_in(&self, prefix: Prefix) -> Result<Option<Route>, NoMemory>
         ensures { IfOk result (λ told. told ≡ tell_in_lem (map.get self.now.best prefix)) }

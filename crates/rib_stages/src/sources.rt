@@ -6,7 +6,7 @@ ghost use Rattle.bgp_types.specs.Tables.{first_above};
 ghost use Rattle.session_value.specs.Points.{at};
 ghost use Rattle.rib_stages.specs.Values.{contents_of, tables_of, room_at};
 
-use bgp_types::{NoMemory, Prefix, SpareTable, Table};
+use bgp_types::{NoMemory, Prefix, PrefixList, SpareTable, Table};
 use prefix_trie::TrieTable;
 use std::alloc::Global;
 use std::marker::Model;
@@ -60,6 +60,14 @@ impl<V: Drop> Sources<V> {
     {
         let table = &self.tables[usize::from(n)];
         table.next_after(after)
+    }
+
+    /// The prefixes of a table, in rising order.
+    pub fn prefixes(&self, n: u8) -> Result<PrefixList, NoMemory>
+        ensures { IfOk result (λ prefixes. prefixes ≡ map.keys (tables_of self.now n)) }
+    {
+        let table = &self.tables[usize::from(n)];
+        table.prefixes()
     }
 
     /// Takes memory for one further prefix in a table.
