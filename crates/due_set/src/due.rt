@@ -14,7 +14,8 @@ use std::marker::Model;
 
 /// A set of prefixes. Those that come in rising order stand in one list; a prefix that comes later than a greater one, and wasn't there, stands in a trie beside it.
 ///
-/// Where all come in rising order, each takes a constant time, and `remove` a search by halves. A list that `prefixes` gives takes a step for each, and `first` none beyond
+/// Where all come in rising order, each takes a constant time, and so it does where those that are there come again in that order. `remove` takes a constant time for the first, and else
+/// a search by halves. A list that `prefixes` gives takes a step for each, and `first` none beyond
 /// those by which a removal passes what is gone. For what stands in the trie, see `TrieTable`. What is taken out of the list keeps its place there until the list has nothing
 /// that is in the set.
 #[derive(Drop)]
@@ -24,6 +25,8 @@ pub struct DueSet {
     slots: Vec<(Prefix, bool)>,
     // In none of the slots before this one is anything.
     start: usize,
+    // Where the next prefix may stand that comes again: behind the last that did.
+    near: usize,
     // What came too late for a slot at the end.
     late: TrieTable<()>,
 }
@@ -66,14 +69,14 @@ fn passed(slots: &[(Prefix, bool)], start: usize) -> usize
     at
 }
 
-/// Where a prefix stands in the slots, or where it would stand: at once for that of the first slot from `start` on, and else by halves.
-fn place_from(slots: &[(Prefix, bool)], start: usize, prefix: Prefix) -> Result<usize, usize>
+/// Where a prefix stands in the slots, or where it would stand: at once where it is in the slot `near`, and else by halves.
+fn place_near(slots: &[(Prefix, bool)], near: usize, prefix: Prefix) -> Result<usize, usize>
     requires { T (map.is_sorted prefix_cmp slots.now) }
     ensures found { IfOk result (IsPlace slots.now prefix) }
     ensures absent { IfErr result (IsGap slots.now prefix) }
 {
-    if start < slots.len() && slots[start].0 == prefix {
-        return Ok(start);
+    if near < slots.len() && slots[near].0 == prefix {
+        return Ok(near);
     }
     place(slots, prefix)
 }
@@ -155,6 +158,7 @@ impl DueSet {
             alloc,
             slots: Vec::new(alloc),
             start: 0,
+            near: 0,
             late: TrieTable::new(alloc),
         }
     }
@@ -172,9 +176,10 @@ impl DueSet {
                 Err(_) => there_or_none(&self.late, prefix),
             };
         }
-        match place(&self.slots, prefix) {
+        match place_near(&self.slots, self.near, prefix) {
             Ok(at) if at >= self.start => {
                 self.slots[at] = (prefix, true);
+                self.near = at + 1;
                 Ok(())
             }
             _ => match self.late.set(prefix, ()) {
@@ -189,7 +194,7 @@ impl DueSet {
         ensures { self.new ≡ map.remove self.old prefix }
     {
         take_out(&mut self.late, prefix);
-        if let Ok(at) = place_from(&self.slots, self.start, prefix) {
+        if let Ok(at) = place_near(&self.slots, self.start, prefix) {
             self.slots[at] = (prefix, false);
             self.skip();
         }
@@ -210,7 +215,7 @@ impl DueSet {
     pub fn contains(&self, prefix: Prefix) -> bool
         ensures { result ≡ is_some (map.get self.now prefix) }
     {
-        match place_from(&self.slots, self.start, prefix) {
+        match place_near(&self.slots, self.start, prefix) {
             Ok(at) if self.slots[at].1 => true,
             _ => self.late.get(prefix).is_some(),
         }

@@ -9,7 +9,7 @@ use Rattle.due_set.specs.Slots.{PrefixSet, Slot, AreSlots, united}
 use Rattle.due_set.proofs.Sets.{insert_slot, insert_late, get_beside, get_late, find_past, ok_where_there, inserted_again, says_in}
 use Rattle.due_set.proofs.Slots.{put_end, slots_push, slots_in, early_out}
 use Rattle.due_set.proofs.due.DueSet.insert.Goals as goal
-use Rattle.due_set.proofs.due.DueSet.insert.Goals.{in-Ok, in-Err, in-Ok-set, in-Err-set, in_default-via-in-Ok-place+else-at-self, in_default-via-in_default}
+use Rattle.due_set.proofs.due.DueSet.insert.Goals.{in-Ok, in-Err, in-Ok-set, in-Err-set, in_default-via-in-Ok-place_near+else-at-self, in_default-via-in_default}
 
 pub invariant_of-self : goal.invariant_of-self
 invariant_of-self c =
@@ -50,15 +50,15 @@ returns-then-is_past-clause-present c =
 pub invariant_of-self-then-at-self : goal.invariant_of-self-then-at-self
 invariant_of-self-then-at-self c =
     let es = c.self.inside.slots.items in
-    let here = subst (λ (xs : List Slot). IsPlace xs c.args.prefix c.in-Ok-place.at) c.deref-2.ensures.value c.in-Ok-place.ensures.found in
-    slots_in es c.self.inside.start c.in-Ok-place.at c.args.prefix c.self.invariant here c.if-at-self.true
+    let here = subst (λ (xs : List Slot). IsPlace xs c.args.prefix c.in-Ok-place_near.at) c.deref-2.ensures.value c.in-Ok-place_near.ensures.found in
+    slots_in es c.self.inside.start c.in-Ok-place_near.at c.args.prefix c.self.invariant here c.if-at-self.true
 
-pub returns-in-Ok-place-clause-ok : goal.returns-in-Ok-place-clause-ok
-returns-in-Ok-place-clause-ok c =
+pub returns-in-Ok-place_near-clause-ok : goal.returns-in-Ok-place_near-clause-ok
+returns-in-Ok-place_near-clause-ok c =
     let es = c.self.inside.slots.items in
     let late = c.self.inside.late.contents in
-    let here = subst (λ (xs : List Slot). IsPlace xs c.args.prefix c.in-Ok-place.at) c.deref-2.ensures.value c.in-Ok-place.ensures.found in
-    ap (λ (xs : List Slot). united xs late) (sym (put_at es c.args.prefix c.in-Ok-place.at here (c.args.prefix, true) true))
+    let here = subst (λ (xs : List Slot). IsPlace xs c.args.prefix c.in-Ok-place_near.at) c.deref-2.ensures.value c.in-Ok-place_near.ensures.found in
+    ap (λ (xs : List Slot). united xs late) (sym (put_at es c.args.prefix c.in-Ok-place_near.at here (c.args.prefix, true) true))
     ∙ (insert_slot es c.self.invariant.rise late c.args.prefix
     ∙ ap (λ (set : PrefixSet). map.insert set c.args.prefix tt) c.self.view_is)
 
@@ -79,10 +79,10 @@ returns-after-set-clause-present c =
     let es = c.self.inside.slots.items in
     let late = c.self.inside.late.contents in
     let out : says_in (map.find prefix_cmp c.args.prefix es) ≡ false = elim c.in_default.branch [
-      | in_default-via-in-Ok-place+else-at-self w ↦ (
-          let here = subst (λ (xs : List Slot). IsPlace xs c.args.prefix w.in-Ok-place.at) c.deref-2.ensures.value w.in-Ok-place.ensures.found in
-          let early = early_out es c.self.inside.start w.in-Ok-place.at (c.args.prefix, false) c.self.invariant.out (omega (arith, w.if-at-self.false)) here.in_range in
-          ap says_in (find_at es c.args.prefix w.in-Ok-place.at here (c.args.prefix, false)) ∙ early)
+      | in_default-via-in-Ok-place_near+else-at-self w ↦ (
+          let here = subst (λ (xs : List Slot). IsPlace xs c.args.prefix w.in-Ok-place_near.at) c.deref-2.ensures.value w.in-Ok-place_near.ensures.found in
+          let early = early_out es c.self.inside.start w.in-Ok-place_near.at (c.args.prefix, false) c.self.invariant.out (omega (arith, w.if-at-self.false)) here.in_range in
+          ap says_in (find_at es c.args.prefix w.in-Ok-place_near.at here (c.args.prefix, false)) ∙ early)
       | in_default-via-in_default w ↦ (
           let gap = subst (λ (xs : List Slot). IsGap xs c.args.prefix w.in_default.field-0) c.deref-2.ensures.value w.in_default.ensures.absent in
           ap says_in (find_gap es c.args.prefix w.in_default.field-0 gap))
