@@ -1,6 +1,6 @@
 //! Best routes and dirty prefixes.
 
-ghost use Rattle.std.specs.Prelude.{◌≡◌, Some, None, option_copied, is_some, IsOk, IsSome, IfOk, OnOk, OnErr};
+ghost use Rattle.std.specs.Prelude.{◌≡◌, ◌≢◌, Some, None, option_copied, is_some, IsOk, IsSome, IfOk, OnOk, OnErr, MatchBool};
 ghost use Rattle.std.specs.FinMap as map;
 ghost use Rattle.bgp_types.specs.Tables.{first_above};
 ghost use Rattle.loc_rib.specs.Values.{with_best, AreApart};
@@ -42,19 +42,15 @@ fn are_apart(a: Option<&Best>, b: Option<&Best>) -> bool
     }
 }
 
-/// Gives a best route this source and a copy of this route, unless it is these already, and answers whether it was another. If memory runs out, nothing changes.
+/// Whether a best route is this one.
 #[tactic(auto, using(bgp_types::proofs::Equality::route_equal))]
-fn replace(best: &mut Best, from: From, route: &Route) -> Result<bool, NoMemory>
-    ensures changed { IfOk result (λ changed. AreApart (record { from = from; route = route.now }) best.old changed) }
-    ensures ok { OnOk result (best.new ≡ record { from = from; route = route.now }) }
-    ensures err { OnErr result (best.new ≡ best.old) }
+fn is_this(best: Option<&Best>, from: From, route: &Route) -> bool
+    ensures { MatchBool result (option_copied best.entry ≡ Some (record { from = from; route = route.now })) (option_copied best.entry ≢ Some (record { from = from; route = route.now })) }
 {
-    if best.from == from && best.route == *route {
-        return Ok(false);
+    match best {
+        Some(best) => best.from == from && best.route == *route,
+        None => false,
     }
-    best.route = route.copy()?;
-    best.from = from;
-    Ok(true)
 }
 
 impl LocRib {
@@ -100,13 +96,14 @@ impl LocRib {
 
     /// Gives a prefix a copy of this route for its best, unless it has it already, and answers whether that is
     /// another than it had. If memory runs out, nothing changes.
+    #[tactic(auto, using(due_set::proofs::Sets::inserted_again))]
     pub fn set_copy(&mut self, prefix: Prefix, from: From, route: &Route) -> Result<bool, NoMemory>
         ensures changed { IfOk result (λ changed. AreApart (Some (record { from = from; route = route.now })) (map.get self.old.best prefix) changed) }
         ensures ok { OnOk result (self.new ≡ record self.old { best = with_best self.old.best prefix (Some (record { from = from; route = route.now })) }) }
         ensures err { OnErr result (self.new ≡ self.old) }
     {
-        if let Some(outcome) = self.best.change(prefix, |best| replace(best, from, route)) {
-            return outcome;
+        if is_this(self.best.get(prefix), from, route) {
+            return Ok(false);
         }
         let best = Best {
             from,
