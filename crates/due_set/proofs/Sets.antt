@@ -1,17 +1,14 @@
 -- What a set that is kept in slots answers, and what a change of it leaves.
 use Rattle.std.proofs.Common.{◌≡◌, Bool, true, false, cond, List, [], ◌∷◌, Option, Some, None, refl, sym, ap, ◌∙◌, subst}
-use Rattle.std.specs.Prelude.{T, is_some, Result, Ok, Err, IsOk, IsSome, OnErr, option_copied, ◌||◌, ◌&&◌}
-use Rattle.std.specs.Borrow.{Bor}
-use Rattle.std.proofs.lemmas.List.{append-nil}
-use Rattle.prefix_table.specs.Places.{AllBelow}
+use Rattle.std.specs.Prelude.{T, is_some, Result, Ok, Err, is_ok, OnOk, OnErr, ◌||◌, ◌&&◌}
 use Rattle.std.specs.Ordering.{eq_by_cmp}
 use Rattle.std.specs.List.{list_any}
 use Rattle.std.specs.FinMap as map
 use Rattle.std.specs.FinMap.Entries.{find-put}
 use Rattle.bgp_types.specs.Prefixes.{PrefixValue}
 use Rattle.bgp_types.specs.Tables.{prefix_cmp}
-use Rattle.bgp_types.proofs.TableLaws.{prefix_total, exact_prefixes, tied, AllAbove, find_above, find_right, rising_parts, rise_put}
-use Rattle.due_set.specs.Slots.{PrefixSet, Slot, united, those_in, with_all}
+use Rattle.bgp_types.proofs.TableLaws.{prefix_total, exact_prefixes, tied, AllAbove, find_above, rising_parts, rise_put}
+use Rattle.due_set.specs.Slots.{PrefixSet, Slot, is_held, united, those_in, with_all}
 
 and_second : (a b : Bool) → T (a && b) → T b
 and_second true b h = h
@@ -21,29 +18,24 @@ and_second false b h = absurd h
 pub behind : (slot : Slot) (slots : List Slot) → T (map.is_sorted prefix_cmp (slot ∷ slots)) → record { above : AllAbove prefix_cmp slot.0 slots; rise : T (map.is_sorted prefix_cmp slots) }
 behind slot slots rise = record { above = (rising_parts prefix_total [] slot slots rise).1; rise = and_second _ _ rise }
 
--- whether a slot that is found says that its prefix is in the set
-abbrev pub says_in : Option Bool → Bool
-says_in None = false
-says_in (Some is_in) = is_in
-
 abbrev here : Option (Unit {0})
 here = Some tt
 
 -- ---- what the set answers
 
-united_get : (slots : List Slot) → T (map.is_sorted prefix_cmp slots) → (beside : PrefixSet) (q : PrefixValue) → map.get (united slots beside) q ≡ cond (says_in (map.find prefix_cmp q slots)) here (map.get beside q)
+united_get : (slots : List Slot) → T (map.is_sorted prefix_cmp slots) → (beside : PrefixSet) (q : PrefixValue) → map.get (united slots beside) q ≡ cond (is_held (map.find prefix_cmp q slots)) here (map.get beside q)
 united_get [] rise beside q = refl
 united_get ((p, true) ∷ slots) rise beside q =
     map.get-insert prefix_total (united slots beside) p tt q
-    ∙ elim (eq_by_cmp prefix_cmp q p) as (λ b. cond b here (map.get (united slots beside) q) ≡ cond (says_in (cond b (Some true) (map.find prefix_cmp q slots))) here (map.get beside q)) [
+    ∙ elim (eq_by_cmp prefix_cmp q p) as (λ b. cond b here (map.get (united slots beside) q) ≡ cond (is_held (cond b (Some true) (map.find prefix_cmp q slots))) here (map.get beside q)) [
       | true ↦ refl
       | false ↦ united_get slots (behind (p, true) slots rise).rise beside q
     ]
 united_get ((p, false) ∷ slots) rise beside q =
     let parts = behind (p, false) slots rise in
     let rest = united_get slots parts.rise beside q in
-    elim (eq_by_cmp prefix_cmp q p) as (λ b. eq_by_cmp prefix_cmp q p ≡ b → map.get (united slots beside) q ≡ cond (says_in (cond b (Some false) (map.find prefix_cmp q slots))) here (map.get beside q)) [
-      | true ↦ λ e. rest ∙ ap (λ (o : Option Bool). cond (says_in o) here (map.get beside q))
+    elim (eq_by_cmp prefix_cmp q p) as (λ b. eq_by_cmp prefix_cmp q p ≡ b → map.get (united slots beside) q ≡ cond (is_held (cond b (Some false) (map.find prefix_cmp q slots))) here (map.get beside q)) [
+      | true ↦ λ e. rest ∙ ap (λ (o : Option Bool). cond (is_held o) here (map.get beside q))
           (find_above prefix_cmp q slots (subst (λ (k : PrefixValue). AllAbove prefix_cmp k slots) (sym (tied q p e)) parts.above))
       | false ↦ λ e. rest
     ] refl
@@ -58,47 +50,21 @@ listed_get ((p, true) ∷ slots) beside q =
     ]
 listed_get ((p, false) ∷ slots) beside q = listed_get slots beside q
 
--- whether a prefix is in the set that no slot holds, by what the set beside has
-pub get_beside : (slots : List Slot) → T (map.is_sorted prefix_cmp slots) → (beside : PrefixSet) (p : PrefixValue) → says_in (map.find prefix_cmp p slots) ≡ false → map.get (united slots beside) p ≡ map.get beside p
-get_beside slots rise beside p out = united_get slots rise beside p ∙ ap (λ (b : Bool). cond b here (map.get beside p)) out
+some_either : (b : Bool) (o : Option (Unit {0})) → is_some (cond b here o) ≡ (b || is_some o)
+some_either true o = refl
+some_either false o = refl
 
--- a prefix that a slot holds is in the set
-pub get_held : (slots : List Slot) → T (map.is_sorted prefix_cmp slots) → (beside : PrefixSet) (p : PrefixValue) → map.find prefix_cmp p slots ≡ Some true → map.get (united slots beside) p ≡ here
-get_held slots rise beside p held = united_get slots rise beside p ∙ ap (λ (o : Option Bool). cond (says_in o) here (map.get beside p)) held
-
-one_value : (o : Option (Unit {0})) → is_some o ≡ true → o ≡ here
-one_value None is = absurd (let e : ◌≡◌ {A = Bool} false true = is in cc)
-one_value (Some u) is = refl
-
-either_here : (b : Bool) → cond b here here ≡ here
-either_here true = refl
-either_here false = refl
-
--- a prefix that the set beside has is in the set
-pub get_late : (slots : List Slot) → T (map.is_sorted prefix_cmp slots) → (beside : PrefixSet) (p : PrefixValue) → is_some (map.get beside p) ≡ true → map.get (united slots beside) p ≡ here
-get_late slots rise beside p is = united_get slots rise beside p ∙ (ap (cond (says_in (map.find prefix_cmp p slots)) here) (one_value (map.get beside p) is) ∙ either_here (says_in (map.find prefix_cmp p slots)))
-
--- what greater prefixes follow isn't among those that are below it
-pub find_past : (slots : List Slot) (p : PrefixValue) → AllBelow p slots → map.find prefix_cmp p slots ≡ None
-find_past slots p below = ap (map.find prefix_cmp p) (sym (append-nil slots)) ∙ find_right prefix_cmp p slots [] below
-
-not_some : (o : Option (Unit {0})) → o ≡ None → IsSome o → ⊥
-not_some None is some = cc
-not_some (Some u) is some = absurd (let e : ◌≡◌ {A = Option (Unit {0})} (Some u) None = is in cc)
-
--- what is there fails for no want of memory, where only what isn't there does
-pub ok_where_there : {A E : Type 0} (r : Result A E) (o : Option (Unit {0})) → OnErr r (o ≡ None) → IsSome o → IsOk r
-ok_where_there (Ok a) o absent some = refl
-ok_where_there (Err e) o absent some = absurd (not_some o absent some)
-
--- what is lent is there exactly where it is
-pub lent_some : (o : Option (Bor (Unit {0}))) → is_some (option_copied o) ≡ is_some o
-lent_some None = refl
-lent_some (Some u) = refl
+-- a prefix is in the set if the slots hold it, or the set beside has it
+pub is_in_either : (slots : List Slot) → T (map.is_sorted prefix_cmp slots) → (beside : PrefixSet) (p : PrefixValue) → is_some (map.get (united slots beside) p) ≡ (is_held (map.find prefix_cmp p slots) || is_some (map.get beside p))
+is_in_either slots rise beside p = ap is_some (united_get slots rise beside p) ∙ some_either (is_held (map.find prefix_cmp p slots)) (map.get beside p)
 
 either_none : (b : Bool) → ◌≡◌ {A = Option (Unit {0})} (cond b None None) None
 either_none true = refl
 either_none false = refl
+
+pub one_value : (o : Option (Unit {0})) → is_some o ≡ true → o ≡ here
+one_value None is = absurd (let e : ◌≡◌ {A = Bool} false true = is in cc)
+one_value (Some u) is = refl
 
 -- nothing is taken out of an empty set
 pub removed_empty : (set : PrefixSet) (p : PrefixValue) → map.len set ≡ 0 → set ≡ map.remove set p
@@ -122,7 +88,7 @@ earlier false b x y = refl
 
 pub insert_late : (slots : List Slot) → T (map.is_sorted prefix_cmp slots) → (beside : PrefixSet) (p : PrefixValue) → united slots (map.insert beside p tt) ≡ map.insert (united slots beside) p tt
 insert_late slots rise beside p = map.same_map prefix_total exact_prefixes _ _ (λ q.
-    let found = says_in (map.find prefix_cmp q slots) in
+    let found = is_held (map.find prefix_cmp q slots) in
     let same = eq_by_cmp prefix_cmp q p in
     united_get slots rise (map.insert beside p tt) q
     ∙ (ap (cond found here) (map.get-insert prefix_total beside p tt q)
@@ -130,7 +96,7 @@ insert_late slots rise beside p = map.same_map prefix_total exact_prefixes _ _ (
     ∙ (ap (cond same here) (sym (united_get slots rise beside q))
     ∙ sym (map.get-insert prefix_total (united slots beside) p tt q)))))
 
-put_in : (b : Bool) (o : Option Bool) (x y : Option (Unit {0})) → cond (says_in (cond b (Some true) o)) x y ≡ cond b x (cond (says_in o) x y)
+put_in : (b : Bool) (o : Option Bool) (x y : Option (Unit {0})) → cond (is_held (cond b (Some true) o)) x y ≡ cond b x (cond (is_held o) x y)
 put_in true o x y = refl
 put_in false o x y = refl
 
@@ -138,14 +104,14 @@ pub insert_slot : (slots : List Slot) → T (map.is_sorted prefix_cmp slots) →
 insert_slot slots rise beside p = map.same_map prefix_total exact_prefixes _ _ (λ q.
     let same = eq_by_cmp prefix_cmp q p in
     united_get (map.put prefix_cmp p true slots) (rise_put slots rise p true) beside q
-    ∙ (ap (λ (o : Option Bool). cond (says_in o) here (map.get beside q)) (find-put prefix_cmp prefix_total q p true slots)
+    ∙ (ap (λ (o : Option Bool). cond (is_held o) here (map.get beside q)) (find-put prefix_cmp prefix_total q p true slots)
     ∙ (put_in same (map.find prefix_cmp q slots) here (map.get beside q)
     ∙ (ap (cond same here) (sym (united_get slots rise beside q))
     ∙ sym (map.get-insert prefix_total (united slots beside) p tt q)))))
 
 -- ---- a prefix goes
 
-put_out : (b : Bool) (o : Option Bool) (x y : Option (Unit {0})) → cond (says_in (cond b (Some false) o)) x (cond b None y) ≡ cond b None (cond (says_in o) x y)
+put_out : (b : Bool) (o : Option Bool) (x y : Option (Unit {0})) → cond (is_held (cond b (Some false) o)) x (cond b None y) ≡ cond b None (cond (is_held o) x y)
 put_out true o x y = refl
 put_out false o x y = refl
 
@@ -154,19 +120,19 @@ remove_slot slots rise beside p = map.same_map prefix_total exact_prefixes _ _ (
     let same = eq_by_cmp prefix_cmp q p in
     let found = map.find prefix_cmp q slots in
     united_get (map.put prefix_cmp p false slots) (rise_put slots rise p false) (map.remove beside p) q
-    ∙ (ap (λ (o : Option Bool). cond (says_in o) here (map.get (map.remove beside p) q)) (find-put prefix_cmp prefix_total q p false slots)
-    ∙ (ap (cond (says_in (cond same (Some false) found)) here) (map.get-remove prefix_total beside p q)
+    ∙ (ap (λ (o : Option Bool). cond (is_held o) here (map.get (map.remove beside p) q)) (find-put prefix_cmp prefix_total q p false slots)
+    ∙ (ap (cond (is_held (cond same (Some false) found)) here) (map.get-remove prefix_total beside p q)
     ∙ (put_out same found here (map.get beside q)
     ∙ (ap (cond same None) (sym (united_get slots rise beside q))
     ∙ sym (map.get-remove prefix_total (united slots beside) p q))))))
 
-pub remove_late : (slots : List Slot) → T (map.is_sorted prefix_cmp slots) → (beside : PrefixSet) (p : PrefixValue) → map.find prefix_cmp p slots ≡ None → united slots (map.remove beside p) ≡ map.remove (united slots beside) p
-remove_late slots rise beside p absent = map.same_map prefix_total exact_prefixes _ _ (λ q.
-    let found = says_in (map.find prefix_cmp q slots) in
+pub remove_out : (slots : List Slot) → T (map.is_sorted prefix_cmp slots) → (beside : PrefixSet) (p : PrefixValue) → is_held (map.find prefix_cmp p slots) ≡ false → united slots (map.remove beside p) ≡ map.remove (united slots beside) p
+remove_out slots rise beside p out = map.same_map prefix_total exact_prefixes _ _ (λ q.
+    let found = is_held (map.find prefix_cmp q slots) in
     united_get slots rise (map.remove beside p) q
     ∙ (ap (cond found here) (map.get-remove prefix_total beside p q)
     ∙ (elim (eq_by_cmp prefix_cmp q p) as (λ b. eq_by_cmp prefix_cmp q p ≡ b → cond found here (cond b None (map.get beside q)) ≡ cond b None (cond found here (map.get beside q))) [
-      | true ↦ λ e. ap (λ (o : Option Bool). cond (says_in o) here None) (ap (λ (k : PrefixValue). map.find prefix_cmp k slots) (tied q p e) ∙ absent)
+      | true ↦ λ e. ap (λ (b : Bool). cond b here None) (ap (λ (k : PrefixValue). is_held (map.find prefix_cmp k slots)) (tied q p e) ∙ out)
       | false ↦ λ e. refl
     ] refl
     ∙ (ap (cond (eq_by_cmp prefix_cmp q p) None) (sym (united_get slots rise beside q))
@@ -199,8 +165,18 @@ keys_get set q =
     ∙ (ap (λ (b : Bool). cond b here None) (sym (map.contains_key-keys set q))
     ∙ whether (map.get set q)))
 
-pub all_of : (slots : List Slot) (beside : PrefixSet) → with_all (with_all map.empty (map.keys beside)) (those_in slots) ≡ united slots beside
-all_of slots beside = map.same_map prefix_total exact_prefixes _ _ (λ q.
-    with_all_get (those_in slots) (with_all map.empty (map.keys beside)) q
-    ∙ (ap (cond (list_any (eq_by_cmp prefix_cmp q) (those_in slots)) here) (keys_get beside q)
-    ∙ sym (listed_get slots beside q)))
+pub with_those : (slots : List Slot) (set : PrefixSet) → with_all set (those_in slots) ≡ united slots set
+with_those slots set = map.same_map prefix_total exact_prefixes _ _ (λ q. with_all_get (those_in slots) set q ∙ sym (listed_get slots set q))
+
+pub with_keys : (set : PrefixSet) → with_all map.empty (map.keys set) ≡ set
+with_keys set = map.same_map prefix_total exact_prefixes _ _ (λ q. keys_get set q)
+
+-- ---- what a call that may fail left
+
+pub if_it_is_ok : {A E P : Type 0} (r : Result A E) → is_ok r ≡ true → OnOk r P → P
+if_it_is_ok (Ok a) is holds = holds
+if_it_is_ok (Err e) is holds = absurd (let z : ◌≡◌ {A = Bool} false true = is in cc)
+
+pub if_it_failed : {A E P : Type 0} (r : Result A E) → is_ok r ≡ false → OnErr r P → P
+if_it_failed (Ok a) is holds = absurd (let z : ◌≡◌ {A = Bool} true false = is in cc)
+if_it_failed (Err e) is holds = holds

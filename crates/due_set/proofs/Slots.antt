@@ -3,18 +3,18 @@ use Rattle.std.proofs.Common.{◌≡◌, ℕ, zero, suc, ◌+◌, ◌-◌, ◌<�
 use Rattle.std.specs.Prelude.{T, if◌then◌else◌}
 use Rattle.std.specs.declared.cmp.Ordering.{Ordering}
 use Rattle.std.specs.declared.cmp.Ordering.TheVariants.{Less, Equal, Greater}
-use Rattle.std.specs.Ordering.{is_lt, ordering_reverse}
+use Rattle.std.specs.Ordering.{eq_by_cmp, is_lt, ordering_reverse}
 use Rattle.std.specs.List.{AllByRecursion, filter}
 use Rattle.std.specs.FinMap as map
 use Rattle.std.specs.FinMap.Entries.{by_order}
 use Rattle.std.proofs.lemmas.List.{append-nil, take_all, take-set-le, take-append-le}
 use Rattle.bgp_types.specs.Prefixes.{PrefixValue}
 use Rattle.bgp_types.specs.Tables.{prefix_cmp, first_above}
-use Rattle.bgp_types.proofs.TableLaws.{prefix_total, exact_prefixes, rise_put, put_right, put_left}
+use Rattle.bgp_types.proofs.TableLaws.{prefix_total, exact_prefixes, find_above, rise_put, put_right, put_left}
 use Rattle.prefix_table.specs.Places.{AllBelow, AllAbove, IsPlace}
 use Rattle.prefix_table.proofs.Places.{put_at}
 use Rattle.prefix_trie.proofs.Nodes.{less_from_test}
-use Rattle.due_set.specs.Slots.{PrefixSet, Slot, with_slot, united, AreSlots, those_in, first_in, lesser_of}
+use Rattle.due_set.specs.Slots.{PrefixSet, Slot, with_slot, is_held, united, AreSlots, those_in, first_in, lesser_of}
 use Rattle.due_set.proofs.Sets.{behind}
 
 abbrev pub AllOut : List Slot → Type 0
@@ -103,6 +103,23 @@ early_out [] start at d out early h = absurd (omega arith)
 early_out (slot ∷ slots) zero at d out early h = absurd (omega arith)
 early_out (slot ∷ slots) (suc start) zero d out early h = out.0
 early_out (slot ∷ slots) (suc start) (suc at) d out early h = early_out slots start at d out.1 (omega arith) (omega arith)
+
+-- ---- before the first that may be in
+
+above_all : (p q : PrefixValue) (slots : List Slot) → AllAbove q slots → prefix_cmp p q ≡ Less → AllAbove p slots
+above_all p q [] above less = tt
+above_all p q (slot ∷ slots) above less = (prefix_total.trans p q slot.0 less above.0, above_all p q slots above.1 less)
+
+held_neither : (b x : Bool) (o : Option Bool) → x ≡ false → is_held o ≡ false → is_held (if b then Some x else o) ≡ false
+held_neither true x o first rest = first
+held_neither false x o first rest = rest
+
+-- what is less than the prefix of a slot before which nothing is in isn't in
+pub early_absent : (slots : List Slot) (start : ℕ) (d : Slot) (p : PrefixValue) → T (map.is_sorted prefix_cmp slots) → AllOut (take start slots) → start < length slots → prefix_cmp p (get_or slots start d).0 ≡ Less → is_held (map.find prefix_cmp p slots) ≡ false
+early_absent [] start d p rise out h less = absurd (omega arith)
+early_absent (slot ∷ slots) zero d p rise out h less = ap is_held (find_above prefix_cmp p (slot ∷ slots) (less, above_all p slot.0 slots (behind slot slots rise).above less))
+early_absent (slot ∷ slots) (suc start) d p rise out h less =
+    held_neither (eq_by_cmp prefix_cmp p slot.0) slot.1 (map.find prefix_cmp p slots) out.0 (early_absent slots start d p (behind slot slots rise).rise out.1 (omega arith) less)
 
 -- ---- past all slots
 

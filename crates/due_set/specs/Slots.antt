@@ -30,6 +30,11 @@ pub record AreSlots (slots : List Slot) (start : ℕ) : Type 0 where
   pub within : start ≤ length slots
   pub out : AllByRecursion (λ slot. slot.1 ≡ false) (take start slots)
 
+-- whether a slot that is found says that its prefix is in the set
+abbrev pub is_held : Option Bool → Bool
+is_held None = false
+is_held (Some is_in) = is_in
+
 -- the prefixes that are in slots
 abbrev pub those_in : List Slot → List PrefixValue
 those_in slots = list_map (λ slot. slot.0) (filter (λ slot. slot.1) slots)

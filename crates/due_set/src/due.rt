@@ -1,33 +1,30 @@
 //! A set of prefixes that mostly come in rising order, are listed, and go.
 
-ghost use Rattle.std.specs.Prelude.{◌≡◌, T, None, true, is_some, IsOk, IsSome, IsTrue, IfOk, IfErr, OnOk, OnErr};
+ghost use Rattle.std.specs.Prelude.{◌≡◌, None, is_some, IsOk, IsSome, OnErr, OnOk, IfOk};
 ghost use Rattle.std.specs.FinMap as map;
-ghost use Rattle.bgp_types.specs.Tables.{prefix_cmp, first_above};
-ghost use Rattle.prefix_table.specs.Places.{AllBelow, IsGap, IsPlace};
-ghost use Rattle.due_set.specs.Slots.{AreSlots, first_in, lesser_of, those_in, with_all};
+ghost use Rattle.bgp_types.specs.Tables.{first_above};
+ghost use Rattle.due_set.specs.Slots.{lesser_of, with_all};
 
-use bgp_types::{Items, NoMemory, Prefix, PrefixList, Table};
-use prefix_table::place;
+use crate::run::Run;
+use bgp_types::{NoMemory, Prefix, PrefixList, Table};
 use prefix_trie::TrieTable;
 use std::alloc::Global;
 use std::marker::Model;
 
-/// A set of prefixes. Those that come in rising order stand in one list; a prefix that comes later than a greater one, and wasn't there, stands in a trie beside it.
+/// A set of prefixes. Those that come in rising order stand in one list; what comes later than a greater one, and wasn't there, in a second or a third, so that three sources
+/// may come one after the other, each in rising order. What finds no place there stands in a trie.
 ///
-/// Where all come in rising order, each takes a constant time, and so it does where those that are there come again in that order. `remove` takes a constant time for the first, and else
-/// a search by halves. A list that `prefixes` gives takes a step for each, and `first` none beyond
-/// those by which a removal passes what is gone. For what stands in the trie, see `TrieTable`. What is taken out of the list keeps its place there until the list has nothing
-/// that is in the set.
+/// Where all come in rising order, each takes a constant time, and so it does where those that are there come again in that order; else it takes a search by halves of each list that it
+/// passes. `remove` takes a constant time for each list where the prefix is its first, or is less, and else a search by halves. A list that `prefixes` gives takes a step for each prefix where
+/// all stand in the first list, and `first` none beyond those by which a removal passes what is gone. For what stands in the trie, see `TrieTable`. What is taken out of a list keeps
+/// its place there until the list has nothing that is in the set.
 #[derive(Drop)]
 pub struct DueSet {
     alloc: Global,
-    // In rising order, each prefix with whether it is in the set.
-    slots: Vec<(Prefix, bool)>,
-    // In none of the slots before this one is anything.
-    start: usize,
-    // Where the next prefix may stand that comes again: behind the last that did.
-    near: usize,
-    // What came too late for a slot at the end.
+    first: Run,
+    second: Run,
+    third: Run,
+    // What came too late for a place at the end of a list.
     late: TrieTable<()>,
 }
 
@@ -35,62 +32,13 @@ impl Model for DueSet {
     ghost use Rattle.std.specs.FinMap as map;
     ghost use base.Stored.{coded_unit};
     ghost use Rattle.bgp_types.specs.Tables.{coded_prefix};
-    ghost use Rattle.due_set.specs.Slots.{PrefixSet, AreSlots, united};
+    ghost use Rattle.due_set.specs.Slots.{PrefixSet, united};
 
     ghost Value = { PrefixSet };
 
     ghost coded = { map.code coded_prefix coded_unit };
 
-    ghost view = { λ s. united s.slots.items s.late.contents };
-
-    ghost invariant = { λ s. AreSlots s.slots.items s.start };
-}
-
-/// Whether a prefix is greater than those of all slots.
-fn is_past(slots: &[(Prefix, bool)], prefix: Prefix) -> bool
-    requires { T (map.is_sorted prefix_cmp slots.now) }
-    ensures { IsTrue result → AllBelow prefix slots.now }
-{
-    match slots.last() {
-        Some(last) => last.0 < prefix,
-        None => true,
-    }
-}
-
-/// The first place from `start` on in whose slot something is, or else the end.
-fn passed(slots: &[(Prefix, bool)], start: usize) -> usize
-    requires { AreSlots slots.now start }
-    ensures { AreSlots slots.now result }
-{
-    let mut at = start;
-    while at < slots.len() && !slots[at].1 {
-        at += 1;
-    }
-    at
-}
-
-/// Where a prefix stands in the slots, or where it would stand: at once where it is in the slot `near`, and else by halves.
-fn place_near(slots: &[(Prefix, bool)], near: usize, prefix: Prefix) -> Result<usize, usize>
-    requires { T (map.is_sorted prefix_cmp slots.now) }
-    ensures found { IfOk result (IsPlace slots.now prefix) }
-    ensures absent { IfErr result (IsGap slots.now prefix) }
-{
-    if near < slots.len() && slots[near].0 == prefix {
-        return Ok(near);
-    }
-    place(slots, prefix)
-}
-
-/// The first prefix of the slots that is in the set.
-fn first_of(slots: &[(Prefix, bool)]) -> Option<Prefix>
-    ensures { result ≡ first_in slots.now }
-{
-    for (prefix, is_in) in slots {
-        if *is_in {
-            return Some(*prefix);
-        }
-    }
-    None
+    ghost view = { λ s. united s.first (united s.second (united s.third s.late.contents)) };
 }
 
 /// The lesser of two prefixes, where there are any.
@@ -104,19 +52,6 @@ fn lesser(one: Option<Prefix>, other: Option<Prefix>) -> Option<Prefix>
     }
 }
 
-/// The prefixes of the slots that are in the set, in memory that is asked for once.
-fn listed(alloc: Global, slots: &[(Prefix, bool)]) -> Result<PrefixList, NoMemory>
-    ensures { IfOk result (λ prefixes. prefixes ≡ those_in slots.now) }
-{
-    let mut prefixes = Items::from_vec(Vec::with_capacity(alloc, slots.len())?);
-    for (prefix, is_in) in slots {
-        if *is_in {
-            prefixes.push(*prefix)?;
-        }
-    }
-    Ok(prefixes)
-}
-
 /// Puts prefixes into a table.
 fn add_all(table: &mut TrieTable<()>, prefixes: &[Prefix]) -> Result<(), NoMemory>
     ensures { OnOk result (table.new.contents ≡ with_all table.old.contents prefixes.now) }
@@ -127,17 +62,6 @@ fn add_all(table: &mut TrieTable<()>, prefixes: &[Prefix]) -> Result<(), NoMemor
         };
     }
     Ok(())
-}
-
-/// Where a prefix can't be added for want of memory: nothing is wanted if it is in the table.
-fn there_or_none(table: &TrieTable<()>, prefix: Prefix) -> Result<(), NoMemory>
-    ensures there { OnOk result (is_some (map.get table.now.contents prefix) ≡ true) }
-    ensures absent { OnErr result (map.get table.now.contents prefix ≡ None) }
-{
-    match table.get(prefix) {
-        Some(_) => Ok(()),
-        None => Err(NoMemory),
-    }
 }
 
 /// Takes a prefix out of a table, most of which are empty.
@@ -156,9 +80,9 @@ impl DueSet {
     {
         DueSet {
             alloc,
-            slots: Vec::new(alloc),
-            start: 0,
-            near: 0,
+            first: Run::new(alloc),
+            second: Run::new(alloc),
+            third: Run::new(alloc),
             late: TrieTable::new(alloc),
         }
     }
@@ -170,22 +94,23 @@ impl DueSet {
         // What is in the set wants no memory.
         ensures present { IsSome (map.get self.old prefix) → IsOk result }
     {
-        if is_past(&self.slots, prefix) {
-            return match self.slots.push((prefix, true)) {
-                Ok(()) => Ok(()),
-                Err(_) => there_or_none(&self.late, prefix),
-            };
+        if self.add(prefix).is_ok() || self.contains(prefix) {
+            return Ok(());
         }
-        match place_near(&self.slots, self.near, prefix) {
-            Ok(at) if at >= self.start => {
-                self.slots[at] = (prefix, true);
-                self.near = at + 1;
-                Ok(())
-            }
-            _ => match self.late.set(prefix, ()) {
-                Ok(_) => Ok(()),
-                Err(_) => Err(NoMemory),
-            },
+        Err(NoMemory)
+    }
+
+    /// Puts a prefix into the first list where it has a place, or into the trie. If memory runs out, nothing changes.
+    fn add(&mut self, prefix: Prefix) -> Result<(), NoMemory>
+        ensures ok { OnOk result (self.new ≡ map.insert self.old prefix tt) }
+        ensures err { OnErr result (self.new ≡ self.old) }
+    {
+        if self.first.add(prefix)? || self.second.add(prefix)? || self.third.add(prefix)? {
+            return Ok(());
+        }
+        match self.late.set(prefix, ()) {
+            Ok(_) => Ok(()),
+            Err(_) => Err(NoMemory),
         }
     }
 
@@ -193,55 +118,43 @@ impl DueSet {
     pub fn remove(&mut self, prefix: Prefix)
         ensures { self.new ≡ map.remove self.old prefix }
     {
+        self.first.remove(prefix);
+        self.second.remove(prefix);
+        self.third.remove(prefix);
         take_out(&mut self.late, prefix);
-        if let Ok(at) = place_near(&self.slots, self.start, prefix) {
-            self.slots[at] = (prefix, false);
-            self.skip();
-        }
-    }
-
-    /// Passes the first slots in which nothing is any more. Where nothing is in any slot, all go.
-    fn skip(&mut self)
-        ensures { self.new ≡ self.old }
-    {
-        self.start = passed(&self.slots, self.start);
-        if self.start == self.slots.len() {
-            self.slots.clear();
-            self.start = 0;
-        }
     }
 
     /// Whether a prefix is in the set.
     pub fn contains(&self, prefix: Prefix) -> bool
         ensures { result ≡ is_some (map.get self.now prefix) }
     {
-        match place_near(&self.slots, self.start, prefix) {
-            Ok(at) if self.slots[at].1 => true,
-            _ => self.late.get(prefix).is_some(),
-        }
+        self.first.contains(prefix)
+            || self.second.contains(prefix)
+            || self.third.contains(prefix)
+            || self.late.get(prefix).is_some()
     }
 
     /// The least prefix of the set.
     pub fn first(&self) -> Option<Prefix>
         ensures { result ≡ first_above None (map.keys self.now) }
     {
-        lesser(
-            first_of(&self.slots[self.start..]),
-            self.late.next_after(None),
-        )
+        let late = lesser(self.third.first(), self.late.next_after(None));
+        lesser(self.first.first(), lesser(self.second.first(), late))
     }
 
     /// The prefixes, in rising order.
     pub fn prefixes(&self) -> Result<PrefixList, NoMemory>
         ensures { IfOk result (λ prefixes. prefixes ≡ map.keys self.now) }
     {
-        let listed = listed(self.alloc, &self.slots[self.start..])?;
-        if self.late.len() == 0 {
-            return Ok(listed);
+        let first = self.first.prefixes(self.alloc)?;
+        if self.second.is_empty() && self.third.is_empty() && self.late.len() == 0 {
+            return Ok(first);
         }
         let mut all = TrieTable::new(self.alloc);
         add_all(&mut all, &self.late.prefixes()?)?;
-        add_all(&mut all, &listed)?;
+        add_all(&mut all, &self.third.prefixes(self.alloc)?)?;
+        add_all(&mut all, &self.second.prefixes(self.alloc)?)?;
+        add_all(&mut all, &first)?;
         all.prefixes()
     }
 
@@ -249,8 +162,9 @@ impl DueSet {
     pub fn clear(&mut self)
         ensures { self.new ≡ map.empty }
     {
-        self.slots.clear();
-        self.start = 0;
+        self.first.clear();
+        self.second.clear();
+        self.third.clear();
         self.late.clear();
     }
 }

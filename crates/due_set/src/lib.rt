@@ -2,5 +2,6 @@
 #![tactic(auto)]
 
 mod due;
+mod run;
 
 pub use due::DueSet;

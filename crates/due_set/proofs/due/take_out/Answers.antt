@@ -1,4 +1,4 @@
-use Rattle.std.proofs.Common.{sym, ap, ◌∙◌}
+use Rattle.std.proofs.Common.{sym, ◌∙◌}
 use Rattle.due_set.proofs.Sets.{removed_empty}
 use Rattle.due_set.proofs.due.take_out.Goals as goal
 

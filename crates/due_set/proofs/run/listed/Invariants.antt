@@ -1,6 +1,6 @@
 use Rattle.std.proofs.Common.{◌≡◌, ◌++◌, drop}
 use Rattle.due_set.specs.Slots.{those_in}
-use Rattle.due_set.proofs.due.listed.Given as goal
+use Rattle.due_set.proofs.run.listed.Given as goal
 
 -- those of the slots so far are listed
 abbrev pub invariant-loop-prefix : goal.invariant-loop-prefix

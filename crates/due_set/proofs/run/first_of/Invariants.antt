@@ -1,6 +1,6 @@
 use Rattle.std.proofs.Common.{◌≡◌, drop}
 use Rattle.due_set.specs.Slots.{first_in}
-use Rattle.due_set.proofs.due.first_of.Given as goal
+use Rattle.due_set.proofs.run.first_of.Given as goal
 
 -- nothing is in the slots so far
 abbrev pub invariant-loop-prefix : goal.invariant-loop-prefix

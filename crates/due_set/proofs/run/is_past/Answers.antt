@@ -6,7 +6,7 @@ use Rattle.prefix_table.specs.Places.{AllBelow}
 use Rattle.due_set.proofs.Slots.{above_last}
 use Rattle.prefix_trie.proofs.Nodes.{lt_same}
 use Rattle.std.specs.Ordering.{nat_cmp}
-use Rattle.due_set.proofs.due.is_past.Goals as goal
+use Rattle.due_set.proofs.run.is_past.Goals as goal
 
 pub returns-in-Some : goal.returns-in-Some
 returns-in-Some c h =

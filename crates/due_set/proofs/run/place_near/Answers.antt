@@ -3,7 +3,7 @@ use Rattle.std.proofs.lemmas.List.{get_or_default}
 use Rattle.prefix_table.proofs.Places.{placed}
 use Rattle.prefix_trie.proofs.Nodes.{same_prefix}
 use Rattle.due_set.specs.Slots.{Slot}
-use Rattle.due_set.proofs.due.place_near.Goals as goal
+use Rattle.due_set.proofs.run.place_near.Goals as goal
 
 pub returns-then-eq-clause-found : goal.returns-then-eq-clause-found
 returns-then-eq-clause-found c =

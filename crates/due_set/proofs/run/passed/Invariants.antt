@@ -1,6 +1,6 @@
 use Rattle.std.proofs.Common.{length, ◌-◌}
 use Rattle.due_set.specs.Slots.{AreSlots}
-use Rattle.due_set.proofs.due.passed.Given as goal
+use Rattle.due_set.proofs.run.passed.Given as goal
 
 abbrev pub decreases-loop-at : goal.decreases-loop-at
 decreases-loop-at l = length l.slots - l.at
