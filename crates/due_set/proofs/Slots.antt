@@ -114,6 +114,12 @@ held_neither : (b x : Bool) (o : Option Bool) → x ≡ false → is_held o ≡ 
 held_neither true x o first rest = first
 held_neither false x o first rest = rest
 
+-- where nothing is in any slot, nothing is held
+pub none_held : (slots : List Slot) (start : ℕ) (p : PrefixValue) → AllOut (take start slots) → length slots ≤ start → is_held (map.find prefix_cmp p slots) ≡ false
+none_held [] start p out all = refl
+none_held (slot ∷ slots) zero p out all = absurd (omega arith)
+none_held (slot ∷ slots) (suc start) p out all = held_neither (eq_by_cmp prefix_cmp p slot.0) slot.1 (map.find prefix_cmp p slots) out.0 (none_held slots start p out.1 (omega arith))
+
 -- what is less than the prefix of a slot before which nothing is in isn't in
 pub early_absent : (slots : List Slot) (start : ℕ) (d : Slot) (p : PrefixValue) → T (map.is_sorted prefix_cmp slots) → AllOut (take start slots) → start < length slots → prefix_cmp p (get_or slots start d).0 ≡ Less → is_held (map.find prefix_cmp p slots) ≡ false
 early_absent [] start d p rise out h less = absurd (omega arith)
@@ -210,3 +216,7 @@ keys_united slots rise beside none =
     ap (λ (set : PrefixSet). map.keys (united slots set)) (map.empty_of_len beside none ∙ sym (map.empty_of_len (map.from_sorted {R = prefix_cmp} []) (map.len-entries _ ∙ ap length (map.entries-from_sorted prefix_cmp [] tt))))
     ∙ (ap (list_map (λ e. e.0)) (entries_united slots rise)
     ∙ unit_keys (those_in slots))
+
+pub lesser_none : (o : Option PrefixValue) → lesser_of o None ≡ o
+lesser_none None = refl
+lesser_none (Some p) = refl

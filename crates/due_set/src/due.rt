@@ -138,8 +138,12 @@ impl DueSet {
     pub fn first(&self) -> Option<Prefix>
         ensures { result ≡ first_above None (map.keys self.now) }
     {
+        let first = self.first.first();
+        if self.second.is_empty() && self.third.is_empty() && self.late.len() == 0 {
+            return first;
+        }
         let late = lesser(self.third.first(), self.late.next_after(None));
-        lesser(self.first.first(), lesser(self.second.first(), late))
+        lesser(first, lesser(self.second.first(), late))
     }
 
     /// The prefixes, in rising order.

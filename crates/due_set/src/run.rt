@@ -43,12 +43,12 @@ fn is_past(slots: &[(Prefix, bool)], prefix: Prefix) -> bool
     }
 }
 
-/// Whether a prefix is less than the one of the slot `start`, so that it isn't in the set if nothing before is.
+/// Whether a prefix isn't in the set for it is less than that of the slot `start`, or there is none: nothing before it is in the set.
 fn is_before(slots: &[(Prefix, bool)], start: usize, prefix: Prefix) -> bool
     requires { AreSlots slots.now start }
     ensures { IsTrue result → is_held (map.find prefix_cmp prefix slots.now) ≡ false }
 {
-    start < slots.len() && prefix < slots[start].0
+    start >= slots.len() || prefix < slots[start].0
 }
 
 /// Where a prefix stands in the slots, or where it would stand: at once where it is in the slot `near`, and else by halves.
