@@ -1,5 +1,5 @@
 pub mod Ranges
-pub mod Walking
+pub mod Listing
 pub mod Fronts
 pub mod Slots
 pub mod Phases

@@ -29,12 +29,10 @@ fn best_of(alloc: Global, rib: &Rib) -> Result<Items<BestEntry>, NoMemory>
     ensures { IfOk result (λ best. best ≡ map best_entry (table.entries rib.now.best)) }
 {
     let mut best = Items::new(alloc);
-    let mut last = None;
-    while let Some(prefix) = rib.next_best(last) {
-        if let Some(route) = rib.best(prefix) {
-            best.push(best_seen(prefix, route)?)?;
+    for prefix in rib.best_prefixes()?.iter() {
+        if let Some(route) = rib.best(*prefix) {
+            best.push(best_seen(*prefix, route)?)?;
         }
-        last = Some(prefix);
     }
     Ok(best)
 }
@@ -54,12 +52,10 @@ fn told_seen(router: RouterId, prefix: Prefix, route: &Route) -> Result<ToldEntr
 fn push_told_by(told: &mut Items<ToldEntry>, rib: &Rib, router: RouterId) -> Result<(), NoMemory>
     ensures { OnOk result (told.new ≡ told.old ++ map (told_entry router.0) (table.entries ((rib_of rib.now).tellings router.0))) }
 {
-    let mut last = None;
-    while let Some(prefix) = rib.next_entry(From::Router(router), last) {
-        if let Some(route) = rib.entry(From::Router(router), prefix) {
-            told.push(told_seen(router, prefix, route)?)?;
+    for prefix in rib.entry_prefixes(From::Router(router))?.iter() {
+        if let Some(route) = rib.entry(From::Router(router), *prefix) {
+            told.push(told_seen(router, *prefix, route)?)?;
         }
-        last = Some(prefix);
     }
     Ok(())
 }

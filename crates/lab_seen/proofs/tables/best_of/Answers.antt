@@ -1,32 +1,35 @@
-use Rattle.std.proofs.Common.{◌≡◌, Some, None, sym, ap, ◌∙◌, ◌++◌, List, [], ◌∷◌, map}
+use Rattle.std.proofs.Common.{◌≡◌, ◌<◌, ◌≤◌, List, [], ◌∷◌, ◌++◌, length, get_or, Some, None, sym, ap, subst, ◌∙◌}
 use Rattle.std.specs.Option.{option_copied}
 use Rattle.std.specs.FinMap as table
-use Rattle.lab_report.specs.declared.lab.BestEntry.{BestEntry}
+use Rattle.bgp_types.specs.Prefixes.{PrefixValue}
+use Rattle.bgp_types.specs.Tables.{prefix_cmp}
 use Rattle.lab_seen.specs.Seen.{best_entry}
-use Rattle.bgp_types.proofs.WalkLaws.{fewer, kept, walk_begins, walk_more, walk_finds, walk_ends}
-use Rattle.lab_seen.proofs.tables.best_of.Goals.{in-Some-best+in_ok-best_seen+in_ok-push, in_default-best}
+use Rattle.lab_seen.proofs.Listing.{one_more, has_one, all_listed}
+use Rattle.lab_seen.proofs.tables.best_of.Goals.{in-Some+in_ok-best_seen+in_ok-push, in_default}
 use Rattle.lab_seen.proofs.tables.best_of.Goals as goal
-
-pub loop-prefix-init : goal.loop-prefix-init
-loop-prefix-init c = walk_begins best_entry (table.entries c.args.rib.now.best) c.new-best.result c.new-best.ensures
-
-pub loop-prefix-smaller : goal.loop-prefix-smaller
-loop-prefix-smaller c = fewer c.loop-prefix.last c.in-Some.prefix (table.keys c.args.rib.now.best) (sym c.next_best.ensures ∙ c.in-Some.is)
 
 pub loop-prefix-preserved : goal.loop-prefix-preserved
 loop-prefix-preserved c =
-    let best = c.args.rib.now.best in
-    let next = sym c.next_best.ensures ∙ c.in-Some.is in
+    let held = c.args.rib.now.best in
+    let es = table.entries held in
+    let i = c.loop-prefix.prefix-index in
+    let p = c.prefix-item.result in
+    let list : c.deref-prefix-items.result.now ≡ table.keys held = c.deref-prefix-items.ensures ∙ c.in_ok-best_prefixes.ensures in
+    let within = subst (λ (xs : List PrefixValue). i < length xs) list c.loop-prefix-test.true in
+    let named = c.prefix-item.is ∙ ap (λ (xs : List PrefixValue). get_or xs i p) list in
     elim c.match-best.branch [
-      | in-Some-best+in_ok-best_seen+in_ok-push w ↦
-          let found : table.get best c.in-Some.prefix ≡ Some w.in-Some-best.route.now = sym c.best.ensures.best ∙ ap option_copied w.in-Some-best.is in
-          let pushed : c.match-best.best ≡ c.loop-prefix.best ++ best_entry (c.in-Some.prefix, w.in-Some-best.route.now) ∷ [] = w.best-is ∙ w.in_ok-push.ensures.ok ∙ ap (λ e. c.loop-prefix.best ++ e ∷ []) w.in_ok-best_seen.ensures in
-          ap (λ (done : List BestEntry). done ++ map best_entry (kept (Some c.in-Some.prefix) (table.entries best))) pushed
-          ∙ walk_more best_entry (table.entries best) c.loop-prefix.best c.loop-prefix.last c.in-Some.prefix w.in-Some-best.route.now (table.entries_sorted best) next (sym (table.get-entries best c.in-Some.prefix) ∙ found) c.loop-prefix.invariant
-      | in_default-best w ↦
-          let none : table.get best c.in-Some.prefix ≡ None = sym c.best.ensures.best ∙ ap option_copied w.in_default-best.is in
-          absurd (walk_finds best_entry (table.entries best) c.loop-prefix.last c.in-Some.prefix (table.entries_sorted best) next (sym (table.get-entries best c.in-Some.prefix) ∙ none))
+      | in-Some+in_ok-best_seen+in_ok-push w ↦
+          let found : table.find prefix_cmp p es ≡ Some w.in-Some.route.now = sym (table.get-entries held p) ∙ (sym c.best-in-loop-prefix.ensures.best ∙ ap option_copied w.in-Some.is) in
+          w.best-is ∙ (w.in_ok-push.ensures.ok ∙ (ap (λ e. c.loop-prefix.best ++ e ∷ []) w.in_ok-best_seen.ensures
+          ∙ one_more best_entry es (table.entries_sorted held) [] c.loop-prefix.best i p w.in-Some.route.now within named found c.loop-prefix.invariant))
+      | in_default w ↦
+          let none : table.find prefix_cmp p es ≡ None = sym (table.get-entries held p) ∙ (sym c.best-in-loop-prefix.ensures.best ∙ ap option_copied w.in_default.is) in
+          absurd (has_one best_entry es (table.entries_sorted held) i p within named none)
     ]
 
 pub returns : goal.returns
-returns c = walk_ends best_entry (table.entries c.args.rib.now.best) c.loop-prefix.best c.loop-prefix.last (sym c.next_best.ensures ∙ c.in_default.is) c.loop-prefix.invariant
+returns c =
+    let held = c.args.rib.now.best in
+    let list : c.deref-prefix-items.result.now ≡ table.keys held = c.deref-prefix-items.ensures ∙ c.in_ok-best_prefixes.ensures in
+    all_listed best_entry (table.entries held) (table.entries_sorted held) [] c.loop-prefix.best c.loop-prefix.prefix-index
+    (subst (λ (xs : List PrefixValue). length xs ≤ c.loop-prefix.prefix-index) list c.loop-prefix-test.false) c.loop-prefix.invariant
