@@ -117,16 +117,19 @@ fn best(alloc: Global, rib: &Rib, prefix: Prefix) -> Result<String> {
     Ok(text)
 }
 
-/// The prefixes of the routes that come from there, up to 100.
+/// The prefixes of the routes that come from there, as a list and one after the other.
 fn entries(alloc: Global, rib: &Rib, from: From) -> Result<String> {
     let mut text = String::new(alloc);
     let mut last = None;
-    for _n in 0..100u32 {
-        let Some(prefix) = rib.next_entry(from, last) else {
-            break;
-        };
-        push_prefix(&mut text, prefix)?;
-        last = Some(prefix);
+    for prefix in rib.entry_prefixes(from)?.iter() {
+        if rib.next_entry(from, last) != Some(*prefix) {
+            bail!("the list has another prefix");
+        }
+        push_prefix(&mut text, *prefix)?;
+        last = Some(*prefix);
+    }
+    if rib.next_entry(from, last).is_some() {
+        bail!("the list ends too early");
     }
     Ok(or_nothing(text)?)
 }
