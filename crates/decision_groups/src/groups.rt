@@ -9,7 +9,6 @@ ghost use Rattle.decision_groups.specs.Groups.{NumberedGroup, AreNumbered, group
 ghost use Rattle.decision_groups.specs.Places.{IsPlace, IsGap};
 
 use crate::group::Group;
-use crate::room::insert_at;
 use bgp_types::{From, NoMemory, Rank};
 use decision_core::{is_nearer, leads};
 use std::alloc::Global;
@@ -88,7 +87,7 @@ impl Groups {
             Ok(at) => self.entries[at].1.set(from, rank),
             Err(at) => {
                 let group = Group::one(alloc, from, rank)?;
-                insert_at(&mut self.entries, at, (rank.neighbour, group))?;
+                self.entries.insert(at, (rank.neighbour, group))?;
                 Ok(())
             }
         }

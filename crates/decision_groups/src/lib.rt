@@ -8,7 +8,6 @@ mod group_set;
 mod groups;
 mod laws;
 mod ranks;
-mod room;
 
 pub use bgp_types::{From, NoMemory, PeeringId, Rank, RouterId};
 pub use group_set::GroupSet;

@@ -6,7 +6,6 @@ ghost use Rattle.decision_groups.specs.Order.{RankedSource, from_order, IsInOrde
 ghost use Rattle.decision_groups.specs.Groups.{champion_of, beats_champion as beats_champion_lem, beats as beats_lem};
 ghost use Rattle.decision_groups.specs.Places.{IsPlace, IsGap};
 
-use crate::room::insert_at;
 use bgp_types::{From, NoMemory, Rank};
 use decision_core::{is_nearer, leads};
 use std::alloc::Global;
@@ -80,8 +79,8 @@ impl Ranks {
     pub fn one(alloc: Global, from: From, rank: Rank) -> Result<Ranks, NoMemory>
         ensures { IfOk result (λ ranks. ranks ≡ (from, rank) ∷ []) }
     {
-        let mut entries = Vec::new(alloc);
-        insert_at(&mut entries, 0, (from, rank))?;
+        let mut entries = Vec::with_capacity(alloc, 2)?;
+        entries.push((from, rank))?;
         Ok(Ranks { entries })
     }
 
@@ -119,7 +118,7 @@ impl Ranks {
         match place(&self.entries, from) {
             Ok(at) => Ok(Some(mem::replace(&mut self.entries[at].1, rank))),
             Err(at) => {
-                insert_at(&mut self.entries, at, (from, rank))?;
+                self.entries.insert(at, (from, rank))?;
                 Ok(None)
             }
         }

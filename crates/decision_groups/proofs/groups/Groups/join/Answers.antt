@@ -36,8 +36,8 @@ returns-in-Ok-clause-ok c =
 
 -- ---- where it has none
 
-pub insert_at-requires : goal.insert_at-requires
-insert_at-requires c =
+pub insert-requires : goal.insert-requires
+insert-requires c =
     let entries = c.self.inside.entries in
     let gap = rw c.deref.ensures.value at c.in-Err.ensures.absent in
     omega (arith, entries.ok.0, gap-within nat_cmp c.args.rank.neighbour entries.items c.in-Err.at gap)
@@ -46,12 +46,12 @@ pub invariant_of-self-in-Err : goal.invariant_of-self-in-Err
 invariant_of-self-in-Err c =
     let es = c.self.inside.entries.items in
     let gap = rw c.deref.ensures.value at c.in-Err.ensures.absent in
-    subst AreNumbered (sym c.in_ok-insert_at-in-Err.ensures.items) (made_numbers es c.args.rank.neighbour c.in-Err.at gap c.self.invariant c.in_ok-group-in-Err.group)
+    subst AreNumbered (sym c.in_ok-insert-in-Err.ensures.items) (made_numbers es c.args.rank.neighbour c.in-Err.at gap c.self.invariant c.in_ok-group-in-Err.group)
 
-pub returns-in_ok-insert_at-in-Err-clause-ok : goal.returns-in_ok-insert_at-in-Err-clause-ok
-returns-in_ok-insert_at-in-Err-clause-ok c n =
+pub returns-in_ok-insert-in-Err-clause-ok : goal.returns-in_ok-insert-in-Err-clause-ok
+returns-in_ok-insert-in-Err-clause-ok c n =
     let es = c.self.inside.entries.items in
     let gap = rw c.deref.ensures.value at c.in-Err.ensures.absent in
-    ap (λ (gs : List NumberedGroup). group_at gs n) (c.in_ok-insert_at-in-Err.ensures.items ∙ ap (λ (ms : List RankedSource). list.insert es c.in-Err.at (c.args.rank.neighbour, ms)) c.in_ok-group-in-Err.ensures)
+    ap (λ (gs : List NumberedGroup). group_at gs n) (c.in_ok-insert-in-Err.ensures.items ∙ ap (λ (ms : List RankedSource). list.insert es c.in-Err.at (c.args.rank.neighbour, ms)) c.in_ok-group-in-Err.ensures)
     ∙ (group-made es c.args.rank.neighbour c.in-Err.at gap n (λ ms. with_rank ms c.args.from c.args.rank)
     ∙ ap (λ gs. cond (n == c.args.rank.neighbour) (Some (with_rank (members_of gs n) c.args.from c.args.rank)) (group_at gs n)) c.self.view_is)

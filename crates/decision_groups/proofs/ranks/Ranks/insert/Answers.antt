@@ -41,14 +41,14 @@ returns-in-Ok-clause-in_order c = invariant_of-self c
 
 -- ---- where there was none
 
-pub insert_at-requires : goal.insert_at-requires
-insert_at-requires c =
+pub insert-requires : goal.insert-requires
+insert-requires c =
     let entries = c.self.inside.entries in
     let gap = rw c.deref.ensures.value at c.in-Err.ensures.absent in
     omega (arith, entries.ok.0, gap-within from_order c.args.from entries.items c.in-Err.at gap)
 
-pub returns-in_err-insert_at-in-Err-clause-absent : goal.returns-in_err-insert_at-in-Err-clause-absent
-returns-in_err-insert_at-in-Err-clause-absent c =
+pub returns-in_err-insert-in-Err-clause-absent : goal.returns-in_err-insert-in-Err-clause-absent
+returns-in_err-insert-in-Err-clause-absent c =
     let es = c.self.inside.entries.items in
     let gap = rw c.deref.ensures.value at c.in-Err.ensures.absent in
     let absent : rank_at c.args.self.now c.args.from ≡ None =
@@ -59,22 +59,22 @@ pub invariant_of-self-in-Err : goal.invariant_of-self-in-Err
 invariant_of-self-in-Err c =
     let es = c.self.inside.entries.items in
     let gap = rw c.deref.ensures.value at c.in-Err.ensures.absent in
-    subst IsInOrder (insert_gap from_order c.args.from es c.in-Err.at c.args.rank gap ∙ sym c.in_ok-insert_at-in-Err.ensures.items)
+    subst IsInOrder (insert_gap from_order c.args.from es c.in-Err.at c.args.rank gap ∙ sym c.in_ok-insert-in-Err.ensures.items)
     (sorted-insert from_order_total c.args.from c.args.rank es c.self.invariant)
 
-pub returns-in_ok-insert_at-in-Err-clause-replaced : goal.returns-in_ok-insert_at-in-Err-clause-replaced
-returns-in_ok-insert_at-in-Err-clause-replaced c =
+pub returns-in_ok-insert-in-Err-clause-replaced : goal.returns-in_ok-insert-in-Err-clause-replaced
+returns-in_ok-insert-in-Err-clause-replaced c =
     let es = c.self.inside.entries.items in
     let gap = rw c.deref.ensures.value at c.in-Err.ensures.absent in
     sym (lookup_gap from_order c.args.from es c.in-Err.at gap) ∙ ap (λ cs. rank_at cs c.args.from) c.self.view_is
 
-pub returns-in_ok-insert_at-in-Err-clause-ok : goal.returns-in_ok-insert_at-in-Err-clause-ok
-returns-in_ok-insert_at-in-Err-clause-ok c =
+pub returns-in_ok-insert-in-Err-clause-ok : goal.returns-in_ok-insert-in-Err-clause-ok
+returns-in_ok-insert-in-Err-clause-ok c =
     let es = c.self.inside.entries.items in
     let gap = rw c.deref.ensures.value at c.in-Err.ensures.absent in
-    c.in_ok-insert_at-in-Err.ensures.items
+    c.in_ok-insert-in-Err.ensures.items
     ∙ (sym (insert_gap from_order c.args.from es c.in-Err.at c.args.rank gap)
     ∙ ap (λ cs. with_rank cs c.args.from c.args.rank) c.self.view_is)
 
-pub returns-in_ok-insert_at-in-Err-clause-in_order : goal.returns-in_ok-insert_at-in-Err-clause-in_order
-returns-in_ok-insert_at-in-Err-clause-in_order c = invariant_of-self-in-Err c
+pub returns-in_ok-insert-in-Err-clause-in_order : goal.returns-in_ok-insert-in-Err-clause-in_order
+returns-in_ok-insert-in-Err-clause-in_order c = invariant_of-self-in-Err c
