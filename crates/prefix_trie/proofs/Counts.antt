@@ -1,6 +1,6 @@
 -- The entries of a trie rise, and there are fewer of them than a table can count.
-use Rattle.std.proofs.Common.{◌≡◌, ℕ, ◌+◌, ◌*◌, ◌^◌, ◌<◌, ◌≤◌, Bool, true, false, cond, List, [], ◌∷◌, ◌++◌, length, Option, Some, None, refl, sym, ap, ◌∙◌, arith, inl, inr}
-use Rattle.std.specs.Prelude.{T, ◌&&◌, is_some}
+use Rattle.std.proofs.Common.{◌≡◌, ℕ, zero, suc, subst, slice_get, ◌+◌, ◌*◌, ◌^◌, ◌<◌, ◌≤◌, Bool, true, false, cond, List, [], ◌∷◌, ◌++◌, length, Option, Some, None, refl, sym, ap, ◌∙◌, arith, inl, inr}
+use Rattle.std.specs.Prelude.{T, ◌&&◌, is_some, IfSome, option_map, unwrap_or}
 use Rattle.std.specs.declared.cmp.Ordering.{Ordering}
 use Rattle.std.specs.declared.cmp.Ordering.TheVariants.{Less, Greater}
 use Rattle.std.specs.Ordering.{is_lt}
@@ -12,10 +12,13 @@ use Rattle.std.proofs.lemmas.Bool.Decides.{nat_tests}
 use Rattle.bgp_types.specs.Prefixes.{PrefixValue, IsPrefix}
 use Rattle.bgp_types.specs.Tables.{prefix_cmp}
 use Rattle.bgp_types.proofs.TableLaws.{prefix_total, AllAbove, without, rising_append, rising_parts}
-use Rattle.prefix_trie.specs.Halves.{middle, past, Within}
-use Rattle.prefix_trie.specs.Nodes.{own, entries, IsNode, IsTrie}
-use Rattle.prefix_trie.specs.declared.node.Tree.{Tree}
-use Rattle.prefix_trie.specs.declared.node.Tree.TheVariants.{Leaf, Fork'}
+use Rattle.prefix_trie.specs.Halves.{middle, Within}
+use Rattle.prefix_trie.specs.Nodes.{own, IsNode}
+use Rattle.prefix_trie.specs.declared.node.Node.{Node}
+use Rattle.prefix_trie.specs.declared.tree.Tree.{Tree}
+use Rattle.prefix_trie.specs.Arena.{value_at, entries_at, IsBranching, IsTrieAt}
+use Rattle.prefix_trie.specs.Trees.{entries, IsTrie}
+use Rattle.prefix_trie.proofs.Places.{halves_of}
 use Rattle.prefix_trie.proofs.Halves.{positive}
 use Rattle.prefix_trie.proofs.Nodes.{every, every_both, later_address, branches_above, ones_above}
 
@@ -33,20 +36,32 @@ rising_node {V} p o zs os node rz ro =
     own_first None = tt
     own_first (Some v) = (branches_above p o zs os node p (omega arith) (omega arith), tt)
 
+-- the entries of nodes, which are none or those of a node over its branches
+by_levels : {V : Type 0} (P : List (PrefixValue × V) → Type 0) (nodes : List Node) (values : List (Option V)) → P [] → ((p : PrefixValue) (o : Option V) (zs os : List (PrefixValue × V)) → IsNode p zs os → P zs → P os → P (own p o ++ (zs ++ os)))
+    → (levels place : ℕ) → IsTrieAt nodes levels place → P (entries_at nodes values levels place)
+unfolding IsTrieAt entries_at
+by_levels P nodes values none over zero place trie = none
+by_levels {V} P nodes values none over (suc k) place trie = by_node (λ p trie. by_levels P nodes values none over k p trie) (slice_get nodes place) refl where
+  whole : Option Node → List (PrefixValue × V)
+  whole o = unwrap_or (option_map (λ n. own n.prefix (value_at values place) ++ (entries_at nodes values k n.zero ++ entries_at nodes values k n.one)) o) []
+
+  by_node : ((p : ℕ) → IsTrieAt nodes k p → P (entries_at nodes values k p)) → (o : Option Node) → slice_get nodes place ≡ o → P (entries_at nodes values (suc k) place)
+  by_node recur None is = subst (λ (o : Option Node). P (whole o)) (sym is) none
+  by_node recur (Some n) is =
+      let parts = subst (λ (o : Option Node). IfSome o (λ n. IsBranching nodes n × IsTrieAt nodes k n.zero × IsTrieAt nodes k n.one)) is trie.1 in
+      subst (λ (o : Option Node). P (whole o)) (sym is) (over n.prefix (value_at values place) (entries_at nodes values k n.zero) (entries_at nodes values k n.one) (halves_of nodes values k n parts.0 parts.1 parts.2) (recur n.zero parts.1) (recur n.one parts.2))
+
 pub rising_trie : {V : Type 0} (t : Tree V) → IsTrie t → T (is_sorted prefix_cmp (entries t))
-rising_trie Leaf h = tt
-rising_trie (Fork' at p zero one o) h = rising_node p o (entries zero) (entries one) h.0 (rising_trie zero h.1) (rising_trie one h.2)
+rising_trie t h = by_levels (λ es. T (is_sorted prefix_cmp es)) t.nodes.items t.values.items tt (λ p o zs os node a b. rising_node p o zs os node a b) 34 t.root h.trie
 
 -- ---- how many
 
+itself : {V : Type 0} (p : PrefixValue) (o : Option V) → IsPrefix p → AllByRecursion (λ e. IsPrefix e.0) (own p o)
+itself p None is = tt
+itself p (Some v) is = (is, tt)
+
 all_are : {V : Type 0} (t : Tree V) → IsTrie t → AllByRecursion (λ e. IsPrefix e.0) (entries t)
-all_are Leaf h = tt
-all_are {V} (Fork' at p zero one o) h = every_both IsPrefix (own p o) (entries zero ++ entries one) (itself o)
-    (every_both IsPrefix (entries zero) (entries one) (every (Within p.address (middle p) p.len) IsPrefix (entries zero) (λ q w. w.is) h.0.zeros) (every (Within (middle p) (past p) p.len) IsPrefix (entries one) (λ q w. w.is) h.0.ones))
-  where
-    itself : (x : Option V) → AllByRecursion (λ e. IsPrefix e.0) (own p x)
-    itself None = tt
-    itself (Some v) = (h.0.is, tt)
+all_are {V} t h = by_levels (λ es. AllByRecursion (λ e. IsPrefix e.0) es) t.nodes.items t.values.items tt (λ p o zs os node a b. every_both IsPrefix (own p o) (zs ++ os) (itself p o node.is) (every_both IsPrefix zs os a b)) 34 t.root h.trie
 
 -- a number for each prefix, in the same order
 rank : PrefixValue → ℕ

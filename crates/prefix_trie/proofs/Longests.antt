@@ -1,6 +1,6 @@
 -- The walk down a tree to the longest prefix that covers host.
 use Rattle.std.proofs.Common.{◌≡◌, ◌≢◌, ◌<◌, ◌≤◌, Bool, true, false, cond, List, [], ◌∷◌, ◌++◌, Option, Some, None, refl, sym, ap, ◌∙◌, subst, arith, inl, inr}
-use Rattle.std.specs.Prelude.{◌⊎◌, IsSome, is_some}
+use Rattle.std.specs.Prelude.{◌⊎◌, IsSome, IsTrue, is_some}
 use Rattle.std.specs.Ordering.{eq_by_cmp}
 use Rattle.std.specs.List.{AllByRecursion}
 use Rattle.std.specs.Cmp.{eq_by_cmp_equiv}
@@ -12,9 +12,18 @@ use Rattle.bgp_types.proofs.TableLaws.{exact_prefixes, prefix_total}
 use Rattle.prefix_trie.specs.Halves.{middle, past, Within, Under}
 use Rattle.prefix_trie.specs.Longest.{LongestOf}
 use Rattle.prefix_trie.specs.Nodes.{own, IsNode}
-use Rattle.prefix_trie.proofs.Halves.{positive, covered_from, covered_to, covers_in}
-use Rattle.prefix_trie.proofs.Nodes.{equal_from_test, apart, shorter_differs, find_here, find_early, find_late}
-use Rattle.prefix_trie.proofs.Puts.{all_under}
+use Rattle.prefix_trie.proofs.Halves.{positive, middle_le_past, covered_from, covered_to, covers_in}
+use Rattle.prefix_trie.proofs.Nodes.{every, every_both, equal_from_test, apart, shorter_differs, find_here, find_early, find_late}
+use Rattle.prefix_trie.proofs.Places.{alone}
+
+-- what a node has is under its prefix
+all_under : {V : Type 0} (p : PrefixValue) (o : Option V) (zs os : List (PrefixValue × V)) → IsNode p zs os → AllByRecursion (λ e. Under p e.0) (own p o ++ (zs ++ os))
+all_under {V} p o zs os node =
+    let le = middle_le_past p node.is.len in
+    every_both (Under p) (own p o) (zs ++ os) (alone (Under p) p o (record { is = node.is; long = omega arith; from = omega arith; to = omega arith }))
+    (every_both (Under p) zs os
+    (every (Within p.address (middle p) p.len) (Under p) zs (λ q w. let a = w.longer in let b = w.to in record { is = w.is; long = omega arith; from = w.from; to = omega arith }) node.zeros)
+    (every (Within (middle p) (past p) p.len) (Under p) os (λ q w. let a = w.longer in let b = w.from in record { is = w.is; long = omega arith; from = omega arith; to = w.to }) node.ones))
 
 abbrev pub Has : {V : Type 0} → List (PrefixValue × V) → PrefixValue → Type 0
 Has es q = IsSome (find prefix_cmp q es)
@@ -49,6 +58,10 @@ walk_ends host es here (Some p) w none = record {
   covers = w.found.1;
   longest = λ q h c. elim (w.rest q h c) [ inl k ↦ absurd (none q k c) | inr k ↦ k ];
 }
+
+-- what a test says that fails
+pub untrue : (b : Bool) → b ≡ false → IsTrue b → ⊥
+untrue b e h = absurd cc
 
 nothing : {A : Type 0} (o : Option A) → o ≡ None → IsSome o → ⊥
 nothing {A} o e h = empty (subst (λ (x : Option A). IsSome x) e h) where

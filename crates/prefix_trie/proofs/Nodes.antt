@@ -1,7 +1,7 @@
 -- What the entries of a node answer, and what a change of them leaves.
 use Rattle.std.proofs.Common.{◌≡◌, ◌≢◌, ℕ, ◌<◌, ◌≤◌, Bool, true, false, cond, not, List, [], ◌∷◌, ◌++◌, Option, Some, None, refl, sym, ap, ◌∙◌, subst, arith}
 use Rattle.std.specs.Prelude.{nat_eq, ◌&&◌}
-use Rattle.std.proofs.Common.{Box, Global, ltb}
+use Rattle.std.proofs.Common.{ltb}
 use Rattle.std.specs.declared.cmp.Ordering.{Ordering}
 use Rattle.std.specs.declared.cmp.Ordering.TheVariants.{Less, Equal, Greater}
 use Rattle.std.specs.Ordering.{eq_by_cmp, is_eq, is_lt, is_some_and, ordering_then, partial_ordering_then}
@@ -15,10 +15,7 @@ use Rattle.bgp_types.specs.Prefixes.{PrefixValue}
 use Rattle.bgp_types.specs.Tables.{prefix_cmp}
 use Rattle.bgp_types.proofs.TableLaws.{prefix_total, exact_prefixes, AllBelow, AllAbove, without, put_right, put_left, find_right, find_left, find_above, without_right, without_left}
 use Rattle.prefix_trie.specs.Halves.{middle, past, Within}
-use Rattle.prefix_trie.specs.Nodes.{own, entries, IsNode, IsTrie}
-use Rattle.prefix_trie.specs.declared.node.Tree.{Tree}
-use Rattle.prefix_trie.specs.declared.node.Tree.TheVariants.{Fork}
-use Rattle.prefix_trie.specs.declared.node.Node.{Node}
+use Rattle.prefix_trie.specs.Nodes.{own, IsNode}
 use Rattle.prefix_trie.proofs.Halves.{positive}
 
 -- ---- the order
@@ -160,31 +157,13 @@ module _ {V : Type 0} where
       by_value None = without_none p (zs ++ os) (branches_apart p (omega arith))
       by_value (Some v) = rw (tied_itself prefix_total p) (without_none p (zs ++ os) (branches_apart p (omega arith)))
 
-    pub without_nowhere : (q : PrefixValue) → q.len ≤ p.len → q ≢ p → without prefix_cmp q (own p o ++ (zs ++ os)) ≡ own p o ++ (zs ++ os)
-    without_nowhere q h k = without_none q (own p o ++ (zs ++ os)) (every_both (λ x. q ≢ x) (own p o) (zs ++ os) (own_apart q p o k) (branches_apart q h))
-
     pub without_early : (q : PrefixValue) → q ≢ p → q.address < middle p → without prefix_cmp q (own p o ++ (zs ++ os)) ≡ own p o ++ (without prefix_cmp q zs ++ os)
     without_early q k h = without_apart q (own p o) (zs ++ os) (own_apart q p o k) ∙ ap (λ (xs : List (PrefixValue × V)). own p o ++ xs) (without_left prefix_cmp q zs os (ones_above q h))
 
     pub without_late : (q : PrefixValue) → q ≢ p → middle p ≤ q.address → without prefix_cmp q (own p o ++ (zs ++ os)) ≡ own p o ++ (zs ++ without prefix_cmp q os)
     without_late q k h = without_apart q (own p o) (zs ++ os) (own_apart q p o k) ∙ ap (λ (xs : List (PrefixValue × V)). own p o ++ xs) (without_right prefix_cmp q zs os (zeros_below q h))
 
--- ---- a tree
-
-pub record AtFork {V : Type 0} (t : Tree V) (n : Node V) : Type 0 where
-  pub is : entries t ≡ own n.prefix n.value ++ (entries n.zero ++ entries n.one)
-  pub node : IsNode n.prefix (entries n.zero) (entries n.one)
-  pub zero : IsTrie n.zero
-  pub one : IsTrie n.one
-
-pub at_fork : {V : Type 0} (t : Tree V) (b : Box (Node V) Global) → t ≡ Fork b → IsTrie t → AtFork t b.value
-at_fork t b e trie =
-    let h = subst IsTrie e trie in
-    record { is = ap entries e; node = h.0; zero = h.1; one = h.2 }
-
--- at a borrow of the node
-pub at_node : {V : Type 0} (t : Tree V) (b : Box (Node V) Global) (n : Node V) → t ≡ Fork b → n ≡ b.value → IsTrie t → AtFork t n
-at_node {V} t b n e d trie = subst (λ (m : Node V). AtFork t m) (sym d) (at_fork t b e trie)
+-- ---- tests
 
 pub same_prefix : (p q : PrefixValue) → (nat_eq p.address q.address && nat_eq p.len q.len) ≡ true → p ≡ q
 same_prefix p q e =
@@ -208,16 +187,6 @@ is_past t a b m e f g = subst (λ (n : ℕ). m ≤ n) e (ltb-false a m (sym f �
 
 pub shorter_differs : (p q : PrefixValue) → p.len < q.len → q ≢ p
 shorter_differs p q h e = let same = ap (λ (x : PrefixValue). x.len) e in omega arith
-
--- at a node that has been opened
-pub at_opened : {V : Type 0} (t : Tree V) (b : Box (Node V) Global) (n : Node V) → t ≡ Fork b → n ≡ record { prefix = b.value.prefix; value = b.value.value; zero = b.value.zero; one = b.value.one } → IsTrie t → AtFork t n
-at_opened {V} t b n e d trie =
-    let h = subst IsTrie e trie in
-    let f : AtFork t (record { prefix = b.value.prefix; value = b.value.value; zero = b.value.zero; one = b.value.one }) = record { is = ap entries e; node = h.0; zero = h.1; one = h.2 } in
-    subst (λ (m : Node V). AtFork t m) (sym d) f
-
-pub entries_at : {V : Type 0} (t : Tree V) (b : Box (Node V) Global) (n : Node V) → t ≡ Fork b → n ≡ b.value → entries t ≡ own n.prefix n.value ++ (entries n.zero ++ entries n.one)
-entries_at {V} t b n e d = ap entries e ∙ ap (λ (m : Node V). own m.prefix m.value ++ (entries m.zero ++ entries m.one)) (sym d)
 
 pub less_from_test : (o : Ordering) → is_lt o ≡ true → o ≡ Less
 less_from_test Less e = refl

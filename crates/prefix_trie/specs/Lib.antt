@@ -1,5 +1,9 @@
+pub mod Adding
+pub mod Arena
 pub mod Changes
 pub mod Halves
 pub mod Longest
 pub mod Nodes
 pub mod Table
+pub mod Trimming
+pub mod Trees

@@ -1,21 +1,14 @@
--- What a trie has, and how its prefixes stand in it.
-use Rattle.std.specs.Prelude.{◌≡◌, Bool, true, false, ℕ, ◌+◌, ◌≤◌, List, [], ◌∷◌, ◌++◌, Option, Some, None, Result, Ok, Err}
+-- What a node has, and how prefixes stand below it.
+use Rattle.std.specs.Prelude.{◌≡◌, ℕ, ◌+◌, ◌≤◌, List, [], ◌∷◌, Option, Some, None, Result, Ok, Err}
 use Rattle.std.specs.FinMap.{find, put}
 use Rattle.bgp_types.specs.Tables.{prefix_cmp}
 use Rattle.std.specs.List.{AllByRecursion}
-use Rattle.bgp_types.specs.Prefixes.{PrefixValue, IsPrefix, Covers}
-use Rattle.prefix_trie.specs.Halves.{middle, past, Within, Under}
-use Rattle.prefix_trie.specs.declared.node.Tree.{Tree}
-use Rattle.prefix_trie.specs.declared.node.Tree.TheVariants.{Leaf, Fork'}
+use Rattle.bgp_types.specs.Prefixes.{PrefixValue, IsPrefix}
+use Rattle.prefix_trie.specs.Halves.{middle, past, Within}
 
 abbrev pub own : {V : Type 0} → PrefixValue → Option V → List (PrefixValue × V)
 own p None = []
 own p (Some v) = (p, v) ∷ []
-
--- its prefixes with their values, each before those that it covers
-abbrev pub entries : {V : Type 0} → Tree V → List (PrefixValue × V)
-entries Leaf = []
-entries (Fork' at p zero one value) = own p value ++ (entries zero ++ entries one)
 
 -- Below a prefix, longer ones of its first half stand in one branch, and those of its second half in
 -- the other.
@@ -23,17 +16,6 @@ pub record IsNode {V : Type 0} (p : PrefixValue) (zero one : List (PrefixValue �
   pub is : IsPrefix p
   pub zeros : AllByRecursion (λ e. Within p.address (middle p) p.len e.0) zero
   pub ones : AllByRecursion (λ e. Within (middle p) (past p) p.len e.0) one
-
-abbrev pub IsTrie : {V : Type 0} → Tree V → Type 0
-IsTrie Leaf = Unit {0}
-IsTrie (Fork' at p zero one value) = IsNode p (entries zero) (entries one) × IsTrie zero × IsTrie one
-
--- All prefixes are under one, which doesn't cover p.
-pub record IsApart {V : Type 0} (at p : PrefixValue) (es : List (PrefixValue × V)) : Type 0 where
-  pub under : AllByRecursion (λ e. Under at e.0) es
-  pub is_at : IsPrefix at
-  pub is : IsPrefix p
-  pub above : Covers at p → ⊥
 
 -- ---- changes, from the entries es and n spare nodes to the entries fs and m spare nodes
 
@@ -54,8 +36,3 @@ pub record IsRefused {V : Type 0} (p : PrefixValue) (value back : V) (es fs : Li
 abbrev pub PutResult : {V : Type 0} → Result (Option V) V → PrefixValue → V → List (PrefixValue × V) → List (PrefixValue × V) → ℕ → ℕ → Type 0
 PutResult (Ok back) p value es fs n m = IsPut p value back es fs n m
 PutResult (Err back) p value es fs n m = IsRefused p value back es fs n m
-
--- the answer to a set whose value stood in a slot: what is left there, or, where there was no memory, the value
-abbrev pub answer : {V : Type 0} → Bool → V → Option V → Result (Option V) V
-answer true value left = Ok left
-answer false value left = Err value

@@ -2,6 +2,7 @@
 #![tactic(auto)]
 
 mod node;
+mod tree;
 mod trie;
 
 pub use trie::TrieTable;

@@ -1,55 +1,40 @@
-//! The nodes of a trie. A node has a prefix, and further prefixes that it covers stand below it in two
-//! branches: those whose next bit is 0, and those whose next bit is 1. A node without a value is there
-//! for its two branches alone.
+//! The nodes of a trie, which stand in one list. A node has a prefix, and names the places of its two branches. The value of a node stands at the same place of
+//! another list.
 
-ghost use Rattle.std.specs.Prelude.{Some, None, false, [], ◌+◌, ◌-◌, ◌<◌, ◌≤◌, ◌≡◌, ℕ, not, nat_lt, option_copied, map, length, ◌++◌, if◌then◌else◌, IsOk, IsSome, IfSome, IfNone, IsTrue, OnSome, OnOk, OnErr, ◌/◌, ◌^◌, ◌↔◌};
+ghost use Rattle.std.specs.Prelude.{◌↔◌, ◌⊎◌, ◌≢◌, ℕ, ◌≤◌, ◌/◌, ◌^◌, IsTrue, ◌≡◌, ◌++◌, if◌then◌else◌, ◌<◌, length, nat_lt, map, is_some, option_and_then, option_copied, option_map, slice_get, Some, None, IfNone, IfSome, IsSome, OnOk, OnSome};
 ghost use Rattle.std.specs.FinMap as table;
-ghost use Rattle.std.specs.Fn.{FnOnceReturnsAtMut};
-ghost use Rattle.prefix_trie.specs.Changes.{ChangeResult};
-ghost use Rattle.std.specs.FinMap.Entries.{where_key};
-ghost use Rattle.std.specs.Ordering.{eq_by_cmp};
+ghost use Rattle.std.specs.List.{Contains};
 ghost use Rattle.bgp_types.specs.Tables.{prefix_cmp, first_above};
-ghost use Rattle.bgp_types.specs.Prefixes.{IsPrefix, Covers};
-ghost use Rattle.prefix_trie.specs.Halves.{middle, past, IsFork};
+ghost use Rattle.prefix_trie.specs.Halves.{middle as middle_of, IsFork};
 ghost use Rattle.prefix_trie.specs.Longest.{LongestOf};
-ghost use Rattle.prefix_trie.specs.declared.node.Tree.TheVariants.{Leaf};
-ghost use Rattle.prefix_trie.specs.Nodes.{answer, entries, own, IsApart, IsNode, IsTrie, PutResult};
+ghost use Rattle.prefix_trie.specs.Arena.{entries_at, places_at, value_at, HasNone, IsTrieAt, IsNodeSet, IsUnder};
+ghost use Rattle.prefix_trie.specs.Adding.{CanAdd, IsAdded, IsLinked, IsSpot, IsUpper, IsWay};
+ghost use Rattle.prefix_trie.specs.Trimming.{CanTrim, IsTrimmed};
+ghost use Rattle.bgp_types.specs.Prefixes.{Covers};
 
 use bgp_types::{NoMemory, Prefix, PrefixList};
-use std::alloc::Global;
-use std::mem;
 
-#[cycle(trie)]
-#[derive(Drop)]
-pub enum Tree<V> {
-    Leaf,
-    Fork(Box<Node<V>>),
-}
+/// How many nodes a way down has at most, and one: the prefixes grow from node to node.
+pub const LEVELS: u32 = 34;
 
-/// The fields that a way down reads stand together, ahead of the value: so it reads the first bytes of each node alone, however
-/// large the values are.
-#[cycle(trie)]
-#[derive(Drop)]
-pub struct Node<V> {
+/// A prefix, and where its branches stand. A place at which no node stands is that of an empty branch.
+#[derive(Clone, Copy)]
+pub struct Node {
     pub prefix: Prefix,
-    pub zero: Tree<V>,
-    pub one: Tree<V>,
-    pub value: Option<V>,
+    pub zero: u32,
+    pub one: u32,
 }
-
-/// Nodes that are kept for later.
-pub type Spares<V> = Vec<Box<Node<V>>>;
 
 /// Where the second half of a prefix begins.
 fn middle(prefix: Prefix) -> u64
-    ensures { result ≡ middle prefix }
+    ensures { result ≡ middle_of prefix }
 {
     u64::from(prefix.address()) + (1 << 31 >> prefix.len())
 }
 
 /// Whether an address lies before the second half of a prefix.
 fn is_early(address: u32, prefix: Prefix) -> bool
-    ensures { result ≡ nat_lt address (middle prefix) }
+    ensures { result ≡ nat_lt address (middle_of prefix) }
 {
     u64::from(address) < middle(prefix)
 }
@@ -64,7 +49,7 @@ fn half(len: u8) -> u32
 
 /// Whether a prefix is longer than another that covers it.
 fn is_below(prefix: Prefix, at: Prefix) -> bool
-    ensures { IsTrue result ↔ (Covers at prefix × at.len < prefix.len) }
+    ensures { IsTrue result ↔ IsUnder at prefix }
 {
     at.len() < prefix.len()
         && at.address() <= prefix.address()
@@ -75,119 +60,119 @@ fn is_below(prefix: Prefix, at: Prefix) -> bool
 fn is_first_half(address: u32, prefix: Prefix) -> bool
     requires from { prefix.address ≤ address }
     requires short { prefix.len < 32 }
-    ensures { result ≡ nat_lt address (middle prefix) }
+    ensures { result ≡ nat_lt address (middle_of prefix) }
 {
     address - prefix.address() < half(prefix.len())
 }
 
-/// The value of a prefix.
-pub fn find<V>(tree: &Tree<V>, prefix: Prefix) -> Option<&V>
-    requires { IsTrie tree.now }
-    ensures { option_copied result ≡ table.find prefix_cmp prefix (entries tree.now) }
+/// The node at a place.
+pub fn node_at(nodes: &[Node], place: u32) -> Option<&Node>
+    ensures { option_copied result ≡ slice_get nodes.now place }
 {
-    let mut at = tree;
-    while let Tree::Fork(node) = at {
-        let node: &Node<V> = node;
+    nodes.get(place as usize)
+}
+
+/// The place of the node of a prefix, if there is one.
+pub fn find<V>(nodes: &[Node], values: &[Option<V>], root: u32, prefix: Prefix) -> Option<u32>
+    requires { IsTrieAt nodes.now 34 root }
+    ensures value { option_and_then (value_at values.now) result ≡ table.find prefix_cmp prefix (entries_at nodes.now values.now 34 root) }
+    ensures place { IfSome result (λ place. Contains (places_at nodes.now 34 root) place) }
+    ensures node { IfSome result (λ place. option_map (λ n. n.prefix) (slice_get nodes.now place) ≡ Some prefix) }
+{
+    let mut at = root;
+    let mut levels = LEVELS;
+    while let Some(node) = node_at(nodes, at) {
         if node.prefix.len() >= prefix.len() {
-            if node.prefix == prefix {
-                return node.value.as_ref();
-            }
-            return None;
+            return if node.prefix == prefix {
+                Some(at)
+            } else {
+                None
+            };
         }
         at = if is_early(prefix.address(), node.prefix) {
-            &node.zero
+            node.zero
         } else {
-            &node.one
+            node.one
         };
+        levels -= 1;
     }
     None
 }
 
-/// Changes the value of a prefix in place, and answers what the change answers. Where the prefix has no value, nothing changes, and
-/// the answer is None.
-pub fn change<V, R, F: FnOnce(&mut V) -> R>(
-    tree: &mut Tree<V>,
-    prefix: Prefix,
-    edit: F,
-) -> Option<R>
-    requires trie { IsTrie tree.old }
-    requires callable { F.IsAlwaysCallable edit }
-    ensures trie { IsTrie tree.new }
-    ensures changed { ChangeResult (FnOnceReturnsAtMut F.FnOnce edit) prefix result (entries tree.old) (entries tree.new) }
+/// Whether a value stands at a place.
+fn has_value<V>(values: &[Option<V>], place: u32) -> bool
+    ensures { result ≡ is_some (value_at values.now place) }
 {
-    let Tree::Fork(node) = tree else {
-        return None;
-    };
-    let node: &mut Node<V> = node;
-    if node.prefix.len() >= prefix.len() {
-        if node.prefix != prefix {
-            return None;
-        }
-        return match &mut node.value {
-            Some(value) => Some(edit(value)),
-            None => None,
-        };
+    match values.get(place as usize) {
+        Some(value) => value.is_some(),
+        None => false,
     }
-    if is_early(prefix.address(), node.prefix) {
-        return change(&mut node.zero, prefix, edit);
-    }
-    change(&mut node.one, prefix, edit)
 }
 
-/// The least prefix of all. A node without a value has two branches, and neither is empty, so this
-/// goes one way down.
-pub fn first<V>(tree: &Tree<V>) -> Option<Prefix>
-    ensures { result ≡ first_above None (map (λ e. e.0) (entries tree.now)) }
+/// The least prefix from a place down.
+pub fn first<V>(nodes: &[Node], values: &[Option<V>], levels: u32, place: u32) -> Option<Prefix>
+    requires { IsTrieAt nodes.now levels place }
+    ensures { result ≡ first_above None (map (λ e. e.0) (entries_at nodes.now values.now levels place)) }
 {
-    match tree {
-        Tree::Leaf => None,
-        Tree::Fork(node) => {
-            let node: &Node<V> = node;
-            if node.value.is_some() {
+    match node_at(nodes, place) {
+        None => None,
+        Some(node) => {
+            if has_value(values, place) {
                 return Some(node.prefix);
             }
-            match first(&node.zero) {
+            match first(nodes, values, levels - 1, node.zero) {
                 Some(prefix) => Some(prefix),
-                None => first(&node.one),
+                None => first(nodes, values, levels - 1, node.one),
             }
         }
     }
 }
 
-/// Adds the prefixes to a list, in rising order.
-pub fn list<V>(tree: &Tree<V>, prefixes: &mut PrefixList) -> Result<(), NoMemory>
-    ensures { OnOk result (prefixes.new ≡ prefixes.old ++ map (λ e. e.0) (entries tree.now)) }
+/// Adds the prefixes from a place down to a list, in rising order.
+pub fn list<V>(
+    nodes: &[Node],
+    values: &[Option<V>],
+    levels: u32,
+    place: u32,
+    prefixes: &mut PrefixList,
+) -> Result<(), NoMemory>
+    requires { IsTrieAt nodes.now levels place }
+    ensures { OnOk result (prefixes.new ≡ prefixes.old ++ map (λ e. e.0) (entries_at nodes.now values.now levels place)) }
 {
-    if let Tree::Fork(node) = tree {
-        let node: &Node<V> = node;
-        if node.value.is_some() {
+    if let Some(node) = node_at(nodes, place) {
+        if has_value(values, place) {
             prefixes.push(node.prefix)?;
         }
-        list(&node.zero, prefixes)?;
-        list(&node.one, prefixes)?;
+        list(nodes, values, levels - 1, node.zero, prefixes)?;
+        list(nodes, values, levels - 1, node.one, prefixes)?;
     }
     Ok(())
 }
 
-/// The least prefix above another.
-pub fn next<V>(tree: &Tree<V>, prefix: Prefix) -> Option<Prefix>
-    requires { IsTrie tree.now }
-    ensures { result ≡ first_above (Some prefix) (map (λ e. e.0) (entries tree.now)) }
+/// The least prefix above another, from a place down.
+pub fn next<V>(
+    nodes: &[Node],
+    values: &[Option<V>],
+    levels: u32,
+    place: u32,
+    prefix: Prefix,
+) -> Option<Prefix>
+    requires { IsTrieAt nodes.now levels place }
+    ensures { result ≡ first_above (Some prefix) (map (λ e. e.0) (entries_at nodes.now values.now levels place)) }
 {
-    match tree {
-        Tree::Leaf => None,
-        Tree::Fork(node) => {
-            let node: &Node<V> = node;
+    match node_at(nodes, place) {
+        None => None,
+        Some(node) => {
             if prefix < node.prefix {
-                return first(tree);
+                return first(nodes, values, levels, place);
             }
             if is_early(prefix.address(), node.prefix) {
-                if let Some(after) = next(&node.zero, prefix) {
+                if let Some(after) = next(nodes, values, levels - 1, node.zero, prefix) {
                     return Some(after);
                 }
-                return first(&node.one);
+                return first(nodes, values, levels - 1, node.one);
             }
-            next(&node.one, prefix)
+            next(nodes, values, levels - 1, node.one, prefix)
         }
     }
 }
@@ -200,54 +185,110 @@ fn chosen(has: bool, prefix: Prefix, other: Option<Prefix>) -> Option<Prefix>
 }
 
 /// The longest prefix that covers another.
-pub fn longest<V>(tree: &Tree<V>, host: Prefix) -> Option<Prefix>
-    requires { IsTrie tree.now }
-    ensures { LongestOf (λ p. IsSome (table.find prefix_cmp p (entries tree.now))) host result }
+pub fn longest<V>(nodes: &[Node], values: &[Option<V>], root: u32, host: Prefix) -> Option<Prefix>
+    requires { IsTrieAt nodes.now 34 root }
+    ensures { LongestOf (λ p. IsSome (table.find prefix_cmp p (entries_at nodes.now values.now 34 root))) host result }
 {
     let mut longest = None;
-    let mut at = tree;
-    while let Tree::Fork(node) = at {
-        let node: &Node<V> = node;
+    let mut at = root;
+    let mut levels = LEVELS;
+    while let Some(node) = node_at(nodes, at) {
         if !node.prefix.covers(&host) {
             return longest;
         }
-        longest = chosen(node.value.is_some(), node.prefix, longest);
+        longest = chosen(has_value(values, at), node.prefix, longest);
         at = if is_early(host.address(), node.prefix) {
-            &node.zero
+            node.zero
         } else {
-            &node.one
+            node.one
         };
+        levels -= 1;
     }
     longest
 }
 
-/// A node to be written over, of the spare ones as long as there are any.
-fn spare<V: Drop>(alloc: Global, spares: &mut Spares<V>, prefix: Prefix) -> Option<Box<Node<V>>>
-    ensures used { OnSome result (length spares.old.items ≤ length spares.new.items + 1) }
-    ensures few { IfNone result (length spares.old.items ≡ 0) }
-    ensures few_left { IfNone result (length spares.new.items ≡ 0) }
+/// Puts a node at a place.
+fn set_node(nodes: &mut [Node], place: u32, node: Node)
+    requires { place < length nodes.old }
+    ensures { IsNodeSet nodes.old nodes.new place node }
 {
-    if let Some(node) = spares.pop() {
-        return Some(node);
-    }
-    let node = Node {
-        prefix,
-        value: None,
-        zero: Tree::Leaf,
-        one: Tree::Leaf,
-    };
-    match Box::new(alloc, node) {
-        Ok(fresh) => Some(fresh),
-        Err(_) => None,
+    nodes[place as usize] = node;
+}
+
+/// Where a trie begins once a prefix got a node, and whether there is a fork above the node.
+#[derive(Clone, Copy)]
+pub struct Rooted {
+    pub root: u32,
+    pub forked: bool,
+}
+
+/// The place of no node.
+pub const NOWHERE: u32 = u32::MAX;
+
+/// Gives a prefix a node where nothing stands.
+fn add_leaf<V>(
+    nodes: &mut [Node],
+    values: &[Option<V>],
+    fresh: u32,
+    spare: u32,
+    levels: u32,
+    place: u32,
+    prefix: Prefix,
+) -> Rooted
+    requires can { CanAdd nodes.old values.now prefix fresh spare levels place }
+    requires none { slice_get nodes.old place ≡ None }
+    ensures { IsAdded nodes.old nodes.new values.now prefix fresh spare levels place result.root result.forked }
+{
+    set_node(
+        nodes,
+        fresh,
+        Node {
+            prefix,
+            zero: NOWHERE,
+            one: NOWHERE,
+        },
+    );
+    Rooted {
+        root: fresh,
+        forked: false,
     }
 }
 
-/// A node in the place of another.
-fn written<V: Drop>(mut place: Box<Node<V>>, node: Node<V>) -> Box<Node<V>>
-    ensures { result.value ≡ node }
+/// Gives a prefix a node above the one at a place, whose prefix it covers.
+fn add_above<V>(
+    nodes: &mut [Node],
+    values: &[Option<V>],
+    fresh: u32,
+    spare: u32,
+    levels: u32,
+    place: u32,
+    at: Prefix,
+    prefix: Prefix,
+) -> Rooted
+    requires can { CanAdd nodes.old values.now prefix fresh spare levels place }
+    requires there { option_map (λ n. n.prefix) (slice_get nodes.old place) ≡ Some at }
+    requires shorter { prefix.len < at.len }
+    requires covers { Covers prefix at }
+    ensures { IsAdded nodes.old nodes.new values.now prefix fresh spare levels place result.root result.forked }
 {
-    *place = node;
-    place
+    let node = if is_early(at.address(), prefix) {
+        Node {
+            prefix,
+            zero: place,
+            one: NOWHERE,
+        }
+    } else {
+        Node {
+            prefix,
+            zero: NOWHERE,
+            one: place,
+        }
+    };
+    set_node(nodes, fresh, node);
+    Rooted {
+        root: fresh,
+        forked: false,
+    }
 }
 
 /// The shortest prefix in whose halves the two addresses lie.
@@ -261,344 +302,263 @@ fn fork_of(low: u32, high: u32) -> Prefix
     }
 }
 
-/// Gives a prefix a value, and answers the value that it had. If there is no memory, the value is
-/// given back, and nothing has changed.
-pub fn put<V: Drop>(
-    alloc: Global,
-    tree: &mut Tree<V>,
-    spares: &mut Spares<V>,
-    prefix: Prefix,
-    value: V,
-) -> Result<Option<V>, V>
-    requires trie { IsTrie tree.old }
-    requires sound { IsPrefix prefix }
-    ensures trie { IsTrie tree.new }
-    ensures put { PutResult result prefix value (entries tree.old) (entries tree.new) (length spares.old.items) (length spares.new.items) }
-{
-    let mut slot = Some(value);
-    if exchange(alloc, tree, spares, prefix, &mut slot) {
-        return Ok(slot);
-    }
-    match slot {
-        Some(value) => Err(value),
-        None => unreachable!(),
-    }
-}
-
-/// Gives a prefix the value of a slot, leaves there the value that it had, and answers whether there was memory. On the way down no value
-/// moves.
-fn exchange<V: Drop>(
-    alloc: Global,
-    tree: &mut Tree<V>,
-    spares: &mut Spares<V>,
-    prefix: Prefix,
-    slot: &mut Option<V>,
-) -> bool
-    requires trie { IsTrie tree.old }
-    requires sound { IsPrefix prefix }
-    ensures trie { (value : _) → slot.old ≡ Some value → IsTrie tree.new }
-    ensures put { (value : _) → slot.old ≡ Some value → PutResult (answer result value slot.new) prefix value (entries tree.old) (entries tree.new) (length spares.old.items) (length spares.new.items) }
-    ensures kept { result ≡ false → slot.new ≡ slot.old }
-{
-    match tree {
-        Tree::Leaf => put_first(alloc, tree, spares, prefix, slot),
-        Tree::Fork(node) => {
-            let node: &mut Node<V> = node;
-            if is_below(prefix, node.prefix) {
-                if is_first_half(prefix.address(), node.prefix) {
-                    return exchange(alloc, &mut node.zero, spares, prefix, slot);
-                }
-                return exchange(alloc, &mut node.one, spares, prefix, slot);
-            }
-            if node.prefix == prefix {
-                mem::swap(&mut node.value, slot);
-                return true;
-            }
-            let at = node.prefix;
-            put_above(alloc, tree, spares, at, prefix, slot)
-        }
-    }
-}
-
-/// The same where there is no prefix.
-fn put_first<V: Drop>(
-    alloc: Global,
-    tree: &mut Tree<V>,
-    spares: &mut Spares<V>,
-    prefix: Prefix,
-    slot: &mut Option<V>,
-) -> bool
-    requires trie { IsTrie tree.old }
-    requires none { entries tree.old ≡ [] }
-    requires sound { IsPrefix prefix }
-    ensures trie { IsTrie tree.new }
-    ensures put { (value : _) → slot.old ≡ Some value → PutResult (answer result value slot.new) prefix value (entries tree.old) (entries tree.new) (length spares.old.items) (length spares.new.items) }
-    ensures kept { result ≡ false → slot.new ≡ slot.old }
-{
-    let Some(place) = spare(alloc, spares, prefix) else {
-        return false;
-    };
-    *tree = forked(place, prefix, slot.take(), Tree::Leaf, Tree::Leaf);
-    true
-}
-
-/// The same where the prefix `at` covers all that there is, but not the other prefix.
-fn put_above<V: Drop>(
-    alloc: Global,
-    tree: &mut Tree<V>,
-    spares: &mut Spares<V>,
+/// Gives a prefix a node beside the one at a place, where neither prefix covers the other, and a fork above both.
+fn add_beside<V>(
+    nodes: &mut [Node],
+    values: &[Option<V>],
+    fresh: u32,
+    spare: u32,
+    levels: u32,
+    place: u32,
     at: Prefix,
     prefix: Prefix,
-    slot: &mut Option<V>,
-) -> bool
-    requires trie { IsTrie tree.old }
-    requires apart { IsApart at prefix (entries tree.old) }
-    ensures trie { IsTrie tree.new }
-    ensures put { (value : _) → slot.old ≡ Some value → PutResult (answer result value slot.new) prefix value (entries tree.old) (entries tree.new) (length spares.old.items) (length spares.new.items) }
-    ensures kept { result ≡ false → slot.new ≡ slot.old }
-{
-    if !prefix.covers(&at) {
-        return put_beside(alloc, tree, spares, at, prefix, slot);
-    }
-    let Some(place) = spare(alloc, spares, prefix) else {
-        return false;
-    };
-    let below = mem::replace(tree, Tree::Leaf);
-    if is_early(at.address(), prefix) {
-        *tree = forked(place, prefix, slot.take(), below, Tree::Leaf);
-        return true;
-    }
-    *tree = forked(place, prefix, slot.take(), Tree::Leaf, below);
-    true
-}
-
-/// The same where neither prefix covers the other.
-fn put_beside<V: Drop>(
-    alloc: Global,
-    tree: &mut Tree<V>,
-    spares: &mut Spares<V>,
-    at: Prefix,
-    prefix: Prefix,
-    slot: &mut Option<V>,
-) -> bool
-    requires trie { IsTrie tree.old }
-    requires apart { IsApart at prefix (entries tree.old) }
+) -> Rooted
+    requires can { CanAdd nodes.old values.now prefix fresh spare levels place }
+    requires there { option_map (λ n. n.prefix) (slice_get nodes.old place) ≡ Some at }
+    requires above { Covers at prefix → ⊥ }
     requires below { Covers prefix at → ⊥ }
-    ensures trie { IsTrie tree.new }
-    ensures put { (value : _) → slot.old ≡ Some value → PutResult (answer result value slot.new) prefix value (entries tree.old) (entries tree.new) (length spares.old.items) (length spares.new.items) }
-    ensures kept { result ≡ false → slot.new ≡ slot.old }
+    ensures { IsAdded nodes.old nodes.new values.now prefix fresh spare levels place result.root result.forked }
 {
-    let Some(place) = spare(alloc, spares, prefix) else {
-        return false;
-    };
-    let Some(above) = spare(alloc, spares, prefix) else {
-        return false;
-    };
-    let beside = forked(place, prefix, slot.take(), Tree::Leaf, Tree::Leaf);
-    let below = mem::replace(tree, Tree::Leaf);
-    if prefix.address() < at.address() {
-        let fork = fork_of(prefix.address(), at.address());
-        *tree = forked(above, fork, None, beside, below);
-        return true;
-    }
-    let fork = fork_of(at.address(), prefix.address());
-    *tree = forked(above, fork, None, below, beside);
-    true
-}
-
-/// A node over two branches, in the place of another.
-fn forked<V: Drop>(
-    place: Box<Node<V>>,
-    prefix: Prefix,
-    value: Option<V>,
-    zero: Tree<V>,
-    one: Tree<V>,
-) -> Tree<V>
-    requires node { IsNode prefix (entries zero) (entries one) }
-    requires zero { IsTrie zero }
-    requires one { IsTrie one }
-    ensures trie { IsTrie result }
-    ensures entries { entries result ≡ own prefix value ++ (entries zero ++ entries one) }
-{
-    let node = Node {
+    let leaf = Node {
         prefix,
-        value,
-        zero,
-        one,
+        zero: NOWHERE,
+        one: NOWHERE,
     };
-    Tree::Fork(written(place, node))
+    set_node(nodes, fresh, leaf);
+    let fork = if prefix.address() < at.address() {
+        Node {
+            prefix: fork_of(prefix.address(), at.address()),
+            zero: fresh,
+            one: place,
+        }
+    } else {
+        Node {
+            prefix: fork_of(at.address(), prefix.address()),
+            zero: place,
+            one: fresh,
+        }
+    };
+    set_node(nodes, spare, fork);
+    Rooted {
+        root: spare,
+        forked: true,
+    }
 }
 
-/// Takes a prefix out.
-pub fn take<V: Drop>(tree: &mut Tree<V>, spares: &mut Spares<V>, prefix: Prefix) -> Option<V>
-    requires { IsTrie tree.old }
-    ensures trie { IsTrie tree.new }
-    ensures taken { result ≡ table.find prefix_cmp prefix (entries tree.old) }
-    ensures entries { entries tree.new ≡ where_key prefix_cmp (λ other. not (eq_by_cmp prefix_cmp prefix other)) (entries tree.old) }
-    ensures kept { length spares.old.items ≤ length spares.new.items }
+/// A copy of the node at a place.
+fn copy_at(nodes: &[Node], place: u32) -> Option<Node>
+    ensures { result ≡ slice_get nodes.now place }
 {
-    let mut slot = None;
-    take_out(tree, spares, prefix, &mut slot);
-    slot
+    nodes.get(place as usize).copied()
 }
 
-/// Takes a prefix out, and its value into an empty slot. On the way no value moves.
-fn take_out<V: Drop>(
-    tree: &mut Tree<V>,
-    spares: &mut Spares<V>,
+/// Gives a prefix a node at a place where one belongs: nothing stands there, or a node whose prefix isn't one that it is below.
+fn add_at<V>(
+    nodes: &mut [Node],
+    values: &[Option<V>],
+    fresh: u32,
+    spare: u32,
+    levels: u32,
+    place: u32,
     prefix: Prefix,
-    slot: &mut Option<V>,
-)
-    requires trie { IsTrie tree.old }
-    requires empty { slot.old ≡ None }
-    ensures trie { IsTrie tree.new }
-    ensures taken { slot.new ≡ table.find prefix_cmp prefix (entries tree.old) }
-    ensures entries { entries tree.new ≡ where_key prefix_cmp (λ other. not (eq_by_cmp prefix_cmp prefix other)) (entries tree.old) }
-    ensures kept { length spares.old.items ≤ length spares.new.items }
+) -> Rooted
+    requires can { CanAdd nodes.old values.now prefix fresh spare levels place }
+    requires stop { IfSome (slice_get nodes.old place) (λ n. IsUnder n.prefix prefix → ⊥) }
+    ensures { IsAdded nodes.old nodes.new values.now prefix fresh spare levels place result.root result.forked }
 {
-    let Tree::Fork(node) = tree else {
-        return;
+    let Some(node) = copy_at(nodes, place) else {
+        return add_leaf(nodes, values, fresh, spare, levels, place, prefix);
     };
-    let node: &mut Node<V> = node;
-    if node.prefix.len() >= prefix.len() {
-        if node.prefix == prefix {
-            mem::swap(&mut node.value, slot);
-            tidy(tree, spares);
-        }
-        return;
+    let at = node.prefix;
+    if prefix.covers(&at) {
+        return add_above(nodes, values, fresh, spare, levels, place, at, prefix);
     }
+    add_beside(nodes, values, fresh, spare, levels, place, at, prefix)
+}
+
+/// Where the node of a prefix belongs: at a place, on a level, below the node at another place, which is below one at a third.
+#[derive(Clone, Copy)]
+pub struct Spot {
+    pub grand: u32,
+    pub above: u32,
+    pub at: u32,
+    pub levels: u32,
+}
+
+/// Where the node of a prefix belongs.
+pub fn seek(nodes: &[Node], root: u32, prefix: Prefix) -> Spot
+    requires { IsTrieAt nodes.now 34 root }
+    ensures spot { IsSpot nodes.now root prefix result.above result.at result.levels }
+    ensures upper { IsUpper nodes.now root prefix result.grand result.above result.levels }
+{
+    let mut grand = NOWHERE;
+    let mut above = NOWHERE;
+    let mut at = root;
+    let mut levels = LEVELS;
+    while let Some(node) = node_at(nodes, at) {
+        if !is_below(prefix, node.prefix) {
+            return Spot {
+                grand,
+                above,
+                at,
+                levels,
+            };
+        }
+        grand = above;
+        above = at;
+        at = if is_first_half(prefix.address(), node.prefix) {
+            node.zero
+        } else {
+            node.one
+        };
+        levels -= 1;
+    }
+    Spot {
+        grand,
+        above,
+        at,
+        levels,
+    }
+}
+
+/// Whether the node at a place is that of a prefix.
+pub fn is_at(nodes: &[Node], place: u32, prefix: Prefix) -> bool
+    ensures { IsTrue result ↔ (option_map (λ n. n.prefix) (slice_get nodes.now place) ≡ Some prefix) }
+{
+    match node_at(nodes, place) {
+        Some(node) => node.prefix == prefix,
+        None => false,
+    }
+}
+
+/// A node that names another place for the half in which a prefix lies.
+fn linked(node: Node, prefix: Prefix, to: u32) -> Node
+    ensures { IsLinked node prefix to result }
+{
     if is_early(prefix.address(), node.prefix) {
-        take_out(&mut node.zero, spares, prefix, slot);
-        tidy(tree, spares);
-        return;
+        return Node { zero: to, ..node };
     }
-    take_out(&mut node.one, spares, prefix, slot);
-    tidy(tree, spares);
+    Node { one: to, ..node }
 }
 
-/// Takes a node out that has neither a value nor two branches.
-#[inline]
-fn tidy<V: Drop>(tree: &mut Tree<V>, spares: &mut Spares<V>)
-    requires { IsTrie tree.old }
-    ensures trie { IsTrie tree.new }
-    ensures entries { entries tree.new ≡ entries tree.old }
-    ensures kept { length spares.old.items ≤ length spares.new.items }
+/// Gives a prefix that has no node one without a value, at a fresh place, where it belongs. Where it needs a fork above it, that stands
+/// at the spare place.
+pub fn add_node<V>(
+    nodes: &mut [Node],
+    values: &[Option<V>],
+    fresh: u32,
+    spare: u32,
+    root: u32,
+    prefix: Prefix,
+    spot: Spot,
+) -> Rooted
+    requires can { CanAdd nodes.old values.now prefix fresh spare 34 root }
+    requires spot { IsSpot nodes.old root prefix spot.above spot.at spot.levels }
+    ensures { IsAdded nodes.old nodes.new values.now prefix fresh spare 34 root result.root result.forked }
 {
-    let Tree::Fork(node) = tree else {
-        return;
+    let added = add_at(nodes, values, fresh, spare, spot.levels, spot.at, prefix);
+    let Some(node) = copy_at(nodes, spot.above) else {
+        return added;
     };
-    let node: &mut Node<V> = node;
-    if matches!(node.zero, Tree::Leaf) || matches!(node.one, Tree::Leaf) {
-        lift(tree, spares);
+    set_node(nodes, spot.above, linked(node, prefix, added.root));
+    Rooted {
+        root,
+        forked: added.forked,
     }
 }
 
-/// Puts the one branch of a node without a value in its place.
-#[inline(never)]
-fn lift<V: Drop>(tree: &mut Tree<V>, spares: &mut Spares<V>)
-    requires { IsTrie tree.old }
-    ensures trie { IsTrie tree.new }
-    ensures entries { entries tree.new ≡ entries tree.old }
-    ensures kept { length spares.old.items ≤ length spares.new.items }
+/// Takes the node at a place out if it has neither a value nor two branches, and answers what stands in its stead. Its place is kept
+/// for later, where the list of such places has room.
+fn tidy<V>(
+    nodes: &[Node],
+    values: &[Option<V>],
+    free: &mut Vec<u32>,
+    levels: u32,
+    place: u32,
+) -> u32
+    requires { CanTrim nodes.now free.old.items levels place }
+    ensures { IsTrimmed nodes.now nodes.now values.now free.old.items free.new.items levels place result }
 {
-    let Tree::Fork(node) = tree else {
-        return;
+    let Some(node) = copy_at(nodes, place) else {
+        return place;
     };
-    if node.value.is_some() {
-        return;
+    if has_value(values, place) {
+        return place;
     }
-    if matches!(node.zero, Tree::Leaf) {
-        let branch = mem::replace(&mut node.one, Tree::Leaf);
-        keep(mem::replace(tree, branch), spares);
-        return;
-    }
-    if matches!(node.one, Tree::Leaf) {
-        let branch = mem::replace(&mut node.zero, Tree::Leaf);
-        keep(mem::replace(tree, branch), spares);
-    }
-}
-
-/// Takes all prefixes out, and keeps their nodes for later.
-pub fn clear<V: Drop>(tree: &mut Tree<V>, spares: &mut Spares<V>)
-    ensures none { tree.new ≡ Leaf }
-    ensures kept { length spares.old.items ≤ length spares.new.items }
-{
-    if let Tree::Fork(node) = tree {
-        let node: &mut Node<V> = node;
-        clear(&mut node.zero, spares);
-        clear(&mut node.one, spares);
-        node.value = None;
-        keep(mem::replace(tree, Tree::Leaf), spares);
-    }
-}
-
-/// Makes places in the list for the nodes of so many prefixes, two for each, unless nodes were there already: a set that finds
-/// its memory taken ahead takes none here either. Where no memory is found the list stays as it is.
-pub fn make_places<V: Drop>(spares: &mut Spares<V>, prefixes: usize, taken_ahead: bool)
-    ensures { spares.new.items ≡ spares.old.items }
-{
-    let nodes = prefixes.saturating_mul(2);
-    if !taken_ahead && spares.capacity() < nodes {
-        let _ = spares.reserve(nodes.saturating_sub(spares.len()));
-    }
-}
-
-/// Keeps a node for later, where the list has a place for it. It asks for no memory.
-fn keep<V: Drop>(tree: Tree<V>, spares: &mut Spares<V>)
-    ensures { length spares.old.items ≤ length spares.new.items }
-{
-    if let Tree::Fork(node) = tree
-        && spares.len() < spares.capacity()
-    {
-        let _ = spares.push(node);
-    }
-}
-
-/// How many prefixes there are: of each length from 0 to 32, one for each value of so many bits.
-const ALL_PREFIXES: usize = (1 << 33) - 1;
-
-/// Takes memory for nodes, two for each of so many prefixes. If memory runs out, the spare nodes stay as they are; more
-/// prefixes than there are at all are refused at once.
-pub fn reserve<V: Drop>(alloc: Global, spares: &mut Spares<V>, more: usize) -> Result<(), NoMemory>
-    ensures ok { OnOk result (more ≤ length spares.new.items / 2) }
-    ensures kept { OnOk result (length spares.old.items ≤ length spares.new.items) }
-    ensures err { OnErr result (length spares.new.items ≡ length spares.old.items) }
-    ensures spared { more ≤ length spares.old.items / 2 → IsOk result }
-{
-    let before = spares.as_slice().len();
-    if more <= before / 2 {
-        return Ok(());
-    }
-    if more > ALL_PREFIXES {
-        return Err(NoMemory);
-    }
-    match fill(alloc, spares, more * 2) {
-        Ok(()) => Ok(()),
-        Err(none) => {
-            spares.truncate(before);
-            Err(none)
-        }
-    }
-}
-
-/// Makes spare nodes until there are so many.
-fn fill<V: Drop>(alloc: Global, spares: &mut Spares<V>, count: usize) -> Result<(), NoMemory>
-    ensures ok { OnOk result (count ≤ length spares.new.items) }
-    ensures more { length spares.old.items ≤ length spares.new.items }
-{
-    let Some(nowhere) = Prefix::new(0, 0) else {
-        unreachable!()
+    let branch = if node.zero == NOWHERE {
+        node.one
+    } else if node.one == NOWHERE {
+        node.zero
+    } else {
+        return place;
     };
-    while spares.as_slice().len() < count {
-        spares.push(Box::new(
-            alloc,
-            Node {
-                prefix: nowhere,
-                value: None,
-                zero: Tree::Leaf,
-                one: Tree::Leaf,
-            },
-        )?)?;
+    let _ = free.push(place);
+    branch
+}
+
+/// The same of the node that stands on the way to where a prefix belongs. Answers where the trie begins.
+fn trim_at<V>(
+    nodes: &mut [Node],
+    values: &[Option<V>],
+    free: &mut Vec<u32>,
+    root: u32,
+    prefix: Prefix,
+    above: u32,
+    at: u32,
+    levels: u32,
+) -> u32
+    requires can { CanTrim nodes.old free.old.items 34 root }
+    requires way { IsWay nodes.old root prefix above at levels }
+    ensures trimmed { IsTrimmed nodes.old nodes.new values.now free.old.items free.new.items 34 root result }
+    ensures others { (r : ℕ) → r ≢ above → slice_get nodes.new r ≡ slice_get nodes.old r }
+    ensures root { slice_get nodes.new above ≡ None ⊎ result ≡ root }
+{
+    let to = tidy(nodes, values, free, levels, at);
+    let Some(node) = copy_at(nodes, above) else {
+        return to;
+    };
+    set_node(nodes, above, linked(node, prefix, to));
+    root
+}
+
+/// The same of the node where a prefix belongs, and of the one above it, which may have lost a branch.
+pub fn trim<V>(
+    nodes: &mut [Node],
+    values: &[Option<V>],
+    free: &mut Vec<u32>,
+    root: u32,
+    prefix: Prefix,
+    spot: Spot,
+) -> u32
+    requires can { CanTrim nodes.old free.old.items 34 root }
+    requires spot { IsSpot nodes.old root prefix spot.above spot.at spot.levels }
+    requires upper { IsUpper nodes.old root prefix spot.grand spot.above spot.levels }
+    ensures { IsTrimmed nodes.old nodes.new values.now free.old.items free.new.items 34 root result }
+{
+    let begin = trim_at(
+        nodes,
+        values,
+        free,
+        root,
+        prefix,
+        spot.above,
+        spot.at,
+        spot.levels,
+    );
+    let Some(node) = node_at(nodes, spot.above) else {
+        return begin;
+    };
+    if node.zero != NOWHERE && node.one != NOWHERE {
+        return root;
     }
-    Ok(())
+    trim_at(
+        nodes,
+        values,
+        free,
+        root,
+        prefix,
+        spot.grand,
+        spot.above,
+        spot.levels + 1,
+    )
 }

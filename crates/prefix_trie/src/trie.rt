@@ -8,16 +8,14 @@ ghost use Rattle.bgp_types.specs.Prefixes.{prefix_of};
 ghost use Rattle.bgp_types.specs.Tables.{prefix_cmp, first_above};
 ghost use Rattle.prefix_trie.specs.Longest.{LongestOf};
 
-use crate::node::{
-    Node, Spares, Tree, change, clear, find, first, list, longest, make_places, next, put, reserve,
-    take,
-};
+use crate::node::{LEVELS, NOWHERE, first, list, longest, next};
+use crate::tree::{Tree, change, clear, get, put, reserve, take};
 use bgp_types::{Items, NoMemory, Prefix, PrefixList, SpareTable, Table};
 use std::alloc::Global;
 use std::marker::Model;
 
-/// The prefixes with their values. A removal keeps the nodes that it frees for prefixes that come later, in a list whose
-/// places are made when prefixes are set: it asks for no memory.
+/// The prefixes with their values. The nodes stand in one list and name each other by their places in it. A removal keeps the places
+/// that it frees for prefixes that come later: it asks for no memory.
 ///
 /// On a way down from the root each prefix is longer than the one above it. So a way has at most 33
 /// nodes, however many prefixes there are. `get`, `set`, `change`, `remove` and `longest_match` go one way, and
@@ -26,8 +24,7 @@ use std::marker::Model;
 #[derive(Drop)]
 pub struct TrieTable<V> {
     alloc: Global,
-    root: Tree<V>,
-    spares: Spares<V>,
+    tree: Tree<V>,
     len: usize,
 }
 
@@ -41,11 +38,11 @@ impl<V> Model for TrieTable<V> {
 
     ghost coded = { coded_table V.code };
 
-    ghost use Rattle.prefix_trie.specs.Nodes.{entries, IsTrie};
+    ghost use Rattle.prefix_trie.specs.Trees.{entries, IsTrie};
 
-    ghost view = { λ t. record { contents = map.from_sorted {R = prefix_cmp} (entries t.root); room = length t.spares.items / 2 } };
+    ghost view = { λ t. record { contents = map.from_sorted {R = prefix_cmp} (entries t.tree); room = length t.tree.free.items / 2 } };
 
-    ghost invariant = { λ t. record { trie : IsTrie t.root; len : t.len ≡ length (entries t.root) } };
+    ghost invariant = { λ t. record { trie : IsTrie t.tree; len : t.len ≡ length (entries t.tree) } };
 }
 
 impl<V: Drop> TrieTable<V> {
@@ -56,8 +53,12 @@ impl<V: Drop> TrieTable<V> {
     {
         TrieTable {
             alloc,
-            root: Tree::Leaf,
-            spares: Vec::new(alloc),
+            tree: Tree {
+                nodes: Vec::new(alloc),
+                values: Vec::new(alloc),
+                free: Vec::new(alloc),
+                root: NOWHERE,
+            },
             len: 0,
         }
     }
@@ -68,7 +69,7 @@ impl<V: Drop> TrieTable<V> {
         ensures { LongestOf (λ p. IsSome (map.get self.now.contents p)) (prefix_of 32 address) result }
     {
         match Prefix::new(address, 32) {
-            Some(host) => longest(&self.root, host),
+            Some(host) => longest(&self.tree.nodes, &self.tree.values, self.tree.root, host),
             None => unreachable!(),
         }
     }
@@ -78,7 +79,13 @@ impl<V: Drop> TrieTable<V> {
         ensures { IfOk result (λ prefixes. prefixes ≡ map.keys self.now.contents) }
     {
         let mut prefixes = Items::from_vec(Vec::with_capacity(self.alloc, self.len)?);
-        list(&self.root, &mut prefixes)?;
+        list(
+            &self.tree.nodes,
+            &self.tree.values,
+            LEVELS,
+            self.tree.root,
+            &mut prefixes,
+        )?;
         Ok(prefixes)
     }
 
@@ -91,7 +98,7 @@ impl<V: Drop> TrieTable<V> {
         ensures same { IfNone result (self.new.contents ≡ self.old.contents) }
         ensures room { self.new.room ≡ self.old.room }
     {
-        change(&mut self.root, prefix, edit)
+        change(&mut self.tree, prefix, edit)
     }
 
     /// Takes all prefixes out, and keeps their nodes as `remove` does. It asks for no memory.
@@ -99,7 +106,7 @@ impl<V: Drop> TrieTable<V> {
         ensures contents { self.new.contents ≡ map.empty }
         ensures room { self.old.room ≤ self.new.room }
     {
-        clear(&mut self.root, &mut self.spares);
+        clear(&mut self.tree);
         self.len = 0;
     }
 }
@@ -110,32 +117,36 @@ impl<V: Drop> Table<V> for TrieTable<V> {
     ghost room = { λ t. t.room };
 
     fn get(&self, prefix: Prefix) -> Option<&V> {
-        find(&self.root, prefix)
+        get(&self.tree, prefix)
     }
 
     fn set(&mut self, prefix: Prefix, value: V) -> Result<Option<V>, V> {
         prove!(prefix.len() <= 32);
-        let taken_ahead = !self.spares.is_empty();
-        let before = put(self.alloc, &mut self.root, &mut self.spares, prefix, value)?;
+        let before = put(&mut self.tree, prefix, value)?;
         if before.is_none() {
             self.len += 1;
-            make_places(&mut self.spares, self.len, taken_ahead);
         }
         Ok(before)
     }
 
-    /// A node that this frees is kept where the list of such nodes has a place, and given back where it has none. It asks for no
-    /// memory.
+    /// It asks for no memory.
     fn remove(&mut self, prefix: Prefix) -> Option<V> {
-        let taken = take(&mut self.root, &mut self.spares, prefix)?;
+        prove!(prefix.len() <= 32);
+        let taken = take(&mut self.tree, prefix)?;
         self.len -= 1;
         Some(taken)
     }
 
     fn next_after(&self, prefix: Option<Prefix>) -> Option<Prefix> {
         match prefix {
-            None => first(&self.root),
-            Some(prefix) => next(&self.root, prefix),
+            None => first(&self.tree.nodes, &self.tree.values, LEVELS, self.tree.root),
+            Some(prefix) => next(
+                &self.tree.nodes,
+                &self.tree.values,
+                LEVELS,
+                self.tree.root,
+                prefix,
+            ),
         }
     }
 
@@ -146,11 +157,11 @@ impl<V: Drop> Table<V> for TrieTable<V> {
 
 impl<V: Drop> SpareTable<V> for TrieTable<V> {
     fn reserve(&mut self, more: usize) -> Result<(), NoMemory> {
-        reserve(self.alloc, &mut self.spares, more)
+        reserve(&mut self.tree, more)
     }
 
     fn spare(&self) -> usize {
-        self.spares.as_slice().len() / 2
+        self.tree.free.len() / 2
     }
 
     fn set_reserved(&mut self, prefix: Prefix, value: V) -> Option<V> {

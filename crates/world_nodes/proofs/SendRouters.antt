@@ -43,8 +43,11 @@ entry = let r = route in search (sendable, crosses) depth 40
 policy : IsSend Policy.the_row
 policy = search (sendable, crosses, items) depth 40
 
+due_set : IsSend DueSet.the_row
+due_set = search (sendable, crosses, table) depth 40
+
 loc_rib : IsSend LocRib.the_row
-loc_rib = let b = best in search (sendable, crosses, table) depth 40
+loc_rib = let b = best in let d = due_set in search (sendable, crosses, table) depth 40
 
 sources : (V : RattleType) → IsSend V → IsSend (Sources.the_row V)
 sources V s = search (sendable, crosses, table) depth 40
@@ -60,9 +63,6 @@ policy_by_name = let n = name in let p = policy in search (sendable, crosses) de
 
 place : IsSend (Place.the_field).row
 place = let s = session in search (sendable, crosses) depth 40
-
-due_set : IsSend DueSet.the_row
-due_set = search (sendable, crosses, table) depth 40
 
 due : IsSend DueSets.the_row
 due = let d = due_set in search (sendable, crosses) depth 40

@@ -3,7 +3,6 @@ use denote.RattleType.{RattleType}
 use denote.Param.Send.{IsSend, IsSync, owning_send, sendable}
 use Rattle.std.proofs.Crossing.{crosses}
 use Rattle.std.proofs.MapsCrossing as maps
-use Rattle.prefix_trie.proofs.node.Tree.TheLaws.TheKnot as trie
 use Rattle.graft_edge.specs.contracts.items.Items as Items
 use Rattle.graft_edge.specs.contracts.name.Name as Name
 use Rattle.graft_edge.specs.contracts.byte_queue.ByteQueue as ByteQueue
@@ -28,7 +27,7 @@ pub queue : IsSend ByteQueue.the_row
 queue = search (sendable, crosses) depth 40
 
 pub table : (V : RattleType) → IsSend V → IsSend (TrieTable.the_row V)
-table V s = search (sendable, crosses, trie.crosses) depth 40
+table V s = search (sendable, crosses) depth 40
 
 pub attrs : IsSend (Attrs.the_field).row
 attrs = search (sendable, crosses, items) depth 40

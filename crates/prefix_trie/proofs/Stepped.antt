@@ -1,0 +1,24 @@
+-- A prefix that covers another, and one that has no node.
+use Rattle.std.proofs.Common.{◌≡◌, ◌≢◌, ℕ, List, ◌<◌, Option, Some, inl, inr, ◌∙◌, ap, sym, subst, arith, slice_get}
+use Rattle.std.proofs.lemmas.Bool.{cases_lt}
+use Rattle.std.specs.Prelude.{IfSome}
+use Rattle.bgp_types.specs.Prefixes.{PrefixValue, IsPrefix, Covers, cleared}
+use Rattle.prefix_trie.proofs.Places.{among_places}
+use Rattle.prefix_trie.specs.declared.node.Node.{Node}
+use Rattle.prefix_trie.specs.Adding.{CanAdd}
+
+same_parts : (p q : PrefixValue) → p.address ≡ q.address → p.len ≡ q.len → p ≡ q
+same_parts p q e k = ap (λ (n : ℕ). record { address = n; len = p.len }) e ∙ ap (λ (n : ℕ). record { address = q.address; len = n }) k
+
+-- a prefix that covers another is shorter
+pub covers_shorter : (p at : PrefixValue) → IsPrefix at → Covers p at → at ≢ p → p.len < at.len
+covers_shorter p at is covers differ = elim (cases_lt p.len at.len) [
+  | inl less ↦ less
+  | inr ge ↦
+      let le = covers.shorter in
+      let same : p.len ≡ at.len = omega arith in
+      absurd (differ (same_parts at p (sym is.clear ∙ (ap (λ (n : ℕ). cleared n at.address) (sym same) ∙ covers.front)) (sym same)))
+]
+
+pub differs_there : {V : Type 0} (nodes : List Node) (values : List (Option V)) (p : PrefixValue) (fresh spare levels place : ℕ) (n : Node) → CanAdd nodes values p fresh spare levels place → slice_get nodes place ≡ Some n → n.prefix ≢ p
+differs_there nodes values p fresh spare levels place n can there = subst (λ (o : Option Node). IfSome o (λ m. m.prefix ≢ p)) there (can.absent place (among_places nodes levels place n can.room there).here)

@@ -1,0 +1,4 @@
+use Rattle.prefix_trie.proofs.node.+list.Given as goal
+
+abbrev pub decreases-list : goal.decreases-list
+decreases-list g l = l.levels

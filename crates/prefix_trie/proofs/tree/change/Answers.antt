@@ -1,0 +1,41 @@
+use Rattle.std.proofs.Common.{Some, set, refl, ap, ◌∙◌}
+use Rattle.std.specs.Vec.{with_item}
+use Rattle.std.proofs.lemmas.List.{set-get_or}
+use Rattle.prefix_trie.specs.Arena.{entries_at}
+use Rattle.prefix_trie.proofs.Settled.{exchanged}
+use Rattle.prefix_trie.proofs.tree.change.Goals as goal
+
+pub returns-in-Some-clause-trie : goal.returns-in-Some-clause-trie
+returns-in-Some-clause-trie g c =
+    let t = c.args.tree.now in
+    let q = c.in_ok-place.place in
+    (exchanged t c.args.prefix c.deref.result.now q c.requires.trie c.deref.ensures.value c.in_ok-place.ensures.place c.in_ok-place.ensures.node
+    (record { nodes = t.nodes; values = with_item t.values q (Some c.edit.new.arg2); free = t.free; root = t.root })
+    c.index_mut.result.now (Some c.edit.new.arg2) c.index_mut.ensures.value refl refl refl refl).trie
+
+pub returns-in-Some-clause-changed : goal.returns-in-Some-clause-changed
+returns-in-Some-clause-changed g c =
+    let t = c.args.tree.now in
+    let q = c.in_ok-place.place in
+    let same = exchanged t c.args.prefix c.deref.result.now q c.requires.trie c.deref.ensures.value c.in_ok-place.ensures.place c.in_ok-place.ensures.node
+    (record { nodes = t.nodes; values = with_item t.values q (Some c.edit.new.arg2); free = t.free; root = t.root })
+    c.index_mut.result.now (Some c.edit.new.arg2) c.index_mut.ensures.value refl refl refl refl in
+    record {
+      old = c.in-Some.value;
+      new = c.edit.new.arg2;
+      there = same.there ∙ c.in-Some.is;
+      step = record { shown = _; shows = refl; left = _; met = c.edit.ensures; leaves = refl };
+      entries = same.entries;
+    }
+
+pub returns-in-None-clause-changed : goal.returns-in-None-clause-changed
+returns-in-None-clause-changed g c =
+    let t = c.args.tree.now in
+    let q = c.in_ok-place.place in
+    let same = exchanged t c.args.prefix c.deref.result.now q c.requires.trie c.deref.ensures.value c.in_ok-place.ensures.place c.in_ok-place.ensures.node
+    (record { nodes = t.nodes; values = with_item t.values q c.index_mut.result.now; free = t.free; root = t.root })
+    c.index_mut.result.now c.index_mut.result.now c.index_mut.ensures.value refl refl refl refl in
+    record {
+      none = same.there ∙ c.in-None.is;
+      entries = ap (λ (vs : _). entries_at t.nodes.items vs 34 t.root) (ap (λ (o : _). set t.values.items q o) c.index_mut.ensures.value ∙ set-get_or t.values.items q c.index_mut.result.now);
+    }

@@ -1,0 +1,271 @@
+//! A trie with its values, and the places that are kept for nodes to come.
+
+ghost use Rattle.std.specs.Prelude.{◌≡◌, ◌+◌, ◌++◌, ◌≤◌, ◌/◌, ℕ, [], None, length, not, option_copied, IsOk, OnOk, OnErr};
+ghost use Rattle.std.specs.FinMap as table;
+ghost use Rattle.std.specs.FinMap.Entries.{where_key};
+ghost use Rattle.std.specs.Fn.{FnOnceReturnsAtMut};
+ghost use Rattle.std.specs.List.{Contains};
+ghost use Rattle.std.specs.Ordering.{eq_by_cmp};
+ghost use Rattle.bgp_types.specs.Prefixes.{IsPrefix};
+ghost use Rattle.bgp_types.specs.Tables.{prefix_cmp};
+ghost use Rattle.prefix_trie.specs.Arena.{places_at, value_at, AreApart, HasNone, IsTrieAt};
+ghost use Rattle.prefix_trie.specs.Adding.{IsSpot};
+ghost use Rattle.prefix_trie.specs.Changes.{ChangeResult};
+ghost use Rattle.prefix_trie.specs.Nodes.{PutResult};
+ghost use Rattle.prefix_trie.specs.Trees.{entries, IsGrown, IsTrie};
+
+use crate::node::{LEVELS, NOWHERE, Node, Spot, add_node, find, is_at, node_at, seek, trim};
+use bgp_types::{NoMemory, Prefix};
+use std::mem;
+
+/// The nodes of a trie, the value of each at its place in another list, the place of the first node, and the places that no node
+/// uses. The nodes stand apart from the values: so a way down reads little memory, however large the values are.
+#[derive(Drop)]
+pub struct Tree<V> {
+    pub nodes: Vec<Node>,
+    pub values: Vec<Option<V>>,
+    pub free: Vec<u32>,
+    pub root: u32,
+}
+
+/// The value of a prefix.
+pub fn get<V>(tree: &Tree<V>, prefix: Prefix) -> Option<&V>
+    requires { IsTrie tree.now }
+    ensures { option_copied result ≡ table.find prefix_cmp prefix (entries tree.now) }
+{
+    let place = find(&tree.nodes, &tree.values, tree.root, prefix)?;
+    tree.values.get(place as usize)?.as_ref()
+}
+
+/// Changes the value of a prefix in place, and answers what the change answers. Where the prefix has no value, nothing changes, and
+/// the answer is None.
+pub fn change<V, R, F: FnOnce(&mut V) -> R>(
+    tree: &mut Tree<V>,
+    prefix: Prefix,
+    edit: F,
+) -> Option<R>
+    requires trie { IsTrie tree.old }
+    requires callable { F.IsAlwaysCallable edit }
+    ensures trie { IsTrie tree.new }
+    ensures changed { ChangeResult (FnOnceReturnsAtMut F.FnOnce edit) prefix result (entries tree.old) (entries tree.new) }
+    ensures free { tree.new.free ≡ tree.old.free }
+{
+    let place = find(&tree.nodes, &tree.values, tree.root, prefix)?;
+    match &mut tree.values[place as usize] {
+        Some(value) => Some(edit(value)),
+        None => None,
+    }
+}
+
+/// Gives a prefix a value, and answers the value that it had. If there is no memory, the value is
+/// given back, and nothing has changed.
+pub fn put<V: Drop>(tree: &mut Tree<V>, prefix: Prefix, value: V) -> Result<Option<V>, V>
+    requires trie { IsTrie tree.old }
+    requires sound { IsPrefix prefix }
+    ensures trie { IsTrie tree.new }
+    ensures put { PutResult result prefix value (entries tree.old) (entries tree.new) (length tree.old.free.items) (length tree.new.free.items) }
+{
+    let spot = seek(&tree.nodes, tree.root, prefix);
+    if is_at(&tree.nodes, spot.at, prefix) {
+        return Ok(mem::replace(&mut tree.values[spot.at as usize], Some(value)));
+    }
+    put_new(tree, spot, prefix, value)
+}
+
+/// The same where the prefix has no node.
+fn put_new<V: Drop>(
+    tree: &mut Tree<V>,
+    spot: Spot,
+    prefix: Prefix,
+    value: V,
+) -> Result<Option<V>, V>
+    requires trie { IsTrie tree.old }
+    requires sound { IsPrefix prefix }
+    requires spot { IsSpot tree.old.nodes.items tree.old.root prefix spot.above spot.at spot.levels }
+    requires absent { HasNone tree.old.nodes.items 34 tree.old.root prefix }
+    ensures trie { IsTrie tree.new }
+    ensures put { PutResult result prefix value (entries tree.old) (entries tree.new) (length tree.old.free.items) (length tree.new.free.items) }
+{
+    if reserve(tree, 1).is_err() {
+        return Err(value);
+    }
+    put_free(tree, spot, prefix, value);
+    Ok(None)
+}
+
+/// The same where two places are free.
+fn put_free<V: Drop>(tree: &mut Tree<V>, spot: Spot, prefix: Prefix, value: V)
+    requires trie { IsTrie tree.old }
+    requires sound { IsPrefix prefix }
+    requires spot { IsSpot tree.old.nodes.items tree.old.root prefix spot.above spot.at spot.levels }
+    requires absent { HasNone tree.old.nodes.items 34 tree.old.root prefix }
+    requires two { 2 ≤ length tree.old.free.items }
+    ensures trie { IsTrie tree.new }
+    ensures put { entries tree.new ≡ table.put prefix_cmp prefix value (entries tree.old) }
+    ensures used { length tree.old.free.items ≤ length tree.new.free.items + 2 }
+{
+    let (Some(fresh), Some(spare)) = (tree.free.pop(), tree.free.pop()) else {
+        unreachable!()
+    };
+    let added = add_node(
+        &mut tree.nodes,
+        &tree.values,
+        fresh,
+        spare,
+        tree.root,
+        prefix,
+        spot,
+    );
+    tree.values[fresh as usize] = Some(value);
+    tree.root = added.root;
+    if !added.forked {
+        let _ = tree.free.push(spare);
+    }
+}
+
+/// Takes a prefix out.
+pub fn take<V: Drop>(tree: &mut Tree<V>, prefix: Prefix) -> Option<V>
+    requires trie { IsTrie tree.old }
+    requires sound { IsPrefix prefix }
+    ensures trie { IsTrie tree.new }
+    ensures taken { result ≡ table.find prefix_cmp prefix (entries tree.old) }
+    ensures entries { entries tree.new ≡ where_key prefix_cmp (λ other. not (eq_by_cmp prefix_cmp prefix other)) (entries tree.old) }
+    ensures kept { length tree.old.free.items ≤ length tree.new.free.items }
+{
+    let spot = seek(&tree.nodes, tree.root, prefix);
+    if !is_at(&tree.nodes, spot.at, prefix) {
+        return None;
+    }
+    let value = tree.values[spot.at as usize].take();
+    tree.root = trim(
+        &mut tree.nodes,
+        &tree.values,
+        &mut tree.free,
+        tree.root,
+        prefix,
+        spot,
+    );
+    value
+}
+
+/// Takes all prefixes out, and keeps the places of their nodes for later.
+pub fn clear<V: Drop>(tree: &mut Tree<V>)
+    requires { IsTrie tree.old }
+    ensures trie { IsTrie tree.new }
+    ensures none { entries tree.new ≡ [] }
+    ensures kept { length tree.old.free.items ≤ length tree.new.free.items }
+{
+    empty(
+        &tree.nodes,
+        &mut tree.values,
+        &mut tree.free,
+        LEVELS,
+        tree.root,
+    );
+    tree.root = NOWHERE;
+}
+
+/// Takes the values from a place down out, and keeps the places for later, where the list of such places has room.
+fn empty<V: Drop>(
+    nodes: &[Node],
+    values: &mut [Option<V>],
+    free: &mut Vec<u32>,
+    levels: u32,
+    place: u32,
+)
+    requires trie { IsTrieAt nodes.now levels place }
+    requires apart { AreApart (places_at nodes.now levels place ++ free.old.items) }
+    requires bare { (q : ℕ) → Contains free.old.items q → value_at values.old q ≡ None }
+    requires valued { length values.old ≡ length nodes.now }
+    ensures apart { AreApart free.new.items }
+    ensures among { (q : ℕ) → Contains free.new.items q → Contains (places_at nodes.now levels place ++ free.old.items) q }
+    ensures bare { (q : ℕ) → Contains free.new.items q → value_at values.new q ≡ None }
+    ensures valued { length values.new ≡ length nodes.now }
+    ensures kept { length free.old.items ≤ length free.new.items }
+{
+    let Some(node) = node_at(nodes, place) else {
+        return;
+    };
+    values[place as usize] = None;
+    let _ = free.push(place);
+    empty(nodes, values, free, levels - 1, node.zero);
+    empty(nodes, values, free, levels - 1, node.one);
+}
+
+/// How many prefixes there are: of each length from 0 to 32, one for each value of so many bits.
+const ALL_PREFIXES: usize = (1 << 33) - 1;
+
+/// Takes memory for nodes, two for each of so many prefixes. If memory runs out, as many places are free as before; more
+/// prefixes than there are at all are refused at once.
+pub fn reserve<V: Drop>(tree: &mut Tree<V>, more: usize) -> Result<(), NoMemory>
+    requires { IsTrie tree.old }
+    ensures trie { IsTrie tree.new }
+    ensures grown { IsGrown tree.old tree.new }
+    ensures ok { OnOk result (more ≤ length tree.new.free.items / 2) }
+    ensures kept { OnOk result (length tree.old.free.items ≤ length tree.new.free.items) }
+    ensures err { OnErr result (length tree.new.free.items ≡ length tree.old.free.items) }
+    ensures spared { more ≤ length tree.old.free.items / 2 → IsOk result }
+{
+    let before = tree.free.len();
+    if more <= before / 2 {
+        return Ok(());
+    }
+    if more > ALL_PREFIXES {
+        return Err(NoMemory);
+    }
+    let fresh = more * 2 - before;
+    tree.nodes.reserve(fresh)?;
+    tree.values.reserve(fresh)?;
+    // There is room for all places, so that none is lost when its node goes.
+    tree.free.reserve(tree.nodes.len().saturating_add(fresh))?;
+    match fill(tree, more * 2) {
+        Ok(()) => Ok(()),
+        Err(none) => {
+            tree.free.truncate(before);
+            Err(none)
+        }
+    }
+}
+
+/// Makes free places until there are so many.
+fn fill<V: Drop>(tree: &mut Tree<V>, count: usize) -> Result<(), NoMemory>
+    requires { IsTrie tree.old }
+    ensures trie { IsTrie tree.new }
+    ensures grown { IsGrown tree.old tree.new }
+    ensures ok { OnOk result (count ≤ length tree.new.free.items) }
+    ensures more { length tree.old.free.items ≤ length tree.new.free.items }
+{
+    while tree.free.len() < count {
+        add_place(tree)?;
+    }
+    Ok(())
+}
+
+/// Makes a free place.
+fn add_place<V: Drop>(tree: &mut Tree<V>) -> Result<(), NoMemory>
+    requires { IsTrie tree.old }
+    ensures trie { IsTrie tree.new }
+    ensures grown { IsGrown tree.old tree.new }
+    ensures ok { OnOk result (length tree.new.free.items ≡ length tree.old.free.items + 1) }
+    ensures err { OnErr result (tree.new.free.items ≡ tree.old.free.items) }
+{
+    let place = tree.nodes.len();
+    if place >= NOWHERE as usize {
+        return Err(NoMemory);
+    }
+    let Some(prefix) = Prefix::new(0, 0) else {
+        unreachable!()
+    };
+    tree.nodes.reserve(1)?;
+    tree.values.reserve(1)?;
+    tree.free.push(place as u32)?;
+    let blank = Node {
+        prefix,
+        zero: NOWHERE,
+        one: NOWHERE,
+    };
+    if tree.nodes.push(blank).is_err() || tree.values.push(None).is_err() {
+        unreachable!();
+    }
+    Ok(())
+}
