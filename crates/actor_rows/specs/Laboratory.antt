@@ -15,6 +15,7 @@ peering p opening = record {
     identifier = 1;
     remote_as = 65001;
     offered = false;
+    unicast = false;
     home_hold = 15;
     remote_address = 2;
     local_address = 3;

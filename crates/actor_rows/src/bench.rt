@@ -6,7 +6,7 @@ use crate::words::{fault_of, item_of, number, word};
 use anyhow::{Result, bail};
 use far_side::Far;
 use graft_edge::NoMemory;
-use graft_model::kind_of;
+use graft_model::{ActorEvent, Code, event_of};
 use graft_steps::{GraftLog, Item};
 use operator_core::Operator;
 use ring_net::{JournalEntry, Post};
@@ -28,12 +28,30 @@ pub struct Bench {
     seen: usize,
 }
 
-/// An event by its kind and its three arguments.
-fn put_entry(text: &mut String, entry: &JournalEntry) -> Result<()> {
-    match kind_of(entry.kind) {
-        Some(kind) => write!(text, "{kind:?} {} {} {}", entry.a, entry.b, entry.c)?,
-        None => text.push_str("dropped")?,
+/// An event of a far side or the operator as it is written out; nothing for that of a router.
+fn written(alloc: Global, event: ActorEvent) -> Result<String> {
+    match event {
+        ActorEvent::OfRouter(_) => Ok(String::new(alloc)),
+        ActorEvent::OfFar(event) => Ok(format!(in alloc; "{event:?}")?),
+        ActorEvent::OfOperator(event) => Ok(format!(in alloc; "{event:?}")?),
     }
+}
+
+/// An event by its name and its three arguments.
+fn put_entry(alloc: Global, text: &mut String, entry: &JournalEntry) -> Result<()> {
+    let code = Code {
+        kind: entry.kind,
+        a: entry.a,
+        b: entry.b,
+        c: entry.c,
+    };
+    let Some(event) = event_of(code) else {
+        text.push_str("dropped")?;
+        return Ok(());
+    };
+    let written = written(alloc, event)?;
+    let name = written.split(' ').next().unwrap_or("");
+    write!(text, "{name} {} {} {}", code.a, code.b, code.c)?;
     Ok(())
 }
 
@@ -106,7 +124,7 @@ impl Bench {
             if !news.is_empty() {
                 news.push_str(", ")?;
             }
-            put_entry(&mut news, entry)?;
+            put_entry(alloc, &mut news, entry)?;
         }
         if news.is_empty() {
             news.push_str("nothing")?;

@@ -1,9 +1,9 @@
 -- A session that begins.
-use Rattle.std.proofs.Common.{◌≡◌, ℕ, ◌^◌, ◌<◌, ◌≤◌, Bool, true, false, cond, List, [], ◌∷◌, length, None, refl, sym, subst, append-nil, arith}
+use Rattle.std.proofs.Common.{◌≡◌, ℕ, ◌^◌, ◌<◌, ◌≤◌, Bool, true, false, List, [], ◌∷◌, length, None, refl, sym, subst, append-nil, arith}
 use Rattle.std.specs.FinMap as map
 use Rattle.std.specs.List.{flat_map}
 use Rattle.bgp_types.specs.Spelling.{cap_octets, param_octets}
-use Rattle.bgp_story.specs.Opens.{as_cap}
+use Rattle.bgp_story.specs.Opens.{home_caps}
 use Rattle.bgp_story.proofs.Ranges.{field_range}
 use Rattle.bgp_types.specs.declared.message.Message.TheVariants.{OpenMsg}
 use Rattle.bgp_types.specs.Spelling.{spell}
@@ -30,16 +30,22 @@ use Rattle.bgp_story.specs.States.{StoryValue}
 use Rattle.bgp_session.proofs.Ends.{sent_stands, with_sent}
 
 -- the OPEN can be written, in few octets
-pub first_short : (config : SessionConfig) (wide : Bool) → IsPeering (peering_of config) → length (spell (OpenMsg (peering_of config).first) wide) ≤ 37
+pub first_short : (config : SessionConfig) (wide : Bool) → IsPeering (peering_of config) → length (spell (OpenMsg (peering_of config).first) wide) ≤ 45
 first_short config wide valid = open_size (peering_of config).first wide valid.home
 
-params_short : (home_as : ℕ) (offered : Bool) → length (flat_map (λ cap. param_octets (cap_octets cap)) (cond offered (as_cap home_as ∷ []) [])) < 256
-params_short home_as true = let n : length (flat_map (λ cap. param_octets (cap_octets cap)) (as_cap home_as ∷ [])) ≡ 8 = refl in omega arith
-params_short home_as false = omega arith
+-- the octets of the parameters, of which each has one capability
+abbrev params : (home_as : ℕ) → (offered unicast : Bool) → List ℕ
+params home_as offered unicast = flat_map (λ cap. param_octets (cap_octets cap)) (home_caps home_as offered unicast)
+
+params_short : (home_as : ℕ) (offered unicast : Bool) → length (params home_as offered unicast) < 256
+params_short home_as true true = let n : length (params home_as true true) ≡ 16 = refl in omega arith
+params_short home_as true false = let n : length (params home_as true false) ≡ 8 = refl in omega arith
+params_short home_as false true = let n : length (params home_as false true) ≡ 8 = refl in omega arith
+params_short home_as false false = omega arith
 
 pub first_writable : (config : SessionConfig) → IsPeering (peering_of config) → IsWritable (OpenMsg (peering_of config).first) false
 first_writable config valid = record {
-  body = record { as_number = (field_range (peering_of config).first valid.home).1; hold = valid.home.hold_fits; hold_time = valid.home.hold_time; identifier = valid.home.host; params = params_short config.home_as config.offered };
+  body = record { as_number = (field_range (peering_of config).first valid.home).1; hold = valid.home.hold_fits; hold_time = valid.home.hold_time; identifier = valid.home.host; params = params_short config.home_as config.offered config.unicast };
   size = let short = first_short config false valid in omega (arith, short);
 }
 

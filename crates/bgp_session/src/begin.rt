@@ -6,14 +6,14 @@ ghost use Rattle.bgp_types.specs.declared.message.Message.TheVariants as message
 ghost use Rattle.tcp_seq.specs.declared.segment.Way.TheVariants as ways;
 ghost use Rattle.tcp_end.specs.State.{fresh};
 ghost use Rattle.bgp_story.specs.Legal.{IsPeering};
-ghost use Rattle.bgp_story.specs.Opens.{as_cap as as_cap_lem};
+ghost use Rattle.bgp_story.specs.Opens.{as_cap as as_cap_lem, unicast_cap as unicast_cap_lem, home_caps as home_caps_lem};
 ghost use Rattle.session_value.specs.Sessions.{begun, peering_of};
 ghost use Rattle.bgp_session.specs.Inner.{Keeps, value_of};
 
 use crate::parts::{Parts, send};
 use adj_rib::AdjRib;
 use bgp_story::Story;
-use bgp_types::{Cap, Items, Message, NoMemory, Octets, OpenMsg, narrow_as};
+use bgp_types::{Cap, Caps, Items, Message, NoMemory, Octets, OpenMsg, narrow_as};
 use bgp_wire::write_message;
 use session_value::SessionConfig;
 use std::alloc::Global;
@@ -22,6 +22,22 @@ use tcp_seq::Way;
 
 /// The code of the capability of four-octet AS numbers (RFC 6793, section 9).
 const FOUR_OCTET_AS: u8 = 65;
+
+/// The code of the capability of multiprotocol extensions (RFC 4760, section 8).
+const MULTIPROTOCOL: u8 = 1;
+
+/// The value of that capability for IPv4 unicast: AFI 1 in two octets, a reserved octet, and SAFI 1.
+const IPV4_UNICAST: [u8; 4] = [0, 1, 0, 1];
+
+/// The capability of multiprotocol extensions, for IPv4 unicast.
+fn unicast_cap(alloc: Global) -> Result<Cap, NoMemory>
+    ensures { IfOk result (λ cap. cap ≡ unicast_cap_lem) }
+{
+    Ok(Cap {
+        code: MULTIPROTOCOL,
+        bytes: Octets::from_slice(alloc, &IPV4_UNICAST)?,
+    })
+}
 
 /// The capability of four-octet AS numbers, which says the AS.
 fn as_cap(alloc: Global, as_number: u32) -> Result<Cap, NoMemory>
@@ -33,19 +49,29 @@ fn as_cap(alloc: Global, as_number: u32) -> Result<Cap, NoMemory>
     })
 }
 
+/// The capabilities in the OPEN that the session puts: IPv4 unicast where that is asked for, then four-octet AS numbers where it offers them.
+fn home_caps(alloc: Global, config: &SessionConfig) -> Result<Caps, NoMemory>
+    ensures { IfOk result (λ caps. caps ≡ home_caps_lem config.now.home_as config.now.offered config.now.unicast) }
+{
+    let mut caps = Items::new(alloc);
+    if config.unicast {
+        caps.push(unicast_cap(alloc)?)?;
+    }
+    if config.offered {
+        caps.push(as_cap(alloc, config.home_as)?)?;
+    }
+    Ok(caps)
+}
+
 /// The OPEN that the session puts.
 fn first_open(alloc: Global, config: &SessionConfig) -> Result<OpenMsg, NoMemory>
     ensures { IfOk result (λ first. first ≡ (peering_of config.now).first) }
 {
-    let mut caps = Items::new(alloc);
-    if config.offered {
-        caps.push(as_cap(alloc, config.home_as)?)?;
-    }
     Ok(OpenMsg {
         as_number: u32::from(narrow_as(config.home_as)),
         hold: config.home_hold,
         identifier: config.identifier,
-        caps,
+        caps: home_caps(alloc, config)?,
     })
 }
 

@@ -138,6 +138,7 @@ impl Parts {
     }
 
     /// What is expected next.
+    #[tactic(auto, using(bgp_story::proofs::Ranges::offers_home))]
     pub(crate) fn expected(&self) -> Expected
         requires { Keeps self.now }
         ensures { result ≡ expected_next (peering_of self.now.config) self.now.story.lines (state_of self.now.story.lines) }

@@ -69,6 +69,7 @@ impl Parts {
     }
 
     /// What an OPEN settles.
+    #[tactic(auto, using(bgp_story::proofs::Ranges::offers_home))]
     fn opened_with(&self, theirs: &OpenMsg) -> Opened
         requires { Keeps self.now }
         ensures { result ≡ opened_by (peering_of self.now.config).first theirs.now }

@@ -1,5 +1,5 @@
 -- The values of the OPEN with which a legal story begins.
-use Rattle.std.proofs.Common.{◌≡◌, ℕ, zero, suc, ◌*◌, ◌^◌, ◌<◌, ◌≤◌, List, [], ◌∷◌, Bool, true, false, cond, Some, refl, sym, ap, ◌∙◌, ◌⊎◌, inl, inr, subst, arith}
+use Rattle.std.proofs.Common.{◌≡◌, ℕ, zero, suc, ◌*◌, ◌^◌, ◌<◌, ◌≤◌, List, Bool, true, false, Some, refl, sym, ap, ◌∙◌, ◌⊎◌, inl, inr, subst, arith}
 use Rattle.std.specs.Int.{w32, from_be_bytes, to_be_bytes}
 use Rattle.std.proofs.lemmas.Bool.Decides.{nat_tests}
 use Rattle.std.proofs.lemmas.Nat.{from_be_bytes-to_be_bytes_4}
@@ -12,7 +12,7 @@ use Rattle.bgp_types.specs.PathOctets.{narrow_as}
 use Rattle.bgp_types.specs.Values.{is_no_host, is_short_hold}
 use Rattle.bgp_story.specs.declared.line.Line.{Line}
 use Rattle.bgp_story.specs.Legal.{Peering, IsPeering, Allowed, opened, got, updated, passed}
-use Rattle.bgp_story.specs.Opens.{IsHomeOpen, as_cap}
+use Rattle.bgp_story.specs.Opens.{IsHomeOpen, home_caps, home_open, offers}
 
 pub peering_of : (p : Peering) (lines : List Line) (state : SessionState) → Allowed p lines state → IsPeering p
 peering_of p _ _ (opened lines h e) = h
@@ -43,12 +43,21 @@ field_range first is =
     let field : narrow_as is.home_as ≡ first.as_number = sym (ap (λ (o : OpenMsg). o.as_number) is.is) in
     subst (λ (n : ℕ). (0 < n) × (n < 2 ^ 16)) field (narrow_range is.home_as is.as_number.some)
 
-said_home : (home_as as_number : ℕ) (offered : Bool) → home_as < 2 ^ 32 → as_said (cond offered (as_cap home_as ∷ []) []) ≡ Some as_number → as_number ≡ home_as
-said_home home_as as_number true fits e = sym (same_Some (from_be_bytes w32 (to_be_bytes w32 home_as)) as_number e) ∙ from_be_bytes-to_be_bytes_4 home_as fits
-said_home home_as as_number false fits e = absurd cc
+-- with or without the capability of IPv4 unicast
+pub offers_home : (home_as hold identifier : ℕ) (offered unicast : Bool) → offers (home_open home_as hold identifier offered unicast) ≡ offered
+offers_home home_as hold identifier true true = refl
+offers_home home_as hold identifier true false = refl
+offers_home home_as hold identifier false true = refl
+offers_home home_as hold identifier false false = refl
+
+said_home : (home_as as_number : ℕ) (offered unicast : Bool) → home_as < 2 ^ 32 → as_said (home_caps home_as offered unicast) ≡ Some as_number → as_number ≡ home_as
+said_home home_as as_number true true fits e = sym (same_Some (from_be_bytes w32 (to_be_bytes w32 home_as)) as_number e) ∙ from_be_bytes-to_be_bytes_4 home_as fits
+said_home home_as as_number true false fits e = sym (same_Some (from_be_bytes w32 (to_be_bytes w32 home_as)) as_number e) ∙ from_be_bytes-to_be_bytes_4 home_as fits
+said_home home_as as_number false true fits e = absurd cc
+said_home home_as as_number false false fits e = absurd cc
 
 pub said_range : (first : OpenMsg) → IsHomeOpen first → (as_number : ℕ) → as_said first.caps ≡ Some as_number → (0 < as_number) × (as_number < 2 ^ 32) × (first.as_number ≡ narrow_as as_number)
 said_range first is as_number e =
-    let same : as_number ≡ is.home_as = said_home is.home_as as_number is.offered is.as_number.fits (sym (ap (λ (o : OpenMsg). as_said o.caps) is.is) ∙ e) in
+    let same : as_number ≡ is.home_as = said_home is.home_as as_number is.offered is.unicast is.as_number.fits (sym (ap (λ (o : OpenMsg). as_said o.caps) is.is) ∙ e) in
     let field : first.as_number ≡ narrow_as is.home_as = ap (λ (o : OpenMsg). o.as_number) is.is in
     subst (λ (n : ℕ). (0 < n) × (n < 2 ^ 32) × (first.as_number ≡ narrow_as n)) (sym same) (is.as_number.some, is.as_number.fits, field)

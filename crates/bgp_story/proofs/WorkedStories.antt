@@ -30,7 +30,7 @@ use Rattle.bgp_story.specs.declared.line.Line.{Line}
 use Rattle.bgp_story.specs.declared.line.Line.TheVariants.{Put, Got, Tick}
 use Rattle.bgp_story.specs.Legal.{IsPeering, IsOneWay, opened, got, updated, passed, IsEarlier, hold_expired, hold, is_wide}
 use Rattle.bgp_story.specs.Readings.{Routes, IsLegal, put_bytes, apply, told, heard}
-use Rattle.bgp_story.specs.WorkedSessions.{worked_peering, open_bytes, keepalive_bytes, update_bytes, cease_bytes, sent_lines, confirmed_lines, joined_lines, heard_lines, ten, attrs_over, announcement_over, withdrawal, told_lines, withdrawn_lines, expired_lines, wide_home, wide_peering, wide_open_bytes, wide_lines, wide_put_bytes, heard_attrs, beaten_lines, offering_peering, offering_lines}
+use Rattle.bgp_story.specs.WorkedSessions.{worked_peering, open_bytes, keepalive_bytes, update_bytes, cease_bytes, sent_lines, confirmed_lines, joined_lines, heard_lines, ten, attrs_over, announcement_over, withdrawal, told_lines, withdrawn_lines, expired_lines, wide_home, wide_peering, wide_open_bytes, wide_lines, wide_put_bytes, heard_attrs, beaten_lines, offering_peering, offering_lines, unicast_home, unicast_peering, unicast_lines, unicast_put_bytes, both_home, both_peering, both_open_bytes, both_lines, both_put_bytes}
 use Rattle.bgp_story.specs.States.{Begins}
 use Rattle.bgp_story.proofs.Shapes.{allowed_of}
 
@@ -71,13 +71,13 @@ heard_routes hold = refl
 
 pub peering_is : (hold : ℕ) → hold < 2 ^ 16 → is_short_hold hold ≡ false → IsPeering (worked_peering hold)
 peering_is hold fits long = record {
-  home = record { home_as = 65000; offered = false; is = refl; as_number = record { some = lit≤ tt; fits = lit< tt }; hold_fits = fits; hold_time = long; host = refl };
+  home = record { home_as = 65000; offered = false; unicast = false; is = refl; as_number = record { some = lit≤ tt; fits = lit< tt }; hold_fits = fits; hold_time = long; host = refl };
   remote_as = record { some = lit≤ tt; fits = lit< tt };
 }
 
 wide_is : IsPeering wide_peering
 wide_is = record {
-  home = record { home_as = 4200000000; offered = true; is = refl; as_number = record { some = lit≤ tt; fits = lit< tt }; hold_fits = lit< tt; hold_time = refl; host = refl };
+  home = record { home_as = 4200000000; offered = true; unicast = false; is = refl; as_number = record { some = lit≤ tt; fits = lit< tt }; hold_fits = lit< tt; hold_time = refl; host = refl };
   remote_as = record { some = lit≤ tt; fits = lit< tt };
 }
 
@@ -187,6 +187,52 @@ wide_all = updated _ (announcement_over (4200000000 ∷ [])) wide_lines wide_joi
 pub wide_puts : put_bytes wide_peering wide_lines ≡ wide_put_bytes
 unfolding message_of header_fault frame_at body_of open_of many many_within cap_at caps_of params_of spell spell_attrs attrs_written path_octets
 wide_puts = refl
+
+-- ---- the capability of IPv4 unicast
+
+unicast_is : IsPeering unicast_peering
+unicast_is = record {
+  home = record { home_as = 65000; offered = false; unicast = true; is = refl; as_number = record { some = lit≤ tt; fits = lit< tt }; hold_fits = lit< tt; hold_time = refl; host = refl };
+  remote_as = record { some = lit≤ tt; fits = lit< tt };
+}
+
+both_is : IsPeering both_peering
+both_is = record {
+  home = record { home_as = 65000; offered = true; unicast = true; is = refl; as_number = record { some = lit≤ tt; fits = lit< tt }; hold_fits = lit< tt; hold_time = refl; host = refl };
+  remote_as = record { some = lit≤ tt; fits = lit< tt };
+}
+
+unicast_joined : IsLegal unicast_peering (Put (OpenMsg unicast_home) ∷ Got open_bytes ∷ Put KeepaliveMsg ∷ Got keepalive_bytes ∷ []) Established
+unfolding message_of header_fault frame_at body_of open_of many many_within cap_at caps_of params_of
+unicast_joined =
+    got (Put (OpenMsg unicast_home) ∷ Got open_bytes ∷ Put KeepaliveMsg ∷ []) OpenConfirm keepalive_bytes [] Established _
+    (got (Put (OpenMsg unicast_home) ∷ []) OpenSent open_bytes (Put KeepaliveMsg ∷ []) OpenConfirm _ (opened _ unicast_is refl) not_sent (inl refl) refl refl)
+    not_confirmed (inl refl) refl refl
+
+pub unicast_all : IsLegal unicast_peering unicast_lines Established
+unfolding message_of header_fault frame_at body_of open_of many many_within cap_at caps_of params_of
+unicast_all = updated _ (announcement_over (65000 ∷ [])) unicast_lines unicast_joined announcement_is
+    (All-from_recursion (λ prefix. map.get (apply (told (Put (OpenMsg unicast_home) ∷ Got open_bytes ∷ Put KeepaliveMsg ∷ Got keepalive_bytes ∷ [])) (announcement_over (65000 ∷ []))) prefix ≢ map.get (told (Put (OpenMsg unicast_home) ∷ Got open_bytes ∷ Put KeepaliveMsg ∷ Got keepalive_bytes ∷ [])) prefix) (ten ∷ []) (is_new _, tt)) refl
+
+pub unicast_puts : put_bytes unicast_peering unicast_lines ≡ unicast_put_bytes
+unfolding message_of header_fault frame_at body_of open_of many many_within cap_at caps_of params_of spell spell_attrs attrs_written path_octets
+unicast_puts = refl
+
+pub unicast_stays_narrow : is_wide unicast_peering unicast_lines ≡ false
+unfolding message_of header_fault frame_at body_of open_of many many_within cap_at caps_of params_of
+unicast_stays_narrow = refl
+
+pub both_all : IsLegal both_peering both_lines OpenConfirm
+unfolding message_of header_fault frame_at body_of open_of many many_within cap_at caps_of params_of
+both_all = got (Put (OpenMsg both_home) ∷ []) OpenSent both_open_bytes (Put KeepaliveMsg ∷ []) OpenConfirm both_lines (opened _ both_is refl) not_sent (inl refl) refl refl
+
+pub both_puts : put_bytes both_peering both_lines ≡ both_put_bytes
+unfolding message_of header_fault frame_at body_of open_of many many_within cap_at caps_of params_of spell spell_attrs attrs_written path_octets
+both_puts = refl
+
+pub both_is_wide : is_wide both_peering both_lines ≡ true
+unfolding message_of header_fault frame_at body_of open_of many many_within cap_at caps_of params_of
+both_is_wide = refl
 
 -- ---- what both OPENs say
 

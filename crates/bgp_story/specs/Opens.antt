@@ -1,5 +1,5 @@
--- The OPEN that the home side puts, and what an OPEN offers (RFC 4271, section 4.2; RFC 6793; RFC 7607).
-use Rattle.std.specs.Prelude.{◌≡◌, ℕ, ◌^◌, ◌<◌, ◌≤◌, [], ◌∷◌, Bool, false, is_some, if◌then◌else◌}
+-- The OPEN that the home side puts, and what an OPEN offers (RFC 4271, section 4.2; RFC 4760; RFC 6793; RFC 7607).
+use Rattle.std.specs.Prelude.{◌≡◌, ℕ, ◌^◌, ◌<◌, ◌≤◌, List, [], ◌∷◌, ◌++◌, Bool, false, is_some, if◌then◌else◌}
 use Rattle.std.specs.Int.{w32, to_be_bytes}
 use Rattle.bgp_types.specs.declared.message.Cap.{Cap}
 use Rattle.bgp_types.specs.declared.message.OpenMsg.{OpenMsg}
@@ -11,10 +11,19 @@ use Rattle.bgp_types.specs.Values.{is_no_host, is_short_hold}
 abbrev pub as_cap : ℕ → Cap
 as_cap as_number = record { code = 65; bytes = to_be_bytes w32 as_number }
 
--- It has the home AS, or 23456 where two octets don't hold that; the hold time; the identifier; and
--- one capability with the home AS exactly where four-octet AS numbers are offered.
-abbrev pub home_open : ℕ → ℕ → ℕ → Bool → OpenMsg
-home_open home_as hold identifier offered = record { as_number = narrow_as home_as; hold = hold; identifier = identifier; caps = if offered then as_cap home_as ∷ [] else [] }
+-- the capability of multiprotocol extensions for IPv4 unicast: AFI 1 in two octets, a reserved octet, and SAFI 1 (RFC 4760, sections 8
+-- and 3)
+abbrev pub unicast_cap : Cap
+unicast_cap = record { code = 1; bytes = 0 ∷ 1 ∷ 0 ∷ 1 ∷ [] }
+
+-- the capabilities in the OPEN of the home side: IPv4 unicast where that is asked for, then the home AS where four-octet AS numbers are
+-- offered
+abbrev pub home_caps : (home_as : ℕ) → (offered unicast : Bool) → List Cap
+home_caps home_as offered unicast = (if unicast then unicast_cap ∷ [] else []) ++ (if offered then as_cap home_as ∷ [] else [])
+
+-- It has the home AS, or 23456 where two octets don't hold that; the hold time; the identifier; and the capabilities.
+abbrev pub home_open : (home_as hold identifier : ℕ) → (offered unicast : Bool) → OpenMsg
+home_open home_as hold identifier offered unicast = record { as_number = narrow_as home_as; hold = hold; identifier = identifier; caps = home_caps home_as offered unicast }
 
 -- the number of an AS: 0 is none (RFC 7607, section 2), and four octets hold it (RFC 6793, section 3)
 pub record IsAsNumber (as_number : ℕ) : Type 0 where
@@ -25,7 +34,8 @@ pub record IsAsNumber (as_number : ℕ) : Type 0 where
 pub record IsHomeOpen (first : OpenMsg) : Type 0 where
   pub home_as : ℕ
   pub offered : Bool
-  pub is : first ≡ home_open home_as first.hold first.identifier offered
+  pub unicast : Bool
+  pub is : first ≡ home_open home_as first.hold first.identifier offered unicast
   pub as_number : IsAsNumber home_as
   pub hold_fits : first.hold < 2 ^ 16
   pub hold_time : is_short_hold first.hold ≡ false

@@ -15,7 +15,7 @@ use Rattle.bgp_story.specs.Legal.{Peering}
 use Rattle.bgp_story.specs.Opens.{home_open}
 
 abbrev pub home : ℕ → open_type.OpenMsg
-home hold = home_open 65000 hold 0x0AFF0001 false
+home hold = home_open 65000 hold 0x0AFF0001 false false
 
 abbrev pub worked_peering : ℕ → Peering
 worked_peering hold = record { first = home hold; remote_as = 65001 }
@@ -87,7 +87,7 @@ expired_lines = confirmed_lines 3 ++ Tick 1 ∷ Put KeepaliveMsg ∷ Tick 2 ∷ 
 -- ---- a wide session
 
 abbrev pub wide_home : open_type.OpenMsg
-wide_home = home_open 4200000000 0 0x0AFF0001 true
+wide_home = home_open 4200000000 0 0x0AFF0001 true false
 
 abbrev pub wide_peering : Peering
 wide_peering = record { first = wide_home; remote_as = 4200000001 }
@@ -112,3 +112,40 @@ offering_peering = record { first = wide_home; remote_as = 65001 }
 
 abbrev pub offering_lines : List Line
 offering_lines = Put (OpenMsg wide_home) ∷ Got open_bytes ∷ Put KeepaliveMsg ∷ []
+
+-- ---- the OPEN of home has the capability of IPv4 unicast (RFC 4760, section 8)
+
+-- alone: the remote's OPEN has none
+abbrev pub unicast_home : open_type.OpenMsg
+unicast_home = home_open 65000 0 0x0AFF0001 false true
+
+abbrev pub unicast_peering : Peering
+unicast_peering = record { first = unicast_home; remote_as = 65001 }
+
+abbrev pub unicast_lines : List Line
+unicast_lines = Put (OpenMsg unicast_home) ∷ Got open_bytes ∷ Put KeepaliveMsg ∷ Got keepalive_bytes ∷ Put (UpdateMsg (announcement_over (65000 ∷ []))) ∷ []
+
+-- its OPEN with the capability, a KEEPALIVE, and the announcement, whose path has one AS of two octets
+abbrev pub unicast_put_bytes : List ℕ
+unicast_put_bytes = framed 1 (0x04 ∷ 0xFD ∷ 0xE8 ∷ 0x00 ∷ 0x00 ∷ 0x0A ∷ 0xFF ∷ 0x00 ∷ 0x01 ∷ 0x08 ∷ 0x02 ∷ 0x06 ∷ 0x01 ∷ 0x04 ∷ 0x00 ∷ 0x01 ∷ 0x00 ∷ 0x01 ∷ [])
+    ++ keepalive_bytes
+    ++ framed 2 (0x00 ∷ 0x00 ∷ 0x00 ∷ 0x12 ∷ 0x40 ∷ 0x01 ∷ 0x01 ∷ 0x00 ∷ 0x40 ∷ 0x02 ∷ 0x04 ∷ 0x02 ∷ 0x01 ∷ 0xFD ∷ 0xE8 ∷ 0x40 ∷ 0x03 ∷ 0x04 ∷ 0xC0 ∷ 0x00 ∷ 0x02 ∷ 0x02 ∷ 0x08 ∷ 0x0A ∷ [])
+
+-- in front of the capability of four-octet AS numbers, to a remote whose OPEN has both
+abbrev pub both_home : open_type.OpenMsg
+both_home = home_open 65000 0 0x0AFF0001 true true
+
+abbrev pub both_peering : Peering
+both_peering = record { first = both_home; remote_as = 65001 }
+
+-- an OPEN of the remote: hold time 180, and both capabilities
+abbrev pub both_open_bytes : List ℕ
+both_open_bytes = framed 1 (0x04 ∷ 0xFD ∷ 0xE9 ∷ 0x00 ∷ 0xB4 ∷ 0xC0 ∷ 0x00 ∷ 0x02 ∷ 0x01 ∷ 0x10 ∷ 0x02 ∷ 0x06 ∷ 0x01 ∷ 0x04 ∷ 0x00 ∷ 0x01 ∷ 0x00 ∷ 0x01 ∷ 0x02 ∷ 0x06 ∷ 0x41 ∷ 0x04 ∷ 0x00 ∷ 0x00 ∷ 0xFD ∷ 0xE9 ∷ [])
+
+abbrev pub both_lines : List Line
+both_lines = Put (OpenMsg both_home) ∷ Got both_open_bytes ∷ Put KeepaliveMsg ∷ []
+
+-- its OPEN with both capabilities, each in a parameter of its own, and a KEEPALIVE
+abbrev pub both_put_bytes : List ℕ
+both_put_bytes = framed 1 (0x04 ∷ 0xFD ∷ 0xE8 ∷ 0x00 ∷ 0x00 ∷ 0x0A ∷ 0xFF ∷ 0x00 ∷ 0x01 ∷ 0x10 ∷ 0x02 ∷ 0x06 ∷ 0x01 ∷ 0x04 ∷ 0x00 ∷ 0x01 ∷ 0x00 ∷ 0x01 ∷ 0x02 ∷ 0x06 ∷ 0x41 ∷ 0x04 ∷ 0x00 ∷ 0x00 ∷ 0xFD ∷ 0xE8 ∷ [])
+    ++ keepalive_bytes

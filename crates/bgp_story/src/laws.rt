@@ -107,7 +107,9 @@ pub fn tables_grow()
 /// Worked stories are legal: a route is heard, a route is told and withdrawn, a KEEPALIVE is put at a third
 /// of the hold time, a hold time of 3 seconds runs out, and a session has AS numbers of four octets. The
 /// hold time is the smaller one that the OPENs say, and AS numbers have two octets where home alone
-/// offers four (RFC 4271, sections 4.2, 4.4 and 6.5; RFC 6793, section 4.1).
+/// offers four (RFC 4271, sections 4.2, 4.4 and 6.5; RFC 6793, section 4.1). The capability of IPv4 unicast
+/// stands in front of that of four-octet AS numbers, and alone it offers none of these (RFC 4760, section
+/// 8).
 pub fn worked_stories_are_legal()
     ensures heard { IsLegal (worked.worked_peering 0) (worked.heard_lines 0) Established }
     ensures heard_routes { heard (worked.worked_peering 0) (worked.heard_lines 0) ≡ map.insert map.empty worked.ten worked.heard_attrs }
@@ -122,4 +124,10 @@ pub fn worked_stories_are_legal()
     ensures offered { IsLegal worked.offering_peering worked.offering_lines OpenConfirm }
     ensures narrow { is_wide worked.offering_peering worked.offering_lines ≡ false }
     ensures hold { hold (worked.worked_peering 240) (worked.confirmed_lines 240) ≡ 180 }
+    ensures unicast { IsLegal worked.unicast_peering worked.unicast_lines Established }
+    ensures unicast_octets { put_bytes worked.unicast_peering worked.unicast_lines ≡ worked.unicast_put_bytes }
+    ensures unicast_narrow { is_wide worked.unicast_peering worked.unicast_lines ≡ false }
+    ensures both { IsLegal worked.both_peering worked.both_lines OpenConfirm }
+    ensures both_octets { put_bytes worked.both_peering worked.both_lines ≡ worked.both_put_bytes }
+    ensures both_wide { is_wide worked.both_peering worked.both_lines ≡ true }
 {}

@@ -6,7 +6,7 @@ use Rattle.bgp_types.specs.declared.message.Message.TheVariants.{KeepaliveMsg}
 use Rattle.bgp_types.specs.Spelling.{spell}
 use Rattle.session_value.specs.Sessions.{SessionValue}
 use Rattle.session_value.specs.Cases.{sending}
-use Rattle.graft_model.specs.Steps.{Beat}
+use Rattle.graft_model.specs.declared.event.FarEvent.TheVariants.{Beat}
 use Rattle.far_side.specs.Remotes.{RemoteValue}
 use Rattle.graft_actors.specs.Notes.{WroteOne}
 use Rattle.far_side.specs.Parts.{far_part, Keeps, ForEach}
@@ -14,6 +14,7 @@ use Rattle.far_side.specs.Passes.{IsDue, Beaten}
 use Rattle.far_side.specs.declared.fields.Fields.{Fields}
 use Rattle.far_side.proofs.Dids.{did_same, did_one}
 use Rattle.far_side.proofs.Kept.{keeps_remote, keeps_counts}
+use Rattle.graft_model.specs.Codes.{far_code}
 
 -- a KEEPALIVE as it is written
 keepalive_is : spell KeepaliveMsg false ≡ 255 ∷ 255 ∷ 255 ∷ 255 ∷ 255 ∷ 255 ∷ 255 ∷ 255 ∷ 255 ∷ 255 ∷ 255 ∷ 255 ∷ 255 ∷ 255 ∷ 255 ∷ 255 ∷ 0 ∷ 19 ∷ 4 ∷ []
@@ -38,13 +39,13 @@ module _ {C : Type 0} (f : Fields) (p : Post (Item C)) (keeps : Keeps f) where
   keeps_beaten r same = keeps_counts (record f { remote = r }) (beaten_by f r)
       (keeps_remote f r keeps (ap (λ (v : RemoteValue). v.peering) same) (ap (λ (v : RemoteValue). v.send_first) same) (ap (λ (v : RemoteValue). v.receive_first) same))
 
-  pub due_each : (q : Post (Item C)) (r : RemoteValue) → IsDue f → r ≡ record f.remote { end = sending (spell KeepaliveMsg false) f.remote.end } → WroteOne p 32 f.turns 0 0 [] q
+  pub due_each : (q : Post (Item C)) (r : RemoteValue) → IsDue f → r ≡ record f.remote { end = sending (spell KeepaliveMsg false) f.remote.end } → WroteOne p (far_code (Beat f.turns)) [] q
       → ForEach (λ (session : C → SessionValue). Beaten session f p (let g : Fields = record f { remote = r; beats = f.beats + 1; last_beat = f.turns } in g) q) (let g : Fields = record f { remote = r; beats = f.beats + 1; last_beat = f.turns } in g)
   due_each q r due same wrote = record {
     keeps = keeps_beaten r same;
     each = λ session. record {
       events = Beat f.turns ∷ [];
-      did = λ t. did_one session f (beaten_by f r) p q t (Beat f.turns) 32 f.turns 0 0 refl refl wrote (record { kind = refl; a = refl; b = refl; c = refl })
+      did = λ t. did_one session f (beaten_by f r) p q t (Beat f.turns) refl refl wrote
           (record { beat = f.beat; is = keeps.beat; some = due.some; multiple = due.multiple; later = due.later; few = due.few; takes = refl; sends = refl; effect = ap (λ (v : RemoteValue). far_part (beaten_by f v)) same }) tt;
       beats = inl (due, refl, ap (beaten_by f) same);
       keeps = keeps_beaten r same;

@@ -10,7 +10,8 @@ use Rattle.session_value.specs.Sessions.{SessionValue}
 use Rattle.graft_model.specs.Setups.{Setup}
 use Rattle.graft_model.specs.Parts.{FarPart}
 use Rattle.graft_model.specs.Codes.{far_code}
-use Rattle.graft_model.specs.Steps.{FarEvent, far_row}
+use Rattle.graft_model.specs.declared.event.FarEvent.{FarEvent}
+use Rattle.graft_model.specs.Steps.{far_row}
 use Rattle.graft_runs.specs.Actors.{FarSide, FarIs}
 use Rattle.graft_runs.specs.Makes.{HasCode}
 use Rattle.graft_actors.specs.Acts.{acts}
@@ -58,16 +59,16 @@ module _ {C : Type 0} (session : C → SessionValue) where
   }
 
   -- one event that takes and sends nothing
-  pub did_one : (f g : Fields) (p q : Post (Item C)) (t : Tally) (event : FarEvent) (kind a b c : ℕ) → g.known.setup ≡ f.known.setup → g.peering ≡ f.peering → WroteOne p kind a b c [] q
-      → HasCode (far_code event) (deed_of p kind a b c None []).entry → far_row f.known.setup f.peering.0 event (far_part f) None [] (far_part g) → CarefulFar (far_part f) event
+  pub did_one : (f g : Fields) (p q : Post (Item C)) (t : Tally) (event : FarEvent) → g.known.setup ≡ f.known.setup → g.peering ≡ f.peering → WroteOne p (far_code event) [] q
+      → far_row f.known.setup f.peering.0 event (far_part f) None [] (far_part g) → CarefulFar (far_part f) event
       → Did session f p t (event ∷ []) g q (far_tally (far_part f) event t)
-  did_one f g p q t event kind a b c setup peering wrote code row careful = record {
+  did_one f g p q t event setup peering wrote row careful = record {
     setup = setup;
     peering = peering;
-    deeds = deed_of p kind a b c None [] ∷ [];
+    deeds = deed_of p (far_code event) None [] ∷ [];
     wrote = wrote None;
     none = (refl, tt);
-    coded = (code, tt);
+    coded = (record { kind = refl; a = refl; b = refl; c = refl }, tt);
     replay = (
       own_part g,
       record {
@@ -75,7 +76,7 @@ module _ {C : Type 0} (session : C → SessionValue) where
         name = ap (λ k. FarSide k.0) peering;
         does = inl (record {
           welcome = tt;
-          row = record { event = event; coded = code; took = None; gave = []; holds = row; is_taken = refl; is_sent = refl; there = tt };
+          row = record { event = event; coded = record { kind = refl; a = refl; b = refl; c = refl }; took = None; gave = []; holds = row; is_taken = refl; is_sent = refl; there = tt };
           fit = tt;
         });
       },

@@ -13,7 +13,8 @@ use Rattle.tcp_seq.proofs.Emitting.{next_is_slice, again_is_slice}
 use Rattle.session_value.specs.Sessions.{SessionValue}
 use Rattle.graft_model.specs.Setups.{routers_in}
 use Rattle.graft_model.specs.Slices.{EmitsAt}
-use Rattle.graft_model.specs.Steps.{FarEvent, Send}
+use Rattle.graft_model.specs.declared.event.FarEvent.{FarEvent}
+use Rattle.graft_model.specs.declared.event.FarEvent.TheVariants.{Send}
 use Rattle.graft_actors.specs.Emissions.{reach_of, IsCareful, Tally, counted}
 use Rattle.graft_actors.proofs.Careful.{at_again, at_answer, at_next, careful_again, careful_next, counted_again, counted_next}
 use Rattle.far_side.specs.Remotes.{RemoteValue, IsFrom, IsSound, EmitsOf}
@@ -27,6 +28,7 @@ use Rattle.far_side.specs.declared.link.InLink.{InLink}
 use Rattle.far_side.proofs.Sessions.{for_each}
 use Rattle.far_side.proofs.Dids.{did_same, did_then, did_one}
 use Rattle.far_side.proofs.Kept.{keeps_home, keeps_remote, all_push}
+use Rattle.graft_model.specs.Codes.{far_code}
 
 -- a segment of the remote may go into the link to home
 pub from_on : (f : Fields) (g : Segment) → Keeps f → IsFrom f.remote g → IsOn f.homeward g
@@ -55,9 +57,9 @@ put_on : Fields → RemoteValue → PlacedSegment → Fields
 put_on f r segment = record f { remote = r; homeward = put_in f.homeward f segment }
 
 module _ {C : Type 0} (session : C → SessionValue) (f g : Fields) (p q : Post (Item C)) (r : RemoteValue) (segment : PlacedSegment) (from len : ℕ) (keeps : Keeps f)
-    (same : g ≡ record f { remote = r; homeward = put_in f.homeward f segment }) (is : r ≡ record f.remote { end = r.end; at_turn = r.at_turn }) (wrote : WroteOne p 18 from len 0 [] q) (emits : EmitsAt from len f.remote.end segment r.end) (careful : IsCareful f.remote.end from len) where
+    (same : g ≡ record f { remote = r; homeward = put_in f.homeward f segment }) (is : r ≡ record f.remote { end = r.end; at_turn = r.at_turn }) (wrote : WroteOne p (far_code (Send from len)) [] q) (emits : EmitsAt from len f.remote.end segment r.end) (careful : IsCareful f.remote.end from len) where
   did_send : (t : Tally) → Did session f p t (Send from len ∷ []) g q (counted f.remote.end from len t)
-  did_send t = did_one session f g p q t (Send from len) 18 from len 0 (ap (λ (h : Fields). h.known.setup) same) (ap (λ (h : Fields). h.peering) same) wrote (record { kind = refl; a = refl; b = refl; c = refl })
+  did_send t = did_one session f g p q t (Send from len) (ap (λ (h : Fields). h.known.setup) same) (ap (λ (h : Fields). h.peering) same) wrote
       (record { segment = segment; end = r.end; emits = emits; takes = refl; sends = refl; effect = ap far_part same }) careful
 
   pub sent_one : (t : Tally) → Sent session f p t (Send from len ∷ []) g q (counted f.remote.end from len t)
@@ -135,10 +137,10 @@ module _ {C : Type 0} (session : C → SessionValue) where
 
   -- one more: the remote emitted the next slice, and it was put into the link
   pub freshly_more : (f g h : Fields) (p q s : Post (Item C)) (r : RemoteValue) (segment : PlacedSegment) (len : ℕ) → Freshly session f p g q → Keeps g → IsSound g.remote.end → EmitsNext g.remote.end segment r.end → r ≡ record g.remote { end = r.end }
-      → h ≡ record g { remote = r; homeward = put_in g.homeward g segment } → len ≡ next_length g.remote.end → WroteOne q 18 g.remote.end.emitted len 0 [] s → Freshly session f p h s
+      → h ≡ record g { remote = r; homeward = put_in g.homeward g segment } → len ≡ next_length g.remote.end → WroteOne q (far_code (Send g.remote.end.emitted len)) [] s → Freshly session f p h s
   freshly_more f g h p q s r segment len fresh keeps sound step is same size wrote =
       let event : FarEvent = Send g.remote.end.emitted (next_length g.remote.end) in
-      let wrote' : WroteOne q 18 g.remote.end.emitted (next_length g.remote.end) 0 [] s = subst (λ (n : ℕ). WroteOne q 18 g.remote.end.emitted n 0 [] s) size wrote in
+      let wrote' : WroteOne q (far_code (Send g.remote.end.emitted (next_length g.remote.end))) [] s = subst (λ (n : ℕ). WroteOne q (far_code (Send g.remote.end.emitted n)) [] s) size wrote in
       let r_is : r ≡ record g.remote { end = r.end; at_turn = r.at_turn } = subst (λ (v : RemoteValue). v ≡ record g.remote { end = v.end; at_turn = v.at_turn }) (sym is) refl in
       let end_is : r.end ≡ record g.remote.end { emitted = g.remote.end.emitted + next_length g.remote.end } = step.rises in
       let h_remote : h.remote ≡ r = ap (λ (k : Fields). k.remote) same in
@@ -182,9 +184,9 @@ module _ {C : Type 0} (session : C → SessionValue) where
   ]
 
   pub sent_again : (f g : Fields) (p q : Post (Item C)) (r : RemoteValue) (segment : PlacedSegment) (len : ℕ) → Keeps f → IsSound f.remote.end → f.remote.end.acked ≤ f.remote.at_turn → EmitsAgain f.remote.end segment r.end
-      → r ≡ record f.remote { end = r.end; at_turn = f.remote.end.acked } → g ≡ record f { remote = r; homeward = put_in f.homeward f segment } → len ≡ again_length f.remote.end → WroteOne p 18 f.remote.end.acked len 0 [] q → SentAgain session f p g q
+      → r ≡ record f.remote { end = r.end; at_turn = f.remote.end.acked } → g ≡ record f { remote = r; homeward = put_in f.homeward f segment } → len ≡ again_length f.remote.end → WroteOne p (far_code (Send f.remote.end.acked len)) [] q → SentAgain session f p g q
   sent_again f g p q r segment len keeps sound late step is same size wrote =
-      let wrote' : WroteOne p 18 f.remote.end.acked (again_length f.remote.end) 0 [] q = subst (λ (n : ℕ). WroteOne p 18 f.remote.end.acked n 0 [] q) size wrote in
+      let wrote' : WroteOne p (far_code (Send f.remote.end.acked (again_length f.remote.end))) [] q = subst (λ (n : ℕ). WroteOne p (far_code (Send f.remote.end.acked n)) [] q) size wrote in
       let r_is : r ≡ record f.remote { end = r.end; at_turn = r.at_turn } = subst (λ (v : RemoteValue). v ≡ record f.remote { end = v.end; at_turn = v.at_turn }) (sym is) refl in
       let out : f.remote.end.acked < f.remote.end.emitted = omega (arith, step.some) in
       let events : again_events f.remote ≡ Send f.remote.end.acked (again_length f.remote.end) ∷ [] = again_is f.remote late step.some in
@@ -209,9 +211,9 @@ module _ {C : Type 0} (session : C → SessionValue) where
   -- ---- the answer
 
   pub sent_answer : (f g : Fields) (p q : Post (Item C)) (r : RemoteValue) (segment : PlacedSegment) (len : ℕ) → Keeps f → EmitsAnswer f.remote.end segment r.end → r ≡ record f.remote { end = r.end } → g ≡ record f { remote = r; homeward = put_in f.homeward f segment } → len ≡ 0
-      → WroteOne p 18 f.remote.end.emitted len 0 [] q → SentAnswer session f p g q
+      → WroteOne p (far_code (Send f.remote.end.emitted len)) [] q → SentAnswer session f p g q
   sent_answer f g p q r segment len keeps step is same size wrote =
-      let wrote' : WroteOne p 18 f.remote.end.emitted 0 0 [] q = subst (λ (n : ℕ). WroteOne p 18 f.remote.end.emitted n 0 [] q) size wrote in
+      let wrote' : WroteOne p (far_code (Send f.remote.end.emitted 0)) [] q = subst (λ (n : ℕ). WroteOne p (far_code (Send f.remote.end.emitted n)) [] q) size wrote in
       let r_is : r ≡ record f.remote { end = r.end; at_turn = r.at_turn } = subst (λ (v : RemoteValue). v ≡ record f.remote { end = v.end; at_turn = v.at_turn }) (sym is) refl in
       let events : answer_events f.remote.end ≡ Send f.remote.end.emitted 0 ∷ [] = ap (λ (b : Bool). let es : List FarEvent = if b then Send f.remote.end.emitted 0 ∷ [] else [] in es) step.owed in
       record {
@@ -276,7 +278,7 @@ late_from r o g is none = elim (cases_lt r.at_turn r.end.acked) [ inl raised ↦
 module _ {C : Type 0} (f h : Fields) (p q : Post (Item C)) (r : RemoteValue) (keeps : Keeps f) where
   pub sent_again_each : (g : Segment) → IsSound f.remote.end → f.remote.end.acked ≤ f.remote.at_turn → EmitsOf EmitsAgain f.remote (Some g) r.end → r ≡ record f.remote { end = r.end; at_turn = f.remote.end.acked }
       → h ≡ (let k : Fields = record f { remote = r; homeward = put_in f.homeward (let l : Fields = record f { remote = r } in l) (placed r.send_first r.receive_first g) } in k)
-      → WroteOne p 18 f.remote.end.acked (length g.bytes) 0 [] q → ForEach (λ (session : C → SessionValue). SentAgain session f p h q) h
+      → WroteOne p (far_code (Send f.remote.end.acked (length g.bytes))) [] q → ForEach (λ (session : C → SessionValue). SentAgain session f p h q) h
   sent_again_each g sound late emits is same wrote = for_each _ _
       (λ session. sent_again session f h p q r (placed f.remote.send_first f.remote.receive_first g) (length g.bytes) keeps sound late emits.1 is (put_same f r g h (emitted_turn f.remote r is) same)
       (size_is f.remote.end r.end (placed f.remote.send_first f.remote.receive_first g) f.remote.end.acked (again_length f.remote.end) (length g.bytes) (emits_at_again f.remote.end r.end (placed f.remote.send_first f.remote.receive_first g) sound emits.1) refl) wrote)
@@ -290,7 +292,7 @@ module _ {C : Type 0} (f h : Fields) (p q : Post (Item C)) (r : RemoteValue) (ke
 
   pub sent_answer_each : (g : Segment) → EmitsOf EmitsAnswer f.remote (Some g) r.end → r ≡ record f.remote { end = r.end }
       → h ≡ (let k : Fields = record f { remote = r; homeward = put_in f.homeward (let l : Fields = record f { remote = r } in l) (placed r.send_first r.receive_first g) } in k)
-      → WroteOne p 18 f.remote.end.emitted (length g.bytes) 0 [] q → ForEach (λ (session : C → SessionValue). SentAnswer session f p h q) h
+      → WroteOne p (far_code (Send f.remote.end.emitted (length g.bytes))) [] q → ForEach (λ (session : C → SessionValue). SentAnswer session f p h q) h
   sent_answer_each g emits is same wrote = for_each _ _
       (λ session. sent_answer session f h p q r (placed f.remote.send_first f.remote.receive_first g) (length g.bytes) keeps emits.1 is (put_same f r g h (emitted_end f.remote r is) same)
       (size_is f.remote.end r.end (placed f.remote.send_first f.remote.receive_first g) f.remote.end.emitted 0 (length g.bytes) (at_answer f.remote.end r.end (placed f.remote.send_first f.remote.receive_first g) emits.1) refl) wrote)
@@ -310,7 +312,7 @@ freshly_first f p keeps = record { keeps = keeps; each = λ session. freshly_non
 
 pub freshly_next : {C : Type 0} (f g h : Fields) (p q s : Post (Item C)) (r : RemoteValue) (x : Segment) → FreshlyEach f p g q → IsSound g.remote.end → EmitsOf EmitsNext g.remote (Some x) r.end → r ≡ record g.remote { end = r.end }
     → h ≡ (let k : Fields = record g { remote = r; homeward = put_in g.homeward (let l : Fields = record g { remote = r } in l) (placed r.send_first r.receive_first x) } in k)
-    → WroteOne q 18 g.remote.end.emitted (length x.bytes) 0 [] s → FreshlyEach f p h s
+    → WroteOne q (far_code (Send g.remote.end.emitted (length x.bytes))) [] s → FreshlyEach f p h s
 freshly_next f g h p q s r x fresh sound emits is same wrote = for_each _ _
     (λ session. freshly_more session f g h p q s r (placed g.remote.send_first g.remote.receive_first x) (length x.bytes) (fresh.each session) fresh.keeps sound emits.1 is (put_same g r x h (emitted_end g.remote r is) same)
     (size_is g.remote.end r.end (placed g.remote.send_first g.remote.receive_first x) g.remote.end.emitted (next_length g.remote.end) (length x.bytes) (emits_at_next g.remote.end r.end (placed g.remote.send_first g.remote.receive_first x) sound emits.1) refl) wrote)

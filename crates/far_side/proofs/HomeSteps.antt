@@ -14,9 +14,10 @@ use Rattle.tcp_seq.specs.declared.segment.Way.TheVariants.{Home}
 use Rattle.session_value.specs.Sessions.{SessionValue}
 use Rattle.graft_model.specs.Setups.{routers_in}
 use Rattle.graft_model.specs.Parts.{FarPart}
-use Rattle.graft_model.specs.FarRows.{without, left_by, Homeward, Passes}
+use Rattle.graft_model.specs.FarRows.{without, left_by, Passes}
 use Rattle.graft_model.specs.Codes.{flag}
-use Rattle.graft_model.specs.Steps.{FarEvent, Pass, Lose}
+use Rattle.graft_model.specs.declared.event.FarEvent.{FarEvent}
+use Rattle.graft_model.specs.declared.event.FarEvent.TheVariants.{Pass, Lose}
 use Rattle.graft_runs.specs.Actors.{Router, FarSide, Thing, SegmentItem, actor_at}
 use Rattle.graft_runs.proofs.Numbers as numbers
 use Rattle.graft_actors.specs.Items.{home_first, remote_first, segment_of, segment_thing, placed_for}
@@ -34,6 +35,7 @@ use Rattle.far_side.proofs.Sessions.{for_each, at_one}
 use Rattle.far_side.proofs.Dids.{did_same, did_then, did_one}
 use Rattle.far_side.proofs.PassLists.{Passed, passed_none, passed_more, passed_all, place_within}
 use Rattle.far_side.proofs.Kept.{all_after, all_at, keeps_home}
+use Rattle.graft_model.specs.Codes.{far_code}
 
 same_link : (l : LinkValue) → SameLink l l
 same_link l = record { way = refl; peering = refl; seq_first = refl; ack_first = refl }
@@ -81,15 +83,15 @@ module _ {C : Type 0} (session : C → SessionValue) (f : Fields) (place : ℕ) 
   taken_out = record f.homeward { segments = without place f.homeward.segments; plans = without place f.homeward.plans }
 
   -- it is lost
-  pub lost : (g : Fields) (q : Post (Item C)) → act_in x ≡ Lost → place < length f.homeward.segments → WroteOne p 22 0 place 0 [] q
+  pub lost : (g : Fields) (q : Post (Item C)) → act_in x ≡ Lost → place < length f.homeward.segments → WroteOne p (far_code (Lose Home place)) [] q
       → g ≡ record f { homeward = record f.homeward { segments = without place f.homeward.segments; plans = without place f.homeward.plans } } → HomeStep session f place p g place q
   lost g q e there wrote same = stepped g taken_out place q same (record { way = refl; peering = refl; seq_first = refl; ack_first = refl }) refl (after_at Lost true e refl) (next_at Lost true e refl)
       (λ t. subst (λ (es : List FarEvent). Did session f p t es g q t) (events_at Lost e)
-      (did_one session f g p q t (Lose Homeward place) 22 0 place 0 (ap (λ (h : Fields). h.known.setup) same) (ap (λ (h : Fields). h.peering) same) wrote (record { kind = refl; a = refl; b = refl; c = refl })
+      (did_one session f g p q t (Lose Home place) (ap (λ (h : Fields). h.known.setup) same) (ap (λ (h : Fields). h.peering) same) wrote
       (record { there = there; takes = refl; sends = refl; effect = ap far_part same }) tt))
 
   -- it goes to a router
-  passes : (g : Fields) (q : Post (Item C)) (keep : Bool) (router : ℕ) (link : LinkValue) → router < routers_in f.known.setup → SendsHome f.homeward place (flag keep) router p q → g ≡ record f { homeward = link } → link.segments ≡ left_by keep place f.homeward.segments
+  passes : (g : Fields) (q : Post (Item C)) (keep : Bool) (router : ℕ) (link : LinkValue) → router < routers_in f.known.setup → SendsHome f.homeward place keep router p q → g ≡ record f { homeward = link } → link.segments ≡ left_by keep place f.homeward.segments
       → (t : Tally) → Did session f p t (Pass place keep router ∷ []) g q t
   passes g q keep router link known sends same segments t =
       let seg : Segment = sends.segment in
@@ -108,7 +110,7 @@ module _ {C : Type 0} (session : C → SessionValue) (f : Fields) (place : ℕ) 
       record {
         setup = ap (λ (h : Fields). h.known.setup) same;
         peering = ap (λ (h : Fields). h.peering) same;
-        deeds = deed_of p 20 place (flag keep) router None ((router, items.Seg seg) ∷ []) ∷ [];
+        deeds = deed_of p (far_code (Pass place keep router)) None ((router, items.Seg seg) ∷ []) ∷ [];
         wrote = sends.wrote None;
         none = (refl, tt);
         coded = (record { kind = refl; a = refl; b = refl; c = refl }, tt);
@@ -150,19 +152,19 @@ module _ {C : Type 0} (session : C → SessionValue) (f : Fields) (place : ℕ) 
       }
 
   -- it is delivered and stays
-  pub delivered_again : (g : Fields) (q : Post (Item C)) → act_in x ≡ Delivered true → SendsHome f.homeward place 1 f.pointer.0 p q
+  pub delivered_again : (g : Fields) (q : Post (Item C)) → act_in x ≡ Delivered true → SendsHome f.homeward place true f.pointer.0 p q
       → g ≡ record f { homeward = record f.homeward { plans = slice_set f.homeward.plans place (older x) } } → HomeStep session f place p g (place + 1) q
   delivered_again g q e sends same = stepped g (record f.homeward { plans = slice_set f.homeward.plans place (older x) }) (place + 1) q same (record { way = refl; peering = refl; seq_first = refl; ack_first = refl }) refl (after_at (Delivered true) false e refl) (next_at (Delivered true) false e refl)
       (λ t. subst (λ (es : List FarEvent). Did session f p t es g q t) (events_at (Delivered true) e) (passes g q true f.pointer.0 (record f.homeward { plans = slice_set f.homeward.plans place (older x) }) keeps.pointer sends same refl t))
 
   -- it is delivered for the last time
-  pub delivered : (g : Fields) (q : Post (Item C)) → act_in x ≡ Delivered false → SendsHome f.homeward place 0 f.pointer.0 p q
+  pub delivered : (g : Fields) (q : Post (Item C)) → act_in x ≡ Delivered false → SendsHome f.homeward place false f.pointer.0 p q
       → g ≡ record f { homeward = record f.homeward { segments = without place f.homeward.segments; plans = without place f.homeward.plans } } → HomeStep session f place p g place q
   delivered g q e sends same = stepped g taken_out place q same (record { way = refl; peering = refl; seq_first = refl; ack_first = refl }) refl (after_at (Delivered false) true e refl) (next_at (Delivered false) true e refl)
       (λ t. subst (λ (es : List FarEvent). Did session f p t es g q t) (events_at (Delivered false) e) (passes g q false f.pointer.0 taken_out keeps.pointer sends same refl t))
 
   -- a copy goes astray
-  pub copied : (g : Fields) (q : Post (Item C)) → act_in x ≡ Copied → SendsHome f.homeward place 0 x.pointed.0 p q
+  pub copied : (g : Fields) (q : Post (Item C)) → act_in x ≡ Copied → SendsHome f.homeward place false x.pointed.0 p q
       → g ≡ record f { homeward = record f.homeward { segments = without place f.homeward.segments; plans = without place f.homeward.plans } } → HomeStep session f place p g place q
   copied g q e sends same = stepped g taken_out place q same (record { way = refl; peering = refl; seq_first = refl; ack_first = refl }) refl (after_at Copied true e refl) (next_at Copied true e refl)
       (λ t. subst (λ (es : List FarEvent). Did session f p t es g q t) (events_at Copied e)
@@ -227,24 +229,24 @@ module _ {C : Type 0} (f : Fields) (place : ℕ) (p : Post (Item C)) (x : InLink
       → ForEach (λ (session : C → SessionValue). HomeStep session f place p (let g : Fields = record f { homeward = link } in g) (place + 1) p) (let g : Fields = record f { homeward = link } in g)
   stay_each act same = for_each _ _ (λ session. stays session f place p x keeps is with_link act (ap (λ (l : LinkValue). let g : Fields = record f { homeward = l } in g) same)) (λ session h. h.keeps)
 
-  pub lost_each : (q : Post (Item C)) → act_in x ≡ Lost → place < length f.homeward.segments → WroteOne p 22 0 place 0 [] q → link ≡ record f.homeward { segments = without place f.homeward.segments; plans = without place f.homeward.plans }
+  pub lost_each : (q : Post (Item C)) → act_in x ≡ Lost → place < length f.homeward.segments → WroteOne p (far_code (Lose Home place)) [] q → link ≡ record f.homeward { segments = without place f.homeward.segments; plans = without place f.homeward.plans }
       → ForEach (λ (session : C → SessionValue). HomeStep session f place p (let g : Fields = record f { homeward = link } in g) place q) (let g : Fields = record f { homeward = link } in g)
   lost_each q act there wrote same = for_each _ _ (λ session. lost session f place p x keeps is with_link q act there wrote (ap (λ (l : LinkValue). let g : Fields = record f { homeward = l } in g) same)) (λ session h. h.keeps)
 
   pub again_each : (q : Post (Item C)) (g : Segment) → act_in x ≡ Delivered true → IsOn f.homeward g → slice_get f.homeward.segments place ≡ Some (placed f.homeward.seq_first f.homeward.ack_first g)
-      → WroteOne p 20 place 1 f.pointer.0 ((f.pointer.0, items.Seg g) ∷ []) q → link ≡ record f.homeward { plans = slice_set f.homeward.plans place (older x) }
+      → WroteOne p (far_code (Pass place true f.pointer.0)) ((f.pointer.0, items.Seg g) ∷ []) q → link ≡ record f.homeward { plans = slice_set f.homeward.plans place (older x) }
       → ForEach (λ (session : C → SessionValue). HomeStep session f place p (let g : Fields = record f { homeward = link } in g) (place + 1) q) (let g : Fields = record f { homeward = link } in g)
   again_each q g act own at wrote same = for_each _ _ (λ session. delivered_again session f place p x keeps is with_link q act (record { segment = g; own = own; is = at; wrote = wrote })
       (ap (λ (l : LinkValue). let g : Fields = record f { homeward = l } in g) same)) (λ session h. h.keeps)
 
   pub deliver_each : (q : Post (Item C)) (g : Segment) (to : RouterId) → ((act_in x ≡ Delivered false) × (to ≡ f.pointer)) ⊎ ((act_in x ≡ Copied) × (to ≡ x.pointed)) → IsOn f.homeward g → slice_get f.homeward.segments place ≡ Some (placed f.homeward.seq_first f.homeward.ack_first g)
-      → WroteOne p 20 place 0 to.0 ((to.0, items.Seg g) ∷ []) q → link ≡ record f.homeward { segments = without place f.homeward.segments; plans = without place f.homeward.plans }
+      → WroteOne p (far_code (Pass place false to.0)) ((to.0, items.Seg g) ∷ []) q → link ≡ record f.homeward { segments = without place f.homeward.segments; plans = without place f.homeward.plans }
       → ForEach (λ (session : C → SessionValue). HomeStep session f place p (let g : Fields = record f { homeward = link } in g) place q) (let g : Fields = record f { homeward = link } in g)
   deliver_each q g to (inl act) own at wrote same = for_each _ _ (λ session. delivered session f place p x keeps is with_link q act.0
-      (subst (λ (r : RouterId). SendsHome f.homeward place 0 r.0 p q) act.1 (record { segment = g; own = own; is = at; wrote = wrote }))
+      (subst (λ (r : RouterId). SendsHome f.homeward place false r.0 p q) act.1 (record { segment = g; own = own; is = at; wrote = wrote }))
       (ap (λ (l : LinkValue). let g : Fields = record f { homeward = l } in g) same)) (λ session h. h.keeps)
   deliver_each q g to (inr act) own at wrote same = for_each _ _ (λ session. copied session f place p x keeps is with_link q act.0
-      (subst (λ (r : RouterId). SendsHome f.homeward place 0 r.0 p q) act.1 (record { segment = g; own = own; is = at; wrote = wrote }))
+      (subst (λ (r : RouterId). SendsHome f.homeward place false r.0 p q) act.1 (record { segment = g; own = own; is = at; wrote = wrote }))
       (ap (λ (l : LinkValue). let g : Fields = record f { homeward = l } in g) same)) (λ session h. h.keeps)
 
 -- ---- all of them, for every session

@@ -2,7 +2,7 @@
 use Rattle.std.proofs.Common.{◌≡◌, ℕ, zero, suc, ◌+◌, ◌<◌, ◌≤◌, List, [], ◌∷◌, ◌++◌, length, take, drop, map, filter, Some, None, Bool, true, false, refl, sym, ap, ◌∙◌, arith, append_assoc, add-one}
 use Rattle.std.specs.Prelude.{slice_get, slice_set, not, if◌then◌else◌}
 use Rattle.graft_model.specs.FarRows.{without}
-use Rattle.graft_model.specs.Steps.{FarEvent}
+use Rattle.graft_model.specs.declared.event.FarEvent.{FarEvent}
 use Rattle.far_side.specs.Links.{act_in, is_gone, older, left_of, next_place, pass_events}
 use Rattle.far_side.specs.Passes.{plans_after}
 use Rattle.far_side.specs.declared.link.InLink.{InLink}

@@ -7,8 +7,10 @@ use Rattle.tcp_seq.specs.Endpoint.{Endpoint, PlacedSegment, TakesSegment}
 use Rattle.tcp_seq.specs.Placed.{placed}
 use Rattle.tcp_seq.specs.declared.segment.Segment.{Segment}
 use Rattle.session_value.specs.Sessions.{SessionValue}
-use Rattle.graft_model.specs.FarRows.{without, Remoteward}
-use Rattle.graft_model.specs.Steps.{FarEvent, Reach, Lose}
+use Rattle.tcp_seq.specs.declared.segment.Way.TheVariants.{Remote}
+use Rattle.graft_model.specs.FarRows.{without}
+use Rattle.graft_model.specs.declared.event.FarEvent.{FarEvent}
+use Rattle.graft_model.specs.declared.event.FarEvent.TheVariants.{Reach, Lose}
 use Rattle.graft_actors.specs.Emissions.{Tally}
 use Rattle.far_side.specs.Remotes.{RemoteValue}
 use Rattle.far_side.specs.Links.{LinkValue, act_in, is_gone, older, next_place, remote_act, remote_event}
@@ -24,6 +26,7 @@ use Rattle.far_side.proofs.Sessions.{for_each, at_one}
 use Rattle.far_side.proofs.Dids.{did_same, did_then, did_one}
 use Rattle.far_side.proofs.PassLists.{Passed, passed_none, passed_more, passed_all, place_within}
 use Rattle.far_side.proofs.Kept.{keeps_remoteward, keeps_remote}
+use Rattle.graft_model.specs.Codes.{far_code}
 
 same_link : (l : LinkValue) → SameLink l l
 same_link l = record { way = refl; peering = refl; seq_first = refl; ack_first = refl }
@@ -71,34 +74,34 @@ module _ {C : Type 0} (session : C → SessionValue) (f : Fields) (place : ℕ) 
       (λ t. subst (λ (es : List FarEvent). Did session f p t es g p t) (events_at Stays e) (did_same session f g p t (ap (λ (h : Fields). h.known.setup) same) (ap (λ (h : Fields). h.peering) same) (ap far_part same)))
 
   -- it is lost
-  pub lost : (g : Fields) (q : Post (Item C)) → act_in x ≡ Lost → place < length f.remoteward.segments → WroteOne p 22 1 place 0 [] q
+  pub lost : (g : Fields) (q : Post (Item C)) → act_in x ≡ Lost → place < length f.remoteward.segments → WroteOne p (far_code (Lose Remote place)) [] q
       → g ≡ record f { remoteward = record f.remoteward { segments = without place f.remoteward.segments; plans = without place f.remoteward.plans } } → RemoteStep session f place p g place q
   lost g q e there wrote same = stepped g f.remote (record f.remoteward { segments = without place f.remoteward.segments; plans = without place f.remoteward.plans }) place q same (same_remote f.remote) (record { way = refl; peering = refl; seq_first = refl; ack_first = refl }) refl (after_at Lost true e refl) (next_at Lost true e refl)
       (λ t. subst (λ (es : List FarEvent). Did session f p t es g q t) (events_at Lost e)
-      (did_one session f g p q t (Lose Remoteward place) 22 1 place 0 (ap (λ (h : Fields). h.known.setup) same) (ap (λ (h : Fields). h.peering) same) wrote (record { kind = refl; a = refl; b = refl; c = refl })
+      (did_one session f g p q t (Lose Remote place) (ap (λ (h : Fields). h.known.setup) same) (ap (λ (h : Fields). h.peering) same) wrote
       (record { there = there; takes = refl; sends = refl; effect = ap far_part same }) tt))
 
   -- it reaches the remote and stays
-  pub reached_again : (g : Fields) (r : RemoteValue) (q : Post (Item C)) → act_in x ≡ Delivered true → WroteOne p 21 place 1 0 [] q → Arrives f.remoteward place f.remote r
+  pub reached_again : (g : Fields) (r : RemoteValue) (q : Post (Item C)) → act_in x ≡ Delivered true → WroteOne p (far_code (Reach place true)) [] q → Arrives f.remoteward place f.remote r
       → g ≡ record f { remote = r; remoteward = record f.remoteward { plans = slice_set f.remoteward.plans place (older x) } } → RemoteStep session f place p g (place + 1) q
   reached_again g r q e wrote arrives same = stepped g r (record f.remoteward { plans = slice_set f.remoteward.plans place (older x) }) (place + 1) q same (arrived f.remoteward place f.remote r arrives) (record { way = refl; peering = refl; seq_first = refl; ack_first = refl }) refl (after_at (Delivered true) false e refl) (next_at (Delivered true) false e refl)
       (λ t. subst (λ (es : List FarEvent). Did session f p t es g q t) (events_at (Delivered true) e)
-      (did_one session f g p q t (Reach place true) 21 place 1 0 (ap (λ (h : Fields). h.known.setup) same) (ap (λ (h : Fields). h.peering) same) wrote (record { kind = refl; a = refl; b = refl; c = refl })
+      (did_one session f g p q t (Reach place true) (ap (λ (h : Fields). h.known.setup) same) (ap (λ (h : Fields). h.peering) same) wrote
       (record { segment = arrives.segment; there = arrives.is; end = r.end; arrives = arrives.takes; takes = refl; sends = refl; effect = ap far_part same }) tt))
 
   -- it reaches the remote for the last time
-  reached_by : (act : Act) (g : Fields) (r : RemoteValue) (q : Post (Item C)) → act_in x ≡ act → is_gone act ≡ true → remote_act place act ≡ Reach place false ∷ [] → WroteOne p 21 place 0 0 [] q → Arrives f.remoteward place f.remote r
+  reached_by : (act : Act) (g : Fields) (r : RemoteValue) (q : Post (Item C)) → act_in x ≡ act → is_gone act ≡ true → remote_act place act ≡ Reach place false ∷ [] → WroteOne p (far_code (Reach place false)) [] q → Arrives f.remoteward place f.remote r
       → g ≡ record f { remote = r; remoteward = record f.remoteward { segments = without place f.remoteward.segments; plans = without place f.remoteward.plans } } → RemoteStep session f place p g place q
   reached_by act g r q e gone event wrote arrives same = stepped g r (record f.remoteward { segments = without place f.remoteward.segments; plans = without place f.remoteward.plans }) place q same (arrived f.remoteward place f.remote r arrives) (record { way = refl; peering = refl; seq_first = refl; ack_first = refl }) refl (after_at act true e gone) (next_at act true e gone)
       (λ t. subst (λ (es : List FarEvent). Did session f p t es g q t) (sym event ∙ events_at act e)
-      (did_one session f g p q t (Reach place false) 21 place 0 0 (ap (λ (h : Fields). h.known.setup) same) (ap (λ (h : Fields). h.peering) same) wrote (record { kind = refl; a = refl; b = refl; c = refl })
+      (did_one session f g p q t (Reach place false) (ap (λ (h : Fields). h.known.setup) same) (ap (λ (h : Fields). h.peering) same) wrote
       (record { segment = arrives.segment; there = arrives.is; end = r.end; arrives = arrives.takes; takes = refl; sends = refl; effect = ap far_part same }) tt))
 
-  pub reached : (g : Fields) (r : RemoteValue) (q : Post (Item C)) → act_in x ≡ Delivered false → WroteOne p 21 place 0 0 [] q → Arrives f.remoteward place f.remote r
+  pub reached : (g : Fields) (r : RemoteValue) (q : Post (Item C)) → act_in x ≡ Delivered false → WroteOne p (far_code (Reach place false)) [] q → Arrives f.remoteward place f.remote r
       → g ≡ record f { remote = r; remoteward = record f.remoteward { segments = without place f.remoteward.segments; plans = without place f.remoteward.plans } } → RemoteStep session f place p g place q
   reached g r q e wrote arrives same = reached_by (Delivered false) g r q e refl refl wrote arrives same
 
-  pub reached_late : (g : Fields) (r : RemoteValue) (q : Post (Item C)) → act_in x ≡ Copied → WroteOne p 21 place 0 0 [] q → Arrives f.remoteward place f.remote r
+  pub reached_late : (g : Fields) (r : RemoteValue) (q : Post (Item C)) → act_in x ≡ Copied → WroteOne p (far_code (Reach place false)) [] q → Arrives f.remoteward place f.remote r
       → g ≡ record f { remote = r; remoteward = record f.remoteward { segments = without place f.remoteward.segments; plans = without place f.remoteward.plans } } → RemoteStep session f place p g place q
   reached_late g r q e wrote arrives same = reached_by Copied g r q e refl refl wrote arrives same
 
@@ -171,17 +174,17 @@ module _ {C : Type 0} (f : Fields) (place : ℕ) (p : Post (Item C)) (x : InLink
       → ForEach (λ (session : C → SessionValue). RemoteStep session f place p (let g : Fields = record f { remoteward = link } in g) (place + 1) p) (let g : Fields = record f { remoteward = link } in g)
   stay_each act same = for_each _ _ (λ session. stays session f place p x keeps is _ act (ap (λ (l : LinkValue). let g : Fields = record f { remoteward = l } in g) same)) (λ session h. h.keeps)
 
-  pub lost_each : (q : Post (Item C)) → act_in x ≡ Lost → place < length f.remoteward.segments → WroteOne p 22 1 place 0 [] q → link ≡ record f.remoteward { segments = without place f.remoteward.segments; plans = without place f.remoteward.plans }
+  pub lost_each : (q : Post (Item C)) → act_in x ≡ Lost → place < length f.remoteward.segments → WroteOne p (far_code (Lose Remote place)) [] q → link ≡ record f.remoteward { segments = without place f.remoteward.segments; plans = without place f.remoteward.plans }
       → ForEach (λ (session : C → SessionValue). RemoteStep session f place p (let g : Fields = record f { remoteward = link } in g) place q) (let g : Fields = record f { remoteward = link } in g)
   lost_each q act there wrote same = for_each _ _ (λ session. lost session f place p x keeps is _ q act there wrote (ap (λ (l : LinkValue). let g : Fields = record f { remoteward = l } in g) same)) (λ session h. h.keeps)
 
-  pub again_each : (q : Post (Item C)) (r : RemoteValue) (g : Segment) → act_in x ≡ Delivered true → WroteOne p 21 place 1 0 [] q → slice_get f.remoteward.segments place ≡ Some (placed f.remoteward.seq_first f.remoteward.ack_first g)
+  pub again_each : (q : Post (Item C)) (r : RemoteValue) (g : Segment) → act_in x ≡ Delivered true → WroteOne p (far_code (Reach place true)) [] q → slice_get f.remoteward.segments place ≡ Some (placed f.remoteward.seq_first f.remoteward.ack_first g)
       → TakesSegment f.remote.end (placed f.remote.receive_first f.remote.send_first g) r.end → r ≡ record f.remote { end = r.end } → link ≡ record f.remoteward { plans = slice_set f.remoteward.plans place (older x) }
       → ForEach (λ (session : C → SessionValue). RemoteStep session f place p (let g : Fields = record f { remote = r; remoteward = link } in g) (place + 1) q) (let g : Fields = record f { remote = r; remoteward = link } in g)
   again_each q r g act wrote at takes remote same = for_each _ _ (λ session. reached_again session f place p x keeps is _ r q act wrote (reaches f place r g keeps at takes remote)
       (ap (λ (l : LinkValue). let h : Fields = record f { remote = r; remoteward = l } in h) same)) (λ session h. h.keeps)
 
-  pub reach_each : (q : Post (Item C)) (r : RemoteValue) (g : Segment) → (act_in x ≡ Delivered false) ⊎ (act_in x ≡ Copied) → WroteOne p 21 place 0 0 [] q → slice_get f.remoteward.segments place ≡ Some (placed f.remoteward.seq_first f.remoteward.ack_first g)
+  pub reach_each : (q : Post (Item C)) (r : RemoteValue) (g : Segment) → (act_in x ≡ Delivered false) ⊎ (act_in x ≡ Copied) → WroteOne p (far_code (Reach place false)) [] q → slice_get f.remoteward.segments place ≡ Some (placed f.remoteward.seq_first f.remoteward.ack_first g)
       → TakesSegment f.remote.end (placed f.remote.receive_first f.remote.send_first g) r.end → r ≡ record f.remote { end = r.end } → link ≡ record f.remoteward { segments = without place f.remoteward.segments; plans = without place f.remoteward.plans }
       → ForEach (λ (session : C → SessionValue). RemoteStep session f place p (let g : Fields = record f { remote = r; remoteward = link } in g) place q) (let g : Fields = record f { remote = r; remoteward = link } in g)
   reach_each q r g (inl act) wrote at takes remote same = for_each _ _ (λ session. reached session f place p x keeps is _ r q act wrote (reaches f place r g keeps at takes remote)

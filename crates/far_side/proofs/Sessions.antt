@@ -14,6 +14,7 @@ some_session = record {
     identifier = 0;
     remote_as = 0;
     offered = false;
+    unicast = false;
     home_hold = 0;
     remote_address = 0;
     local_address = 0;

@@ -19,7 +19,9 @@ use Rattle.session_value.specs.Cases.{sending}
 use Rattle.graft_model.specs.Setups.{ScriptStep, SayStep, MoveStep, SettleStep, routers_in, peerings_in}
 use Rattle.graft_model.specs.Parts.{FarPart, Seg, PointAt}
 use Rattle.graft_model.specs.FarRows.{FarTaken, OutwardIn, SayIn}
-use Rattle.graft_model.specs.Steps.{FarEvent, Say, Take, Point, far_row}
+use Rattle.graft_model.specs.declared.event.FarEvent.{FarEvent}
+use Rattle.graft_model.specs.declared.event.FarEvent.TheVariants.{Say, Take, Point}
+use Rattle.graft_model.specs.Steps.{far_row}
 use Rattle.graft_model.specs.Codes.{far_code}
 use Rattle.graft_runs.specs.Actors.{ActorName, Router, FarSide, Operator, Thing, number_in, actor_at}
 use Rattle.graft_runs.specs.Makes.{HasCode, taken_by_far}
@@ -30,13 +32,14 @@ use Rattle.graft_actors.proofs.Welcome.{far_segment, far_point, far_say}
 use Rattle.far_side.specs.Remotes.{RemoteValue, IsFor}
 use Rattle.far_side.specs.Says.{bytes_at}
 use Rattle.far_side.specs.Links.{LinkValue, IsOn}
-use Rattle.graft_actors.specs.Notes.{deed_of, WroteOne}
+use Rattle.graft_actors.specs.Notes.{deed_of, WroteOne, dropped}
 use Rattle.far_side.specs.Parts.{far_part, own_part, say_by, Keeps, ForEach}
 use Rattle.far_side.specs.Passes.{fates_in, put_in, plans_put}
 use Rattle.far_side.specs.Takes.{taken_in, Took, TakesIt, IsOther}
 use Rattle.far_side.specs.declared.fields.Fields.{Fields}
 use Rattle.far_side.proofs.Sessions.{for_each}
 use Rattle.far_side.proofs.Kept.{keeps_remoteward, keeps_remote, keeps_pointer}
+use Rattle.graft_model.specs.declared.code.Code.{Code}
 
 -- the places of a segment for the remote
 segment_places : (f : Fields) (s : Segment) → Keeps f → IsFor f.remote s → segment_of f.known.setup s ≡ placed f.remoteward.seq_first f.remoteward.ack_first s
@@ -77,12 +80,12 @@ segment_for f s k is =
 
 module _ {C : Type 0} (session : C → SessionValue) where
   -- one event that takes an item
-  took_one : (f g : Fields) (p q : Post (Item C)) (from kind a : ℕ) (item : Item C) → WroteOne p kind a 0 0 [] q
-      → acts session 0 (own_part f) (deed_of p kind a 0 0 (Some (from, item)) []).entry (Some (from, item)) [] (own_part g)
-      → Took f from item (deed_of p kind a 0 0 (Some (from, item)) [] ∷ []) g → Keeps g → TakesIt session from item f p g q
-  took_one f g p q from kind a item wrote act took keeps = record {
+  took_one : (f g : Fields) (p q : Post (Item C)) (from : ℕ) (code : Code) (item : Item C) → WroteOne p code [] q
+      → acts session 0 (own_part f) (deed_of p code (Some (from, item)) []).entry (Some (from, item)) [] (own_part g)
+      → Took f from item (deed_of p code (Some (from, item)) [] ∷ []) g → Keeps g → TakesIt session from item f p g q
+  took_one f g p q from code item wrote act took keeps = record {
     took = record {
-      deeds = deed_of p kind a 0 0 (Some (from, item)) [] ∷ [];
+      deeds = deed_of p code (Some (from, item)) [] ∷ [];
       wrote = wrote (Some (from, item));
       first = (refl, tt);
       replay = (own_part g, act, refl);
@@ -102,10 +105,10 @@ module _ {C : Type 0} (session : C → SessionValue) where
   }
 
   -- an item that isn't welcome is dropped
-  pub drops : (f : Fields) (p q : Post (Item C)) (from : ℕ) (item : Item C) → Keeps f → WroteOne p 0 0 0 0 [] q → (IsWelcome session (own_part f) from item → ⊥) → TakesIt session from item f p f q
-  drops f p q from item keeps wrote not = took_one f f p q from 0 0 item wrote
+  pub drops : (f : Fields) (p q : Post (Item C)) (from : ℕ) (item : Item C) → Keeps f → WroteOne p dropped [] q → (IsWelcome session (own_part f) from item → ⊥) → TakesIt session from item f p f q
+  drops f p q from item keeps wrote not = took_one f f p q from dropped item wrote
       (record { setup = refl; name = refl; does = inr (record { from = from; item = item; takes = refl; unwelcome = not; kind = refl; a = refl; b = refl; c = refl; sends = refl; stays = refl }) })
-      (took_nothing f from item (deed_of p 0 0 0 0 (Some (from, item)) [] ∷ []) refl refl) keeps
+      (took_nothing f from item (deed_of p dropped (Some (from, item)) [] ∷ []) refl refl) keeps
 
   -- ---- items that aren't welcome
 
@@ -166,19 +169,19 @@ module _ {C : Type 0} (session : C → SessionValue) where
   -- ---- events that take an item
 
   -- by the row of an event that takes this from that actor
-  acts_taking : (f g : Fields) (p : Post (Item C)) (from kind a : ℕ) (item : Item C) (name : ActorName) (took : FarTaken) (event : FarEvent) → from ≡ number_in f.known.setup name → IsWelcome session (own_part f) from item
+  acts_taking : (f g : Fields) (p : Post (Item C)) (from : ℕ) (item : Item C) (name : ActorName) (took : FarTaken) (event : FarEvent) → from ≡ number_in f.known.setup name → IsWelcome session (own_part f) from item
       → taken_by_far took ≡ (name, thing_of session f.known.setup item)
-      → HasCode (far_code event) (deed_of p kind a 0 0 (Some (from, item)) []).entry → far_row f.known.setup f.peering.0 event (far_part f) (Some took) [] (far_part g)
+      → far_row f.known.setup f.peering.0 event (far_part f) (Some took) [] (far_part g)
       → g.known.setup ≡ f.known.setup → g.peering ≡ f.peering
-      → acts session 0 (own_part f) (deed_of p kind a 0 0 (Some (from, item)) []).entry (Some (from, item)) [] (own_part g)
-  acts_taking f g p from kind a item name took event number welcome thing code row setup peering = record {
+      → acts session 0 (own_part f) (deed_of p (far_code event) (Some (from, item)) []).entry (Some (from, item)) [] (own_part g)
+  acts_taking f g p from item name took event number welcome thing row setup peering = record {
     setup = setup;
     name = ap (λ k. FarSide k.0) peering;
     does = inl (record {
       welcome = welcome;
       row = record {
         event = event;
-        coded = code;
+        coded = record { kind = refl; a = refl; b = refl; c = refl };
         took = Some took;
         gave = [];
         holds = row;
@@ -191,15 +194,15 @@ module _ {C : Type 0} (session : C → SessionValue) where
   }
 
   -- a segment goes into the link
-  pub takes_segment : (f g : Fields) (p q : Post (Item C)) (from : ℕ) (s : Segment) → Keeps f → from < routers_in f.known.setup → IsFor f.remote s → WroteOne p 19 from 0 0 [] q
+  pub takes_segment : (f g : Fields) (p q : Post (Item C)) (from : ℕ) (s : Segment) → Keeps f → from < routers_in f.known.setup → IsFor f.remote s → WroteOne p (far_code (Take from)) [] q
       → g ≡ record f { remoteward = put_in f.remoteward f (placed f.remoteward.seq_first f.remoteward.ack_first s) } → TakesIt session from (items.Seg s) f p g q
   takes_segment f g p q from s keeps known fits wrote same =
       let is : IsSegmentOf f.known.setup f.peering.0 Remote s = segment_is f s keeps fits in
       let at : actor_at f.known.setup from ≡ Some (Router from) = there f.known.setup (Router from) known in
       let setup : g.known.setup ≡ f.known.setup = ap (λ (h : Fields). h.known.setup) same in
-      took_one f g p q from 19 from (items.Seg s) wrote
-      (acts_taking f g p from 19 from (items.Seg s) (Router from) (OutwardIn from (Seg (segment_of f.known.setup s))) (Take from) refl ((far_segment session f.known.setup from f.peering.0 (far_part f) s).1 (from, at, is))
-      (ap (λ (way : Way). (Router from, segment_thing way (segment_of f.known.setup s))) (sym is.way)) (record { kind = refl; a = refl; b = refl; c = refl })
+      took_one f g p q from (far_code (Take from)) (items.Seg s) wrote
+      (acts_taking f g p from (items.Seg s) (Router from) (OutwardIn from (Seg (segment_of f.known.setup s))) (Take from) refl ((far_segment session f.known.setup from f.peering.0 (far_part f) s).1 (from, at, is))
+      (ap (λ (way : Way). (Router from, segment_thing way (segment_of f.known.setup s))) (sym is.way))
       (record { segment = segment_of f.known.setup s; takes = refl; sends = refl; effect = ap far_part same ∙ ap (λ (x : PlacedSegment). let v : FarPart = record (far_part f) { remoteward = f.remoteward.segments ++ x ∷ [] } in v) (sym (segment_places f s keeps fits)) })
       setup (ap (λ (h : Fields). h.peering) same))
       (record {
@@ -218,12 +221,12 @@ module _ {C : Type 0} (session : C → SessionValue) where
       (subst Keeps (sym same) (keeps_remoteward f (put_in f.remoteward f (placed f.remoteward.seq_first f.remoteward.ack_first s)) keeps (record { way = refl; peering = refl; seq_first = refl; ack_first = refl })))
 
   -- word of a landing is taken, and followed where it is later
-  pub takes_word : (f g : Fields) (p q : Post (Item C)) (from k : ℕ) → Keeps f → from < routers_in f.known.setup → WroteOne p 23 from 0 0 [] q
+  pub takes_word : (f g : Fields) (p q : Post (Item C)) (from k : ℕ) → Keeps f → from < routers_in f.known.setup → WroteOne p (far_code (Point from)) [] q
       → g ≡ record f { pointer = g.pointer; followed = g.followed } → g.pointer.0 ≡ (if nat_lt f.followed k then from else f.pointer.0) → g.followed ≡ max f.followed k → TakesIt session from (items.PointAt k) f p g q
   takes_word f g p q from k keeps known wrote same pointer followed =
       let at : actor_at f.known.setup from ≡ Some (Router from) = there f.known.setup (Router from) known in
-      took_one f g p q from 23 from (items.PointAt k) wrote
-      (acts_taking f g p from 23 from (items.PointAt k) (Router from) (OutwardIn from (PointAt k)) (Point from) refl ((far_point session f.known.setup from f.peering.0 k (far_part f)).1 (from, at)) refl (record { kind = refl; a = refl; b = refl; c = refl })
+      took_one f g p q from (far_code (Point from)) (items.PointAt k) wrote
+      (acts_taking f g p from (items.PointAt k) (Router from) (OutwardIn from (PointAt k)) (Point from) refl ((far_point session f.known.setup from f.peering.0 k (far_part f)).1 (from, at)) refl
       (record { graft = k; takes = refl; sends = refl; effect = ap far_part same ∙ (λ i. let v : FarPart = record (far_part f) { pointer = pointer i; followed = followed i } in v) })
       (ap (λ (h : Fields). h.known.setup) same) (ap (λ (h : Fields). h.peering) same))
       (record {
@@ -247,11 +250,11 @@ module _ {C : Type 0} (session : C → SessionValue) where
 
   -- a step is said
   pub takes_order : (f g : Fields) (p q : Post (Item C)) (from step : ℕ) (bytes : List ℕ) → Keeps f → from ≡ routers_in f.known.setup + peerings_in f.known.setup → slice_get f.known.setup.steps step ≡ Some (SayStep f.peering.0 bytes) → length f.remote.end.stream + length bytes ≤ 2 ^ 20
-      → WroteOne p 17 step 0 0 [] q → g ≡ record f { remote = record f.remote { end = sending bytes f.remote.end } } → TakesIt session from (items.SayOrder step) f p g q
+      → WroteOne p (far_code (Say step)) [] q → g ≡ record f { remote = record f.remote { end = sending bytes f.remote.end } } → TakesIt session from (items.SayOrder step) f p g q
   takes_order f g p q from step bytes keeps number is room wrote same =
       let at : actor_at f.known.setup from ≡ Some Operator = ap (actor_at f.known.setup) number ∙ at_operator f.known.setup in
-      took_one f g p q from 17 step (items.SayOrder step) wrote
-      (acts_taking f g p from 17 step (items.SayOrder step) Operator (SayIn step) (Say step) number ((far_say session f.known.setup from f.peering.0 step (far_part f)).1 (at, bytes, is, room)) refl (record { kind = refl; a = refl; b = refl; c = refl })
+      took_one f g p q from (far_code (Say step)) (items.SayOrder step) wrote
+      (acts_taking f g p from (items.SayOrder step) Operator (SayIn step) (Say step) number ((far_say session f.known.setup from f.peering.0 step (far_part f)).1 (at, bytes, is, room)) refl
       (record { bytes = bytes; is = is; takes = refl; sends = refl; room = room; effect = ap far_part same })
       (ap (λ (h : Fields). h.known.setup) same) (ap (λ (h : Fields). h.peering) same))
       (record {
@@ -272,56 +275,56 @@ module _ {C : Type 0} (session : C → SessionValue) where
 -- ---- the same for every session
 
 module _ {C : Type 0} (f : Fields) (p q : Post (Item C)) (from : ℕ) (keeps : Keeps f) where
-  drop_each : (item : Item C) → WroteOne p 0 0 0 0 [] q → ((session : C → SessionValue) → IsWelcome session (own_part f) from item → ⊥) → ForEach (λ (session : C → SessionValue). TakesIt session from item f p f q) f
+  drop_each : (item : Item C) → WroteOne p dropped [] q → ((session : C → SessionValue) → IsWelcome session (own_part f) from item → ⊥) → ForEach (λ (session : C → SessionValue). TakesIt session from item f p f q) f
   drop_each item wrote not = record { keeps = keeps; each = λ session. drops session f p q from item keeps wrote (not session) }
 
-  pub drop_other_each : (item : Item C) → IsOther item → WroteOne p 0 0 0 0 [] q → ForEach (λ (session : C → SessionValue). TakesIt session from item f p f q) f
+  pub drop_other_each : (item : Item C) → IsOther item → WroteOne p dropped [] q → ForEach (λ (session : C → SessionValue). TakesIt session from item f p f q) f
   drop_other_each item other wrote = drop_each item wrote (λ session. other_unwelcome session f from item other)
 
   -- a segment that isn't a router's
-  pub drop_from_each : (s : Segment) → f.routers ≤ from → WroteOne p 0 0 0 0 [] q → ForEach (λ (session : C → SessionValue). TakesIt session from (items.Seg s) f p f q) f
+  pub drop_from_each : (s : Segment) → f.routers ≤ from → WroteOne p dropped [] q → ForEach (λ (session : C → SessionValue). TakesIt session from (items.Seg s) f p f q) f
   drop_from_each s past wrote = drop_each (items.Seg s) wrote (λ session. segment_unwelcome session f from s (λ below is. omega (arith, below, past, keeps.routers)))
 
   -- a segment that isn't for the remote
-  pub drop_segment_each : (s : Segment) → (IsFor f.remote s → ⊥) → WroteOne p 0 0 0 0 [] q → ForEach (λ (session : C → SessionValue). TakesIt session from (items.Seg s) f p f q) f
+  pub drop_segment_each : (s : Segment) → (IsFor f.remote s → ⊥) → WroteOne p dropped [] q → ForEach (λ (session : C → SessionValue). TakesIt session from (items.Seg s) f p f q) f
   drop_segment_each s not wrote = drop_each (items.Seg s) wrote (λ session. segment_unwelcome session f from s (λ below is. not (segment_for f s keeps is)))
 
-  pub drop_word_each : (k : ℕ) → f.routers ≤ from → WroteOne p 0 0 0 0 [] q → ForEach (λ (session : C → SessionValue). TakesIt session from (items.PointAt k) f p f q) f
+  pub drop_word_each : (k : ℕ) → f.routers ≤ from → WroteOne p dropped [] q → ForEach (λ (session : C → SessionValue). TakesIt session from (items.PointAt k) f p f q) f
   drop_word_each k past wrote = drop_each (items.PointAt k) wrote (λ session. word_unwelcome session f from k (omega (arith, past, keeps.routers)))
 
   -- an order that isn't the operator's, or says nothing, or has no room
-  pub drop_order_each : (step : ℕ) → from ≢ f.routers + f.peerings → WroteOne p 0 0 0 0 [] q → ForEach (λ (session : C → SessionValue). TakesIt session from (items.SayOrder step) f p f q) f
+  pub drop_order_each : (step : ℕ) → from ≢ f.routers + f.peerings → WroteOne p dropped [] q → ForEach (λ (session : C → SessionValue). TakesIt session from (items.SayOrder step) f p f q) f
   drop_order_each step not wrote = drop_each (items.SayOrder step) wrote (λ session. order_unwelcome session f from step (λ at bytes is room. not (at ∙ (λ i. sym keeps.routers i + sym keeps.peerings i))))
 
   says_is : (step : ℕ) (bytes : List ℕ) → slice_get f.known.setup.steps step ≡ Some (SayStep f.peering.0 bytes) → bytes_at f.says step ≡ Some bytes
   says_is step bytes is = keeps.says step ∙ ap (say_by f.peering.0) is ∙ (let e : (if f.peering.0 == f.peering.0 then Some bytes else None) ≡ Some bytes = ap (λ (b : Bool). if b then Some bytes else None) (let t : (f.peering.0 == f.peering.0) ≡ true = grind (arith, nat_tests) in t) in e)
 
-  pub drop_silent_each : (step : ℕ) → bytes_at f.says step ≡ None → WroteOne p 0 0 0 0 [] q → ForEach (λ (session : C → SessionValue). TakesIt session from (items.SayOrder step) f p f q) f
+  pub drop_silent_each : (step : ℕ) → bytes_at f.says step ≡ None → WroteOne p dropped [] q → ForEach (λ (session : C → SessionValue). TakesIt session from (items.SayOrder step) f p f q) f
   drop_silent_each step none wrote = drop_each (items.SayOrder step) wrote (λ session. order_unwelcome session f from step (λ at bytes is room. (let e : None ≡ Some bytes = sym none ∙ says_is step bytes is in absurd (let x : ⊥ = cc in x))))
 
-  pub drop_long_each : (step : ℕ) (bytes : List ℕ) → bytes_at f.says step ≡ Some bytes → (length f.remote.end.stream + length bytes ≤ 2 ^ 20 → ⊥) → WroteOne p 0 0 0 0 [] q → ForEach (λ (session : C → SessionValue). TakesIt session from (items.SayOrder step) f p f q) f
+  pub drop_long_each : (step : ℕ) (bytes : List ℕ) → bytes_at f.says step ≡ Some bytes → (length f.remote.end.stream + length bytes ≤ 2 ^ 20 → ⊥) → WroteOne p dropped [] q → ForEach (λ (session : C → SessionValue). TakesIt session from (items.SayOrder step) f p f q) f
   drop_long_each step bytes there not wrote = drop_each (items.SayOrder step) wrote (λ session. order_unwelcome session f from step
       (λ at other is room. (let e : Some bytes ≡ Some other = sym there ∙ says_is step other is in let same : bytes ≡ other = cc in not (omega (arith, room, ap (λ (xs : List ℕ). length xs) same)))))
 
-  pub segment_each : (s : Segment) (link : LinkValue) → from < f.routers → IsFor f.remote s → WroteOne p 19 from 0 0 [] q → link ≡ put_in f.remoteward f (placed f.remoteward.seq_first f.remoteward.ack_first s)
+  pub segment_each : (s : Segment) (link : LinkValue) → from < f.routers → IsFor f.remote s → WroteOne p (far_code (Take from)) [] q → link ≡ put_in f.remoteward f (placed f.remoteward.seq_first f.remoteward.ack_first s)
       → ForEach (λ (session : C → SessionValue). TakesIt session from (items.Seg s) f p (let g : Fields = record f { remoteward = link } in g) q) (let g : Fields = record f { remoteward = link } in g)
   segment_each s link known fits wrote same = for_each _ _
       (λ session. takes_segment session f (let g : Fields = record f { remoteward = link } in g) p q from s keeps (omega (arith, known, keeps.routers)) fits wrote (ap (λ (l : LinkValue). let g : Fields = record f { remoteward = l } in g) same))
       (λ session t. t.keeps)
 
   -- word that is followed, and word that isn't
-  pub followed_each : (k : ℕ) (to : RouterId) → to.0 ≡ from → from < f.routers → f.followed < k → WroteOne p 23 from 0 0 [] q
+  pub followed_each : (k : ℕ) (to : RouterId) → to.0 ≡ from → from < f.routers → f.followed < k → WroteOne p (far_code (Point from)) [] q
       → ForEach (λ (session : C → SessionValue). TakesIt session from (items.PointAt k) f p (let g : Fields = record f { pointer = to; followed = k } in g) q) (let g : Fields = record f { pointer = to; followed = k } in g)
   followed_each k to at known later wrote = for_each _ _
       (λ session. takes_word session f (let g : Fields = record f { pointer = to; followed = k } in g) p q from k keeps (omega (arith, known, keeps.routers)) wrote refl (at ∙ sym (ap (λ (b : Bool). if b then from else f.pointer.0) (lt-ltb f.followed k later))) (let e : k ≡ max f.followed k = omega (arith, later) in e))
       (λ session t. t.keeps)
 
-  pub ignored_each : (k : ℕ) → from < f.routers → k ≤ f.followed → WroteOne p 23 from 0 0 [] q → ForEach (λ (session : C → SessionValue). TakesIt session from (items.PointAt k) f p f q) f
+  pub ignored_each : (k : ℕ) → from < f.routers → k ≤ f.followed → WroteOne p (far_code (Point from)) [] q → ForEach (λ (session : C → SessionValue). TakesIt session from (items.PointAt k) f p f q) f
   ignored_each k known old wrote = for_each _ _
       (λ session. takes_word session f f p q from k keeps (omega (arith, known, keeps.routers)) wrote refl (sym (ap (λ (b : Bool). if b then from else f.pointer.0) (le-ltb f.followed k old))) (let e : f.followed ≡ max f.followed k = omega (arith, old) in e))
       (λ session t. t.keeps)
 
-  pub order_each : (step : ℕ) (bytes : List ℕ) (r : RemoteValue) → from ≡ f.routers + f.peerings → bytes_at f.says step ≡ Some bytes → length f.remote.end.stream + length bytes ≤ 2 ^ 20 → WroteOne p 17 step 0 0 [] q → r ≡ record f.remote { end = sending bytes f.remote.end }
+  pub order_each : (step : ℕ) (bytes : List ℕ) (r : RemoteValue) → from ≡ f.routers + f.peerings → bytes_at f.says step ≡ Some bytes → length f.remote.end.stream + length bytes ≤ 2 ^ 20 → WroteOne p (far_code (Say step)) [] q → r ≡ record f.remote { end = sending bytes f.remote.end }
       → ForEach (λ (session : C → SessionValue). TakesIt session from (items.SayOrder step) f p (let g : Fields = record f { remote = r } in g) q) (let g : Fields = record f { remote = r } in g)
   order_each step bytes r at there room wrote same = for_each _ _
       (λ session. takes_order session f (let g : Fields = record f { remote = r } in g) p q from step bytes keeps (at ∙ (λ i. keeps.routers i + keeps.peerings i)) (step_of (slice_get f.known.setup.steps step) (sym (keeps.says step) ∙ there)) room wrote

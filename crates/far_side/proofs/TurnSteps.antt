@@ -6,7 +6,7 @@ use Rattle.tcp_seq.specs.Endpoint.{Endpoint}
 use Rattle.link_bag.specs.declared.plan.Fate.{Fate}
 use Rattle.link_bag.specs.Planned.{fate_in}
 use Rattle.session_value.specs.Sessions.{SessionValue}
-use Rattle.graft_model.specs.Steps.{FarEvent}
+use Rattle.graft_model.specs.declared.event.FarEvent.{FarEvent}
 use Rattle.graft_actors.specs.Emissions.{nothing, Tally, reach_of}
 use Rattle.far_side.specs.Remotes.{RemoteValue}
 use Rattle.far_side.specs.Links.{LinkValue, home_events, remote_events, left_of}

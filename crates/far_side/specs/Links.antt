@@ -6,9 +6,9 @@ use Rattle.tcp_seq.specs.Endpoint.{PlacedSegment, IsInStreams}
 use Rattle.tcp_seq.specs.Placed.{placed}
 use Rattle.tcp_seq.specs.declared.segment.Way.{Way}
 use Rattle.tcp_seq.specs.declared.segment.Segment.{Segment}
-use Rattle.graft_model.specs.FarRows.{Homeward, Remoteward}
-use Rattle.graft_model.specs.Steps as events
-use Rattle.graft_model.specs.Steps.{FarEvent}
+use Rattle.tcp_seq.specs.declared.segment.Way.TheVariants.{Home, Remote}
+use Rattle.graft_model.specs.declared.event.FarEvent.TheVariants as events
+use Rattle.graft_model.specs.declared.event.FarEvent.{FarEvent}
 use Rattle.far_side.specs.declared.link.InLink.{InLink}
 use Rattle.far_side.specs.declared.link.Act.{Act}
 use Rattle.far_side.specs.declared.link.Act.TheVariants.{Stays, Delivered, Copied, Lost}
@@ -60,7 +60,7 @@ abbrev pub home_act : (pointer index : ℕ) → InLink → Act → List FarEvent
 home_act pointer index x Stays = []
 home_act pointer index x (Delivered keep) = events.Pass index keep pointer ∷ []
 home_act pointer index x Copied = events.Pass index false x.pointed.0 ∷ []
-home_act pointer index x Lost = events.Lose Homeward index ∷ []
+home_act pointer index x Lost = events.Lose Home index ∷ []
 
 abbrev pub home_event : (pointer : ℕ) → ℕ → InLink → List FarEvent
 home_event pointer index x = home_act pointer index x (act_in x)
@@ -70,7 +70,7 @@ abbrev pub remote_act : (index : ℕ) → Act → List FarEvent
 remote_act index Stays = []
 remote_act index (Delivered keep) = events.Reach index keep ∷ []
 remote_act index Copied = events.Reach index false ∷ []
-remote_act index Lost = events.Lose Remoteward index ∷ []
+remote_act index Lost = events.Lose Remote index ∷ []
 
 abbrev pub remote_event : ℕ → InLink → List FarEvent
 remote_event index x = remote_act index (act_in x)

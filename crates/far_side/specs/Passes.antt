@@ -1,5 +1,5 @@
 -- The pieces of a far side's turn.
-use Rattle.std.specs.Prelude.{ℕ, zero, suc, ◌≡◌, ◌⊎◌, ◌<◌, ◌≤◌, ◌+◌, ◌%◌, ◌^◌, nat_lt, if◌then◌else◌, false, List, [], ◌∷◌, ◌++◌, length, Some, slice_get, slice_set}
+use Rattle.std.specs.Prelude.{ℕ, zero, suc, ◌≡◌, ◌⊎◌, ◌<◌, ◌≤◌, ◌+◌, ◌%◌, ◌^◌, nat_lt, if◌then◌else◌, false, List, [], ◌∷◌, ◌++◌, length, Some, slice_get, slice_set, Bool}
 use Rattle.ring_net.specs.declared.post.Post.{Post}
 use Rattle.graft_steps.specs.declared.item.Item.{Item}
 use Rattle.graft_steps.specs.declared.item.Item.TheVariants as items
@@ -11,7 +11,8 @@ use Rattle.tcp_seq.specs.Endpoint.{Endpoint, PlacedSegment, TakesSegment, next_l
 use Rattle.tcp_seq.specs.declared.segment.Segment.{Segment}
 use Rattle.session_value.specs.Sessions.{SessionValue}
 use Rattle.graft_model.specs.FarRows.{without}
-use Rattle.graft_model.specs.Steps.{FarEvent, Send, Beat}
+use Rattle.graft_model.specs.declared.event.FarEvent.{FarEvent}
+use Rattle.graft_model.specs.declared.event.FarEvent.TheVariants.{Send, Beat, Pass}
 use Rattle.session_value.specs.Cases.{sending}
 use Rattle.bgp_types.specs.declared.message.Message.TheVariants.{KeepaliveMsg}
 use Rattle.bgp_types.specs.Spelling.{spell}
@@ -23,13 +24,14 @@ use Rattle.far_side.specs.Parts.{Keeps}
 use Rattle.far_side.specs.Turns.{Did}
 use Rattle.far_side.specs.declared.link.InLink.{InLink}
 use Rattle.far_side.specs.declared.fields.Fields.{Fields}
+use Rattle.graft_model.specs.Codes.{far_code}
 
 -- The segment at a place of a link goes to a router: it is the one that was sent.
-pub record SendsHome {C : Type 0} (link : LinkValue) (place keep router : ℕ) (before after : Post (Item C)) : Type 0 where
+pub record SendsHome {C : Type 0} (link : LinkValue) (place : ℕ) (keep : Bool) (router : ℕ) (before after : Post (Item C)) : Type 0 where
   pub segment : Segment
   pub own : IsOn link segment
   pub is : slice_get link.segments place ≡ Some (placed link.seq_first link.ack_first segment)
-  pub wrote : WroteOne before 20 place keep router ((router, items.Seg segment) ∷ []) after
+  pub wrote : WroteOne before (far_code (Pass place keep router)) ((router, items.Seg segment) ∷ []) after
 
 -- what a link keeps of its plans after the one at a place had its turn
 abbrev pub plans_after : ℕ → InLink → List InLink → List InLink

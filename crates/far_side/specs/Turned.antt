@@ -6,7 +6,7 @@ use Rattle.ring_net.specs.declared.post.Post.{Post}
 use Rattle.graft_steps.specs.declared.item.Item.{Item}
 use Rattle.tcp_seq.specs.Endpoint.{Endpoint}
 use Rattle.session_value.specs.Sessions.{SessionValue}
-use Rattle.graft_model.specs.Steps.{FarEvent}
+use Rattle.graft_model.specs.declared.event.FarEvent.{FarEvent}
 use Rattle.graft_actors.specs.Acts.{acts}
 use Rattle.graft_actors.specs.Emissions.{nothing, IsRested}
 use Rattle.far_side.specs.Remotes.{RemoteValue}

@@ -9,20 +9,18 @@ ghost use Rattle.bgp_types.specs.declared.message.Message.TheVariants.{Keepalive
 ghost use Rattle.bgp_types.specs.Spelling.{spell};
 ghost use Rattle.far_side.specs.Remotes.{IsFrom};
 ghost use Rattle.graft_actors.specs.Notes.{WroteOne};
+ghost use Rattle.graft_model.specs.Codes.{far_code};
+ghost use Rattle.graft_model.specs.declared.event.FarEvent.TheVariants.{Send};
 ghost use Rattle.far_side.specs.Parts.{Keeps, ForEach};
 ghost use Rattle.far_side.specs.Passes.{put_in, SentAgain, SentFresh, SentAnswer, Beaten, IsDue};
 
 use crate::fields::Fields;
-use graft_actors::note;
+use graft_actors::note_far;
 use graft_edge::NoMemory;
+use graft_model::FarEvent;
 use graft_steps::Item;
 use ring_net::Post;
 use tcp_seq::Segment;
-
-/// The kinds of the events.
-const SEND: u16 = 18;
-
-const BEAT: u16 = 32;
 
 /// A KEEPALIVE as it is written (RFC 4271, section 4.4).
 const KEEPALIVE: [u8; 19] = [
@@ -42,9 +40,10 @@ fn send<C: Drop>(
     requires keeps { Keeps far.old }
     requires own { IsFrom far.old.remote segment }
     ensures edges { SameEdges post.old post.new }
-    ensures sent { OnOk result (WroteOne post.old 18 from (length segment.bytes) 0 [] post.new × (far.new ≡ record far.old { homeward = put_in far.old.homeward far.old (placed far.old.remote.send_first far.old.remote.receive_first segment) })) }
+    ensures sent { OnOk result (WroteOne post.old (far_code (Send from (length segment.bytes))) [] post.new × (far.new ≡ record far.old { homeward = put_in far.old.homeward far.old (placed far.old.remote.send_first far.old.remote.receive_first segment) })) }
 {
-    note(post, SEND, from, segment.bytes.len() as u32, 0)?;
+    let len = segment.bytes.len() as u32;
+    note_far(post, FarEvent::Send { from, len })?;
     far.homeward.put(segment, &far.plan, far.pointer)
 }
 
@@ -118,7 +117,7 @@ pub(crate) fn beat<C: Drop>(far: &mut Fields, post: &mut Post<Item<C>>) -> Resul
     if !is_due(far) {
         return Ok(());
     }
-    note(post, BEAT, far.turns, 0, 0)?;
+    note_far(post, FarEvent::Beat { round: far.turns })?;
     far.remote.say(&KEEPALIVE)?;
     far.beats += 1;
     far.last_beat = far.turns;

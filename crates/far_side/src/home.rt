@@ -9,15 +9,12 @@ ghost use Rattle.far_side.specs.Passes.{HomeStep, HomePass};
 
 use crate::fields::Fields;
 use crate::link::{Act, InLink};
-use graft_actors::{note, note_sent};
+use graft_actors::{note_far, note_far_sent};
 use graft_edge::{NoMemory, RouterId};
+use graft_model::FarEvent;
 use graft_steps::Item;
 use ring_net::Post;
-
-/// The kinds of the events.
-const PASS: u16 = 20;
-
-const LOSE: u16 = 22;
+use tcp_seq::Way;
 
 /// The segment at a place stays. This and the next three calls answer the place of the next segment.
 fn stay<C: Drop>(
@@ -53,7 +50,9 @@ fn lose<C: Drop>(
     ensures step { IfOk result (λ next. ForEach (λ (session : C → SessionValue). HomeStep session far.old place post.old far.new next post.new) far.new) }
 {
     let _ = far.homeward.len();
-    note(post, LOSE, 0, place as u32, 0)?;
+    let way = Way::Home;
+    let index = place as u32;
+    note_far(post, FarEvent::Lose { way, index })?;
     far.homeward.remove(place);
     Ok(place)
 }
@@ -75,15 +74,12 @@ fn deliver_again<C: Drop>(
     let _ = far.homeward.len();
     let segment = far.homeward.deliver(place)?;
     let to = far.pointer.0;
-    note_sent(
-        post,
-        PASS,
-        place as u32,
-        1,
-        to as u32,
-        to as usize,
-        Item::Seg(segment),
-    )?;
+    let passed = FarEvent::Pass {
+        index: place as u32,
+        keep: true,
+        router: to as u32,
+    };
+    note_far_sent(post, passed, to as usize, Item::Seg(segment))?;
     far.homeward.keep(place)?;
     Ok(place + 1)
 }
@@ -106,15 +102,12 @@ fn deliver<C: Drop>(
 {
     let _ = far.homeward.len();
     let segment = far.homeward.remove(place);
-    note_sent(
-        post,
-        PASS,
-        place as u32,
-        0,
-        to.0 as u32,
-        to.0 as usize,
-        Item::Seg(segment),
-    )?;
+    let passed = FarEvent::Pass {
+        index: place as u32,
+        keep: false,
+        router: to.0 as u32,
+    };
+    note_far_sent(post, passed, to.0 as usize, Item::Seg(segment))?;
     Ok(place)
 }
 

@@ -9,15 +9,12 @@ ghost use Rattle.far_side.specs.Passes.{RemoteStep, RemotePass};
 
 use crate::fields::Fields;
 use crate::link::{Act, InLink};
-use graft_actors::note;
+use graft_actors::note_far;
 use graft_edge::NoMemory;
+use graft_model::FarEvent;
 use graft_steps::Item;
 use ring_net::Post;
-
-/// The kinds of the events.
-const REACH: u16 = 21;
-
-const LOSE: u16 = 22;
+use tcp_seq::Way;
 
 /// The segment at a place stays. This and the next three calls answer the place of the next segment.
 fn stay<C: Drop>(
@@ -53,7 +50,9 @@ fn lose<C: Drop>(
     ensures step { IfOk result (λ next. ForEach (λ (session : C → SessionValue). RemoteStep session far.old place post.old far.new next post.new) far.new) }
 {
     let _ = far.remoteward.len();
-    note(post, LOSE, 1, place as u32, 0)?;
+    let way = Way::Remote;
+    let index = place as u32;
+    note_far(post, FarEvent::Lose { way, index })?;
     far.remoteward.remove(place);
     Ok(place)
 }
@@ -73,7 +72,8 @@ fn reach_again<C: Drop>(
     ensures step { IfOk result (λ next. ForEach (λ (session : C → SessionValue). RemoteStep session far.old place post.old far.new next post.new) far.new) }
 {
     let _ = far.remoteward.len();
-    note(post, REACH, place as u32, 1, 0)?;
+    let index = place as u32;
+    note_far(post, FarEvent::Reach { index, keep: true })?;
     let segment = far.remoteward.deliver(place)?;
     far.remote.arrive(&segment)?;
     far.remoteward.keep(place)?;
@@ -95,7 +95,8 @@ fn reach<C: Drop>(
     ensures step { IfOk result (λ next. ForEach (λ (session : C → SessionValue). RemoteStep session far.old place post.old far.new next post.new) far.new) }
 {
     let _ = far.remoteward.len();
-    note(post, REACH, place as u32, 0, 0)?;
+    let index = place as u32;
+    note_far(post, FarEvent::Reach { index, keep: false })?;
     let segment = far.remoteward.remove(place);
     far.remote.arrive(&segment)?;
     Ok(place)

@@ -9,20 +9,12 @@ ghost use Rattle.far_side.specs.Parts.{Keeps, ForEach};
 ghost use Rattle.far_side.specs.Takes.{TakesIt, IsOther};
 
 use crate::fields::Fields;
-use graft_actors::note;
+use graft_actors::{note_dropped, note_far};
 use graft_edge::{NoMemory, RouterId};
+use graft_model::FarEvent;
 use graft_steps::Item;
 use ring_net::Post;
 use tcp_seq::Segment;
-
-/// The kinds of the events, and that of an item which is dropped.
-const DROPPED: u16 = 0;
-
-const SAY: u16 = 17;
-
-const TAKE: u16 = 19;
-
-const POINT: u16 = 23;
 
 /// Takes a segment of a router into the link to the remote. It drops one that isn't a router's or isn't for this remote.
 fn take_segment<C: Drop>(
@@ -36,12 +28,13 @@ fn take_segment<C: Drop>(
     ensures took { OnOk result (ForEach (λ (session : C → SessionValue). TakesIt session from (items.Seg segment) far.old post.old far.new post.new) far.new) }
 {
     if from >= far.routers as usize {
-        return note(post, DROPPED, 0, 0, 0);
+        return note_dropped(post);
     }
     if !far.remote.is_for(&segment) {
-        return note(post, DROPPED, 0, 0, 0);
+        return note_dropped(post);
     }
-    note(post, TAKE, from as u32, 0, 0)?;
+    let router = from as u32;
+    note_far(post, FarEvent::Take { router })?;
     far.remoteward.put(segment, &far.plan, far.pointer)
 }
 
@@ -58,9 +51,10 @@ fn take_word<C: Drop>(
     ensures took { OnOk result (ForEach (λ (session : C → SessionValue). TakesIt session from (items.PointAt graft) far.old post.old far.new post.new) far.new) }
 {
     if from >= far.routers as usize {
-        return note(post, DROPPED, 0, 0, 0);
+        return note_dropped(post);
     }
-    note(post, POINT, from as u32, 0, 0)?;
+    let router = from as u32;
+    note_far(post, FarEvent::Point { router })?;
     if far.followed >= graft {
         return Ok(());
     }
@@ -82,15 +76,15 @@ fn take_order<C: Drop>(
     ensures took { OnOk result (ForEach (λ (session : C → SessionValue). TakesIt session from (items.SayOrder step) far.old post.old far.new post.new) far.new) }
 {
     if from != far.routers as usize + far.peerings as usize {
-        return note(post, DROPPED, 0, 0, 0);
+        return note_dropped(post);
     }
     let Some(bytes) = far.says.get(step) else {
-        return note(post, DROPPED, 0, 0, 0);
+        return note_dropped(post);
     };
     if !far.remote.has_room(bytes.len()) {
-        return note(post, DROPPED, 0, 0, 0);
+        return note_dropped(post);
     }
-    note(post, SAY, step, 0, 0)?;
+    note_far(post, FarEvent::Say { step })?;
     far.remote.say(bytes.as_slice())
 }
 
@@ -106,7 +100,7 @@ fn drop_other<C: Drop>(
     ensures edges { SameEdges post.old post.new }
     ensures took { OnOk result (ForEach (λ (session : C → SessionValue). TakesIt session from item far.old post.old far.new post.new) far.new) }
 {
-    note(post, DROPPED, 0, 0, 0)
+    note_dropped(post)
 }
 
 /// Takes an item of the actor of this number.

@@ -11,4 +11,7 @@ pub use laws::{
     acts_are_events, far_sides_take_what_comes, routers_take_what_comes,
     the_operator_takes_what_comes,
 };
-pub use notes::{note, note_sent};
+pub use notes::{
+    note_dropped, note_far, note_far_sent, note_operator, note_operator_sent, note_router,
+    note_router_sent,
+};

@@ -2,16 +2,16 @@
 use Rattle.std.proofs.Common.{◌≡◌, ◌==◌, cond, ℕ, ◌<◌, Bool, true, false, Option, Some, None, refl, ap, ◌∙◌, subst, arith}
 use Rattle.std.proofs.lemmas.Bool.Decides.{nat_tests}
 use Rattle.bgp_types.specs.declared.message.SessionState.{SessionState}
-use Rattle.bgp_types.specs.declared.message.SessionState.TheVariants.{OpenSent, OpenConfirm, Established, Closed}
+use Rattle.bgp_types.specs.declared.message.SessionState.TheVariants.{Established}
 use Rattle.graft_steps.specs.declared.refusal.Refusal.{Refusal}
 use Rattle.graft_steps.specs.declared.refusal.Refusal.TheVariants.{SameRouter}
 use Rattle.graft_steps.specs.Refusals.{freeze_refusal, session_refusal}
 use Rattle.session_value.specs.Sessions.{SessionValue, state, hold_time}
 use Rattle.graft_model.specs.Setups.{Setup, IsSetup, peerings_in}
-use Rattle.graft_model.specs.Parts.{Order, Live, Moved, Back, World}
+use Rattle.graft_model.specs.Parts.{Errand, Live, Moved, Back, World}
 use Rattle.graft_model.specs.Steps.{Heads}
-use Rattle.graft_laws.specs.Phases.{Ordered, Stored, Halted, Moving, Landed, Returning, Declined, Cleared, Phase, Idle, Busy, place_by}
-use Rattle.graft_laws.specs.Life.{Change, Rests, Begins, Admits, Refuses, Freezes, Leaves, Lands, TurnsBack, Returns, Clears, NotesRefusal, NotesSuccess, Puts, Emits, Arrives, Gets, Ticks, Strays, IsToSay, FarActs}
+use Rattle.graft_laws.specs.Phases.{Halted, Moving, Returning, Phase, Busy, place_by}
+use Rattle.graft_laws.specs.Life.{Acts, Change, Freezes, Lands, Returns, Clears, GraftMove, Grafts}
 use Rattle.graft_laws.specs.Keeps.{Reached, Keeps, Has}
 use Rattle.graft_laws.specs.Owned.{is_on, mesh_of}
 use Rattle.graft_laws.proofs.Deeds.{known_mesh}
@@ -28,9 +28,7 @@ UpAway phase s = Unit {0}
 
 established_is : (st : SessionState) (hold : ℕ) → session_refusal st hold ≡ None → st ≡ Established
 established_is Established hold e = refl
-established_is OpenSent hold e = absurd cc
-established_is OpenConfirm hold e = absurd cc
-established_is Closed hold e = absurd cc
+established_is _ hold e = absurd cc
 
 -- what is frozen is established
 frozen_up : (q t : ℕ) (st : SessionState) (hold : ℕ) → freeze_refusal (record { 0 = q }) (record { 0 = t }) st hold ≡ None → st ≡ Established
@@ -40,38 +38,23 @@ frozen_up q t st hold e = by_test (t == q) e where
   by_test false g = established_is st hold g
 
 -- where a session is live, nothing is asked of it
-live_free : (phase : Phase) (s next : SessionValue) (o : Option Order) (r : ℕ) → place_by phase s r ≡ Live s o → UpAway phase next
-live_free (Idle q) s next o r e = tt
-live_free (Busy q k t Ordered) s next o r e = tt
-live_free (Busy q k t Stored) s next o r e = tt
+live_free : (phase : Phase) (s next : SessionValue) (o : Option Errand) (r : ℕ) → place_by phase s r ≡ Live s o → UpAway phase next
 live_free (Busy q k t Halted) s next o r e = absurd (grind (arith, nat_tests))
 live_free (Busy q k t Moving) s next o r e = absurd (grind (arith, nat_tests))
-live_free (Busy q k t Landed) s next o r e = tt
 live_free (Busy q k t (Returning refusal)) s next o r e = absurd (grind (arith, nat_tests))
-live_free (Busy q k t (Declined refusal)) s next o r e = tt
-live_free (Busy q k t Cleared) s next o r e = tt
+live_free _ s next o r e = tt
+
+up_on : {setup : Setup} {w : World} (phase next : Phase) (s : SessionValue) → GraftMove setup w phase s next → UpAway phase s → UpAway next s
+up_on _ _ s (Freezes {q = q} {t = t} no_cause) up = frozen_up q t (state s) (hold_time s) no_cause
+up_on _ _ s Returns up = tt
+up_on _ _ s _ up = up
 
 up_then : (setup : Setup) (w v : World) (p : ℕ) (phase next : Phase) (s t : SessionValue) → Change setup w v p phase s next t → UpAway phase s → UpAway next t
-up_then setup w v p _ _ s _ (Rests line entries) up = up
-up_then setup w v p _ _ s _ (Begins line entries) up = tt
-up_then setup w v p _ _ s _ (Admits line entries) up = tt
-up_then setup w v p _ _ s _ (Refuses cause line entries) up = tt
-up_then setup w v p _ _ s _ (Freezes {q = q} {k = k} {t = t} no_cause line entries) up = frozen_up q t (state s) (hold_time s) no_cause
-up_then setup w v p _ _ s _ (Leaves line entries) up = up
+up_then setup w v p phase next s _ (Grafts move line entries) up = up_on phase next s move up
 up_then setup w v p _ _ s _ (Lands admitted line entries) up = tt
-up_then setup w v p _ _ s _ (TurnsBack cause line entries) up = up
-up_then setup w v p _ _ s _ (Returns line entries) up = tt
 up_then setup w v p _ _ s _ (Clears line entries) up = tt
-up_then setup w v p _ _ s _ (NotesRefusal line entries) up = tt
-up_then setup w v p _ _ s _ (NotesSuccess line entries) up = tt
-up_then setup w v p phase _ s next (Puts r order update live puts line entries) up = live_free phase s next order r live
-up_then setup w v p phase _ s next (Emits r order from len segment end live emits line entries) up = live_free phase s next order r live
-up_then setup w v p phase _ s next (Arrives r order segment end live arrives line entries) up = live_free phase s next order r live
-up_then setup w v p phase _ s next (Gets r order bytes live gets line entries) up = live_free phase s next order r live
-up_then setup w v p phase _ s next (Ticks r order round live passes line entries) up = live_free phase s next order r live
-up_then setup w v p _ _ s _ (Strays r segment line entries) up = up
-up_then setup w v p _ _ s _ (IsToSay step line entries) up = up
-up_then setup w v p _ _ s _ (FarActs event taken sent part row moves entries) up = up
+up_then setup w v p phase _ s next (Acts r errand live act) up = live_free phase s next errand r live
+up_then setup w v p _ _ s _ _ up = up
 
 abbrev IsUpAway : World → ℕ → Phase → SessionValue → Type 0
 IsUpAway w p phase s = UpAway phase s

@@ -5,16 +5,16 @@ use Rattle.session_value.specs.declared.config.SessionConfig.{SessionConfig}
 use Rattle.graft_model.specs.Setups.{Setup, IsSetup, peerings_in}
 use Rattle.graft_model.specs.Parts.{World}
 use Rattle.graft_laws.specs.Phases.{Phase}
-use Rattle.graft_laws.specs.Life.{Change, Puts, Gets, Ticks}
+use Rattle.graft_laws.specs.Life.{Acts, Change, Puts, Gets, Ticks}
 use Rattle.graft_laws.specs.Configs.{IsOwn}
 use Rattle.graft_laws.specs.Keeps.{Reached, Keeps, Has}
 use Rattle.graft_laws.proofs.Runs.{always_has}
 
 -- A worked example of a further invariant: what each change does to it, and one call for all runs.
 pub same_config : {setup : Setup} {w v : World} {p : ℕ} {phase next : Phase} {s t : SessionValue} → Change setup w v p phase s next t → t.config ≡ s.config
-same_config (Puts r order update there puts line entries) = ap (λ (x : SessionValue). x.config) puts.effect
-same_config (Gets r order bytes there gets line entries) = ap (λ (x : SessionValue). x.config) gets.effect
-same_config (Ticks r order round there passes line entries) = ap (λ (x : SessionValue). x.config) passes.effect
+same_config (Acts r errand there (Puts update puts told line entries)) = ap (λ (x : SessionValue). x.config) puts.effect
+same_config (Acts r errand there (Gets bytes gets line entries)) = ap (λ (x : SessionValue). x.config) gets.effect
+same_config (Acts r errand there (Ticks round passes line entries)) = ap (λ (x : SessionValue). x.config) passes.effect
 same_config _ = refl
 
 keeps_own : (setup : Setup) → Keeps setup (IsOwn setup)

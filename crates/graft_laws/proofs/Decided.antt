@@ -1,5 +1,5 @@
 -- What isn't to be decided again has been decided on what the router has.
-use Rattle.std.proofs.Common.{◌≡◌, ◌≢◌, ℕ, zero, suc, Bool, true, false, cond, List, [], ◌∷◌, ◌++◌, Option, None, refl, sym, ap, ◌∙◌, ◌⊎◌, inl, inr}
+use Rattle.std.proofs.Common.{◌≡◌, ◌≢◌, ℕ, Bool, true, false, cond, List, [], ◌∷◌, ◌++◌, Option, None, refl, sym, ap, ◌∙◌, subst, ◌⊎◌, inl, inr}
 use Rattle.std.specs.Prelude.{◌||◌, fold}
 use Rattle.std.specs.List.{cons_option, filter_map, list_any}
 use Rattle.std.specs.FinMap as map
@@ -10,14 +10,16 @@ use Rattle.bgp_types.proofs.OnceLaws.{same_itself}
 use Rattle.decision_core.specs.Choice.{choice, left_of, keep}
 use Rattle.route_policy.specs.declared.best.Best.{Best}
 use Rattle.route_policy.specs.Candidates.{Candidate, own_candidates}
-use Rattle.session_value.specs.Sets.{Prefixes, has, Marks}
+use Rattle.session_value.specs.Sets.{Prefixes, has}
 use Rattle.graft_model.specs.Decisions.{entry_candidate, telling_candidate, chosen}
 use Rattle.graft_model.specs.First.{first_router}
 use Rattle.graft_model.specs.Parts.{RouterPart, Entries, Tellings}
 use Rattle.graft_model.specs.Points.{at}
 use Rattle.graft_model.specs.RouterRows.{RouterTaken, RouterSent}
 use Rattle.graft_model.specs.Setups.{Setup, has_network, peering_numbers, router_numbers, of_router}
-use Rattle.graft_model.specs.Steps.{RouterEvent, Put, Emit, Arrive, Stray, Got, Decide, Tell, Hear, Admit, Refuse, Freeze, Leave, Land, TurnBack, Return, Clear, Tick, router_row}
+use Rattle.graft_model.specs.declared.event.RouterEvent.{RouterEvent}
+use Rattle.graft_model.proofs.Footprints.{OnePeering, Deciding, Telling, Hearing, Staying, Changing, Footprint, footprint}
+use Rattle.graft_model.specs.Steps.{router_row}
 use Rattle.graft_model.specs.TableRows.{Decides, Hears, with_telling}
 use Rattle.graft_laws.specs.Tables.{Decided}
 use Rattle.graft_laws.proofs.PrefixTables.{same, same_is, same_self, one_or_not, has_put, has_removed, get_with, get_telling, none_of}
@@ -66,26 +68,15 @@ best_stays setup r prefix before after taken sent row x which =
 -- ---- the rows
 
 module _ (setup : Setup) (r : ℕ) (before after : RouterPart) (d : Decided setup r before) where
-  -- nothing of it changes
-  unchanged : after.entries ≡ before.entries → after.tellings ≡ before.tellings → after.best ≡ before.best → after.dirty ≡ before.dirty → Decided setup r after
-  unchanged entries tellings best dirty = record {
-    best = λ x clean.
-        ap (λ (t : map.FinMap prefix_cmp Best). map.get t x) best
-        ∙ d.best x (ap (λ (s : Prefixes). has s x) (sym dirty) ∙ clean)
-        ∙ sym (chosen_same setup r after before x (λ p. ap (λ (f : ℕ → Entries). map.get (f p) x) entries) (λ q. ap (λ (f : ℕ → Tellings). map.get (f q) x) tellings));
-  }
-
-  -- other entries of a peering
-  entered : (p : ℕ) (entries : Entries) → after.entries ≡ at before.entries p entries → Marks before.dirty (before.entries p) entries after.dirty → after.tellings ≡ before.tellings → after.best ≡ before.best
-      → Decided setup r after
-  entered p entries is marks tellings best = record {
-    best = λ x clean.
-        let m = marks.others x clean in
-        ap (λ (t : map.FinMap prefix_cmp Best). map.get t x) best
-        ∙ d.best x m.0
-        ∙ sym (chosen_same setup r after before x (λ q. ap (λ (f : ℕ → Entries). map.get (f q) x) is ∙ at_get before.entries p q entries x m.1)
-        (λ q. ap (λ (f : ℕ → Tellings). map.get (f q) x) tellings));
-  }
+  -- one peering changes, with its entries
+  entered : (p : ℕ) → OnePeering p before after → Decided setup r after
+  entered p one = record {
+    best = λ x clean. ap (λ (t : map.FinMap prefix_cmp Best). map.get t x) one.best ∙ d.best x (one.dirty.others x clean).0
+        ∙ sym (chosen_same setup r after before x (λ n. by_number x clean n (cases_eq n p)) (λ q. ap (λ (f : ℕ → Tellings). map.get (f q) x) one.tellings));
+  } where
+    by_number : (x : PrefixValue) → has after.dirty x ≡ false → (n : ℕ) → (n ≡ p) ⊎ (n ≢ p) → map.get (after.entries n) x ≡ map.get (before.entries n) x
+    by_number x clean n (inl is) = subst (λ (m : ℕ). map.get (after.entries m) x ≡ map.get (before.entries m) x) (sym is) (one.dirty.others x clean).1
+    by_number x clean n (inr other) = ap (λ (es : Entries). map.get es x) (one.entries n other)
 
   decides : (prefix : PrefixValue) (taken : Option RouterTaken) (sent : List RouterSent) → Decides setup r prefix before taken sent after → Decided setup r after
   decides prefix taken sent row = record { best = λ x clean. by_prefix x clean (one_or_not x prefix) } where
@@ -126,33 +117,17 @@ module _ (setup : Setup) (r : ℕ) (before after : RouterPart) (d : Decided setu
         let both = none_of (same x row.prefix) (has before.dirty x) (sym (ap (λ (s : Prefixes). has s x) other.1 ∙ has_put before.dirty row.prefix x) ∙ clean) in
         (both.1, get_telling (before.tellings q) row.prefix row.route x ∙ ap (λ (t : Bool). cond t row.route (map.get (before.tellings q) x)) both.0)
 
-  by_effect : (v : RouterPart) → after ≡ v → v.entries ≡ before.entries → v.tellings ≡ before.tellings → v.best ≡ before.best → v.dirty ≡ before.dirty → Decided setup r after
-  by_effect v is a b c e =
-      unchanged (ap (λ (u : RouterPart). u.entries) is ∙ a) (ap (λ (u : RouterPart). u.tellings) is ∙ b) (ap (λ (u : RouterPart). u.best) is ∙ c) (ap (λ (u : RouterPart). u.dirty) is ∙ e)
-
   pub decided_row : (event : RouterEvent) (taken : Option RouterTaken) (sent : List RouterSent) → router_row setup r event before taken sent after → Decided setup r after
-  decided_row (Put p zero) taken sent row = by_effect _ row.effect refl refl refl refl
-  decided_row (Put p (suc n)) taken sent row = by_effect _ row.effect refl refl refl refl
-  decided_row (Emit p from len) taken sent row = by_effect _ row.effect refl refl refl refl
-  decided_row (Arrive p) taken sent row = by_effect _ row.effect refl refl refl refl
-  decided_row (Stray p) taken sent row = by_effect _ row.stays refl refl refl refl
-  decided_row (Got p) taken sent row =
-      entered p (after.entries p) (ap (λ (u : RouterPart). u.entries) row.follows.effect) row.follows.dirty (ap (λ (u : RouterPart). u.tellings) row.follows.effect) (ap (λ (u : RouterPart). u.best) row.follows.effect)
-  decided_row (Decide prefix) taken sent row = decides prefix taken sent row
-  decided_row (Tell q prefix) taken sent row = by_effect _ row.effect refl refl refl refl
-  decided_row (Hear q) taken sent row = hears q taken sent row
-  decided_row (Admit k) taken sent row = by_effect _ row.effect refl refl refl refl
-  decided_row (Refuse k) taken sent row = by_effect _ row.effect refl refl refl refl
-  decided_row (Freeze k) taken sent row = by_effect _ row.effect refl refl refl refl
-  decided_row (Leave k) taken sent row = by_effect _ row.effect refl refl refl refl
-  decided_row (Land q) taken sent row =
-      entered row.comes.peering (after.entries row.comes.peering) (ap (λ (u : RouterPart). u.entries) row.effect) row.dirty (ap (λ (u : RouterPart). u.tellings) row.effect) (ap (λ (u : RouterPart). u.best) row.effect)
-  decided_row (TurnBack q) taken sent row = by_effect _ row.stays refl refl refl refl
-  decided_row (Return q) taken sent row = by_effect _ row.effect refl refl refl refl
-  decided_row (Clear q) taken sent row =
-      entered row.peering map.empty (ap (λ (u : RouterPart). u.entries) row.effect) row.dirty (ap (λ (u : RouterPart). u.tellings) row.effect) (ap (λ (u : RouterPart). u.best) row.effect)
-  decided_row (Tick p round) taken sent row =
-      entered p (after.entries p) (ap (λ (u : RouterPart). u.entries) row.follows.effect) row.follows.dirty (ap (λ (u : RouterPart). u.tellings) row.follows.effect) (ap (λ (u : RouterPart). u.best) row.follows.effect)
+  decided_row event taken sent row = by_print (footprint setup r before after taken sent event row) where
+    by_print : Footprint setup r event before taken sent after → Decided setup r after
+    by_print (Deciding prefix row) = decides prefix taken sent row
+    by_print (Telling q prefix row) = record {
+      best = λ x clean. ap (λ (u : RouterPart). map.get u.best x) row.effect ∙ d.best x (ap (λ (u : RouterPart). has u.dirty x) (sym row.effect) ∙ clean)
+          ∙ sym (chosen_same setup r after before x (λ p. ap (λ (u : RouterPart). map.get (u.entries p) x) row.effect) (λ n. ap (λ (u : RouterPart). map.get (u.tellings n) x) row.effect));
+    }
+    by_print (Hearing q row) = hears q taken sent row
+    by_print (Staying silent is) = subst (Decided setup r) (sym is) d
+    by_print (Changing p silent one change) = entered p one
 
 -- ---- the first world
 

@@ -20,12 +20,12 @@ use Rattle.session_value.specs.Sessions.{SessionValue, peering_of, begun, state}
 use Rattle.session_value.specs.Ties.{IsOfStory}
 use Rattle.route_policy.specs.Candidates.{imported}
 use Rattle.graft_model.specs.Decisions.{entry_of, remote_identifier, session_route}
-use Rattle.graft_model.specs.Parts.{Order, Live, Entries, World}
+use Rattle.graft_model.specs.Parts.{Errand, Live, Entries, World}
 use Rattle.graft_model.specs.RouterRows.{BringsIn, FollowsHeard}
 use Rattle.graft_model.specs.Setups.{Setup, config_of, start_of}
 use Rattle.graft_model.specs.First.{first_world}
-use Rattle.graft_laws.specs.Life.{Change, Rests, Begins, Admits, Refuses, Freezes, Leaves, Lands, TurnsBack, Returns, Clears, NotesRefusal, NotesSuccess, Puts, Emits, Arrives, Gets, Ticks, Strays, IsToSay, FarActs, SameEntries, EntersHeard}
-use Rattle.graft_laws.specs.Phases.{Ordered, Stored, Halted, Moving, Landed, Returning, Declined, Cleared, Phase, Idle, Busy, place_by, InBounds}
+use Rattle.graft_laws.specs.Life.{Acts, Begins, Change, Rests, Lands, Clears, Puts, Emits, Arrives, Gets, Ticks, Strays, IsToSay, FarActs, SameEntries, EntersHeard, GraftMove, Grafts}
+use Rattle.graft_laws.specs.Phases.{Halted, Moving, Returning, Cleared, Phase, Idle, Busy, place_by, InBounds}
 use Rattle.graft_laws.specs.Tables.{has_entries, is_late, Entered}
 use Rattle.graft_laws.proofs.HeardNone.{GoesOn, entry_stays, part_brings}
 
@@ -59,16 +59,11 @@ puts_same s t u puts = record {
 
 -- ---- where a session is live
 
-live_has : (phase : Phase) (s : SessionValue) (o : Option Order) (r : ℕ) → place_by phase s r ≡ Live s o → (has_entries phase r ≡ true) × ((n : ℕ) → n ≢ r → has_entries phase n ≡ false)
-live_has (Idle q) s o r e = (grind (arith, nat_tests), λ n other. grind (arith, nat_tests))
-live_has (Busy q k t Ordered) s o r e = (grind (arith, nat_tests), λ n other. grind (arith, nat_tests))
-live_has (Busy q k t Stored) s o r e = (grind (arith, nat_tests), λ n other. grind (arith, nat_tests))
+live_has : (phase : Phase) (s : SessionValue) (o : Option Errand) (r : ℕ) → place_by phase s r ≡ Live s o → (has_entries phase r ≡ true) × ((n : ℕ) → n ≢ r → has_entries phase n ≡ false)
 live_has (Busy q k t Halted) s o r e = absurd (grind (arith, nat_tests))
 live_has (Busy q k t Moving) s o r e = absurd (grind (arith, nat_tests))
-live_has (Busy q k t Landed) s o r e = (grind (arith, nat_tests), λ n other. grind (arith, nat_tests))
 live_has (Busy q k t (Returning refusal)) s o r e = absurd (grind (arith, nat_tests))
-live_has (Busy q k t (Declined refusal)) s o r e = (grind (arith, nat_tests), λ n other. grind (arith, nat_tests))
-live_has (Busy q k t Cleared) s o r e = (grind (arith, nat_tests), λ n other. grind (arith, nat_tests))
+live_has _ s o r e = (grind (arith, nat_tests), λ n other. grind (arith, nat_tests))
 
 -- ---- sessions that change by themselves
 
@@ -91,6 +86,15 @@ up_unclosed s up closed = let u : is_up Closed ≡ true = ap is_up (sym closed) 
 
 -- ---- changes
 
+-- who has entries, and whose are late, changes only as a session lands or its shadow ends
+same_holder : {setup : Setup} {w : World} {phase next : Phase} {s : SessionValue} → GraftMove setup w phase s next → (r : ℕ) → has_entries next r ≡ has_entries phase r
+same_holder Begins r = refl
+same_holder _ r = refl
+
+same_late : {setup : Setup} {w : World} {phase next : Phase} {s : SessionValue} → GraftMove setup w phase s next → (r : ℕ) → is_late next r ≡ false → is_late phase r ≡ false
+same_late Begins r early = early
+same_late _ r early = early
+
 module _ (setup : Setup) (w v : World) (p : ℕ) where
   entries_in : World → ℕ → Entries
   entries_in u r = (u.router r).entries p
@@ -106,12 +110,8 @@ module _ (setup : Setup) (w v : World) (p : ℕ) where
   rests : (phase : Phase) (s : SessionValue) → SameEntries p w v → Entered setup w p phase s → Entered setup v p phase s
   rests phase s entries is = stays phase phase s s (λ r. refl) (λ r e. e) (record { config = refl; heard = refl; got = refl }) entries is
 
-  moves : (phase next : Phase) (s : SessionValue) → ((r : ℕ) → has_entries next r ≡ has_entries phase r) → ((r : ℕ) → is_late next r ≡ false → is_late phase r ≡ false)
-      → SameEntries p w v → Entered setup w p phase s → Entered setup v p next s
-  moves phase next s has late entries is = stays phase next s s has late (record { config = refl; heard = refl; got = refl }) entries is
-
   -- a live session changes by itself
-  follows : (phase : Phase) (s next : SessionValue) (o : Option Order) (r : ℕ) → place_by phase s r ≡ Live s o → IsOfStory s → state s ≢ Closed → GoesOn s next → EntersHeard setup p r s next w v
+  follows : (phase : Phase) (s next : SessionValue) (o : Option Errand) (r : ℕ) → place_by phase s r ≡ Live s o → IsOfStory s → state s ≢ Closed → GoesOn s next → EntersHeard setup p r s next w v
       → Entered setup w p phase s → Entered setup v p phase next
   follows phase s next o r live story unclosed on enters is =
       let l = live_has phase s o r live in
@@ -130,11 +130,7 @@ module _ (setup : Setup) (w v : World) (p : ℕ) where
 
   changes : (phase next : Phase) (s t : SessionValue) → InBounds setup phase → IsOfStory s → Change setup w v p phase s next t → Entered setup w p phase s → Entered setup v p next t
   changes phase _ s _ bounds story (Rests line entries) is = rests phase s entries is
-  changes _ _ s _ bounds story (Begins {q = q} {k = k} {t = t} line entries) is = moves (Idle q) (Busy q k t Ordered) s (λ r. refl) (λ r e. refl) entries is
-  changes _ _ s _ bounds story (Admits {q = q} {k = k} {t = t} line entries) is = moves (Busy q k t Ordered) (Busy q k t Stored) s (λ r. refl) (λ r e. refl) entries is
-  changes _ _ s _ bounds story (Refuses {q = q} {k = k} {t = t} {refusal = refusal} cause line entries) is = moves (Busy q k t Stored) (Busy q k t (Declined refusal)) s (λ r. refl) (λ r e. refl) entries is
-  changes _ _ s _ bounds story (Freezes {q = q} {k = k} {t = t} cause line entries) is = moves (Busy q k t Stored) (Busy q k t Halted) s (λ r. refl) (λ r e. refl) entries is
-  changes _ _ s _ bounds story (Leaves {q = q} {k = k} {t = t} line entries) is = moves (Busy q k t Halted) (Busy q k t Moving) s (λ r. refl) (λ r e. refl) entries is
+  changes phase next s _ bounds story (Grafts move line entries) is = stays phase next s s (same_holder move) (same_late move) (record { config = refl; heard = refl; got = refl }) entries is
   changes _ _ s _ bounds story (Lands {q = q} {k = k} {t = t} admitted line enters) is = record {
     here = λ r there x. let e : r ≡ t = grind (arith, nat_tests) in subst (λ (m : ℕ). map.get ((v.router m).entries p) x ≡ entry_of setup m s x) (sym e) (enters.here x);
     elsewhere = λ r none early.
@@ -142,8 +138,6 @@ module _ (setup : Setup) (w v : World) (p : ℕ) where
         let old : (r == q) ≡ false = early in
         enters.others r other ∙ is.elsewhere r old refl;
   }
-  changes _ _ s _ bounds story (TurnsBack {q = q} {k = k} {t = t} {refusal = refusal} cause line entries) is = moves (Busy q k t Moving) (Busy q k t (Returning refusal)) s (λ r. refl) (λ r e. refl) entries is
-  changes _ _ s _ bounds story (Returns {q = q} {k = k} {t = t} {refusal = refusal} line entries) is = moves (Busy q k t (Returning refusal)) (Busy q k t (Declined refusal)) s (λ r. refl) (λ r e. refl) entries is
   changes _ _ s _ bounds story (Clears {q = q} {k = k} {t = t} line drops) is = record {
     here = λ r there x.
         let e : r ≡ t = grind (arith, nat_tests) in
@@ -155,13 +149,11 @@ module _ (setup : Setup) (w v : World) (p : ℕ) where
       by_number : (r : ℕ) → has_entries (Busy q k t Cleared) r ≡ false → (r ≡ q) ⊎ (r ≢ q) → (v.router r).entries p ≡ map.empty
       by_number r none (inl e) = ap (λ (m : ℕ). (v.router m).entries p) e ∙ drops.here
       by_number r none (inr other) = drops.others r other ∙ is.elsewhere r none (let f : (r == q) ≡ false = grind (arith, nat_tests) in f)
-  changes _ _ s _ bounds story (NotesRefusal {q = q} {k = k} {t = t} {refusal = refusal} line entries) is = moves (Busy q k t (Declined refusal)) (Idle q) s (λ r. refl) (λ r e. refl) entries is
-  changes _ _ s _ bounds story (NotesSuccess {q = q} {k = k} {t = t} line entries) is = moves (Busy q k t Cleared) (Idle t) s (λ r. refl) (λ r e. refl) entries is
-  changes phase _ s next bounds story (Puts r order update live puts line entries) is = stays phase phase s next (λ n. refl) (λ n e. e) (puts_same s next update puts) entries is
-  changes phase _ s _ bounds story (Emits r order from len segment end live emits line entries) is = stays phase phase s (record s { end = end }) (λ n. refl) (λ n e. e) (record { config = refl; heard = refl; got = refl }) entries is
-  changes phase _ s _ bounds story (Arrives r order segment end live arrives line entries) is = stays phase phase s (record s { end = end }) (λ n. refl) (λ n e. e) (record { config = refl; heard = refl; got = refl }) entries is
-  changes phase _ s next bounds story (Gets r order bytes live gets line enters) is = follows phase s next order r live story gets.unclosed (gets_on s next bytes gets) enters is
-  changes phase _ s next bounds story (Ticks r order round live passes line enters) is = follows phase s next order r live story (up_unclosed s passes.up) (round_on s next round passes) enters is
+  changes phase _ s next bounds story (Acts r errand live (Puts update puts told line entries)) is = stays phase phase s next (λ n. refl) (λ n e. e) (puts_same s next update puts) entries is
+  changes phase _ s _ bounds story (Acts r errand live (Emits from len segment end emits line entries)) is = stays phase phase s (record s { end = end }) (λ n. refl) (λ n e. e) (record { config = refl; heard = refl; got = refl }) entries is
+  changes phase _ s _ bounds story (Acts r errand live (Arrives segment end arrives line entries)) is = stays phase phase s (record s { end = end }) (λ n. refl) (λ n e. e) (record { config = refl; heard = refl; got = refl }) entries is
+  changes phase _ s next bounds story (Acts r errand live (Gets bytes gets line enters)) is = follows phase s next errand r live story gets.unclosed (gets_on s next bytes gets) enters is
+  changes phase _ s next bounds story (Acts r errand live (Ticks round passes line enters)) is = follows phase s next errand r live story (up_unclosed s passes.up) (round_on s next round passes) enters is
   changes phase _ s _ bounds story (Strays r segment line entries) is = rests phase s entries is
   changes phase _ s _ bounds story (IsToSay step line entries) is = rests phase s entries is
   changes phase _ s _ bounds story (FarActs event taken sent part row moved entries) is = rests phase s entries is

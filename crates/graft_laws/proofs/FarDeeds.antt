@@ -13,12 +13,15 @@ use Rattle.graft_model.specs.Setups.{Setup, SayStep, MoveStep, IsSetup, IsStep, 
 use Rattle.graft_model.specs.Parts.{RouterPart, FarPart, OperatorPart, Mesh, Outward, GraftOrder, Report, World}
 use Rattle.graft_model.specs.FarRows.{FarTaken, OutwardIn, SayIn, FarSent}
 use Rattle.graft_model.specs.OperatorRows.{OperatorTaken, ReportIn, OperatorSent, OrderTo, SayTo, OrdersSay, OrdersGraft, Notes, BeginsGroup, placement}
-use Rattle.graft_model.specs.Steps.{FarEvent, far_row, OperatorEvent, Order, Note, Go, operator_row}
+use Rattle.graft_model.specs.declared.event.FarEvent.{FarEvent}
+use Rattle.graft_model.specs.declared.event.OperatorEvent.{OperatorEvent}
+use Rattle.graft_model.specs.declared.event.OperatorEvent.TheVariants.{Order, Note, Go}
+use Rattle.graft_model.specs.Steps.{far_row, operator_row}
 use Rattle.graft_laws.specs.Phases.{Stage, Ordered, Declined, Cleared, Phase, Idle, Busy, only, only2, place_by, mesh_by, orders_by, reports_by}
 use Rattle.graft_laws.specs.Log.{is_of, LogSays}
 use Rattle.graft_laws.specs.Owned.{mesh_of, orders_of, reports_of, Stands, IsAbsent}
 use Rattle.graft_laws.specs.Moves.{FarMoves, OperatorMoves, outward_taken, inward_sent, says_taken, orders_sent, says_sent, reports_taken}
-use Rattle.graft_laws.specs.Life.{SameLine, LineSays, SameEntries, Change, Rests, FarActs, Begins, NotesRefusal, NotesSuccess, IsToSay}
+use Rattle.graft_laws.specs.Life.{Grafts, SameLine, LineSays, SameEntries, Change, Rests, FarActs, Begins, NotesRefusal, NotesSuccess, IsToSay}
 use Rattle.graft_laws.proofs.Phases.{refusal_in, success_in}
 use Rattle.graft_laws.proofs.Others.{SameLog, absent_still, untouched_by_far, untouched_by_operator, still_sent, still_taken}
 use Rattle.graft_laws.proofs.LogOrders.{order_others, order_own}
@@ -173,7 +176,7 @@ module _ (setup : Setup) (w v : World) (n p t : ℕ) (part : OperatorPart) where
       log = subst (λ (o : OperatorPart). LogSays setup o p (Busy source k t Ordered)) (sym m.operator) log;
       bounds = (b.bounds, below, tt);
     };
-    change = Begins (operator_line p w v None (OrderTo source order ∷ []) part m refl) (entries_still p w v m.router);
+    change = Grafts Begins (operator_line p w v None (OrderTo source order ∷ []) part m refl) (entries_still p w v m.router);
   }
 
 graft_each : (setup : Setup) (w v : World) (n : ℕ) (taken : Option OperatorTaken) (sent : List OperatorSent) (part : OperatorPart) → IsSetup setup → OrdersGraft setup n w.operator taken sent part → OperatorMoves taken sent part w v
@@ -228,7 +231,7 @@ module _ (setup : Setup) (w v : World) (p r k : ℕ) (part : OperatorPart) where
         session = s;
         stands = noted_stands r found.0 (Declined refusal) r (Refused refusal) s m (λ x. refl) (λ x. refl) (λ i j. refl) (λ x. refl) own
             (subst (λ (o : OperatorPart). LogSays setup o p (Idle r)) (sym effect) (refused_log setup w.operator p r k found.0 (Declined refusal) refusal was.log)) was.bounds.0 was;
-        change = NotesRefusal (operator_line p w v (Some (ReportIn r (record { graft = k; outcome = Refused refusal }))) [] part m refl) (entries_still p w v m.router);
+        change = Grafts NotesRefusal (operator_line p w v (Some (ReportIn r (record { graft = k; outcome = Refused refusal }))) [] part m refl) (entries_still p w v m.router);
       }) b
   note_own Accepted phase s effect own m b =
       let found = success_in phase r k _ (own_head (λ (o : Report). is_of setup p o.graft) (w.reports r) m.heads.rest (record { graft = k; outcome = Accepted }) m.heads.is own ∙ b.reports r) in
@@ -237,7 +240,7 @@ module _ (setup : Setup) (w v : World) (p r k : ℕ) (part : OperatorPart) where
         session = s;
         stands = noted_stands r found.0 Cleared found.0 Accepted s m (λ x. refl) (λ x. refl) (λ i j. refl) (λ x. refl) own
             (subst (λ (o : OperatorPart). LogSays setup o p (Idle found.0)) (sym effect) (accepted_log setup w.operator p r k found.0 Cleared was.log)) was.bounds.1 was;
-        change = NotesSuccess (operator_line p w v (Some (ReportIn r (record { graft = k; outcome = Accepted }))) [] part m refl) (entries_still p w v m.router);
+        change = Grafts NotesSuccess (operator_line p w v (Some (ReportIn r (record { graft = k; outcome = Accepted }))) [] part m refl) (entries_still p w v m.router);
       }) b
 
 note_each : (setup : Setup) (w v : World) (r : ℕ) (taken : Option OperatorTaken) (sent : List OperatorSent) (part : OperatorPart) → Notes r w.operator taken sent part → OperatorMoves taken sent part w v → Each setup w v

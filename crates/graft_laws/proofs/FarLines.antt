@@ -12,8 +12,12 @@ use Rattle.session_value.specs.Cases.{sending}
 use Rattle.graft_model.specs.Points.{at}
 use Rattle.graft_model.specs.Setups.{Setup}
 use Rattle.graft_model.specs.Parts.{FarPart, Outward, Seg, World}
-use Rattle.graft_model.specs.FarRows.{FarTaken, OutwardIn, FarSent, Way, Homeward, Remoteward, without, left_by, Says, Beats, SendsSegment, TakesIn, Passes, Reaches, Loses, TurnsLink}
-use Rattle.graft_model.specs.Steps.{FarEvent, Say, Send, Take, Pass, Reach, Lose, Point, Beat, far_row}
+use Rattle.tcp_seq.specs.declared.segment.Way.{Way}
+use Rattle.tcp_seq.specs.declared.segment.Way.TheVariants.{Home, Remote}
+use Rattle.graft_model.specs.FarRows.{FarTaken, OutwardIn, FarSent, without, left_by, Says, Beats, SendsSegment, TakesIn, Passes, Reaches, Loses, TurnsLink}
+use Rattle.graft_model.specs.declared.event.FarEvent.{FarEvent}
+use Rattle.graft_model.specs.declared.event.FarEvent.TheVariants.{Say, Send, Take, Pass, Reach, Lose, Point, Beat}
+use Rattle.graft_model.specs.Steps.{far_row}
 use Rattle.graft_laws.specs.Moves.{outward_taken, inward_sent, FarMoves}
 use Rattle.graft_laws.specs.Phases.{only2}
 use Rattle.graft_laws.specs.Streams.{IsOutwardOf, Streams}
@@ -144,9 +148,9 @@ module _ (w : World) (p : ℕ) (x : Endpoint) (s : Streams w p x) where
       (takes_linked far.end row.end x row.segment back his row.arrives) refl refl (all_left_by (IsEmittedBy x) keep index far.remoteward s.remoteward))
 
   loses_fits : (way : Way) (index : ℕ) (taken : Option FarTaken) (sent : List FarSent) (part : FarPart) → Loses way index far taken sent part → Fits far x part
-  loses_fits Homeward index taken sent part row =
+  loses_fits Home index taken sent part row =
       subst (Fits far x) (sym row.effect) (link_fits (record far { homeward = without index far.homeward }) refl s.remoteward (all_without (IsEmittedBy far.end) index far.homeward s.homeward))
-  loses_fits Remoteward index taken sent part row =
+  loses_fits Remote index taken sent part row =
       subst (Fits far x) (sym row.effect) (link_fits (record far { remoteward = without index far.remoteward }) refl (all_without (IsEmittedBy x) index far.remoteward s.remoteward) s.homeward)
 
   turns_fits : (router : ℕ) (taken : Option FarTaken) (sent : List FarSent) (part : FarPart) → TurnsLink router far taken sent part → Fits far x part

@@ -10,11 +10,14 @@ use Rattle.bgp_wire.proofs.OctetLaws.{AreOctets-append}
 use Rattle.tcp_seq.specs.Endpoint.{received, received_bytes}
 use Rattle.session_value.specs.Sessions.{SessionValue, unread}
 use Rattle.session_value.proofs.Ties.{emits_same, takes_same}
-use Rattle.graft_model.specs.FarRows.{FarTaken, FarSent, Homeward, Remoteward}
+use Rattle.tcp_seq.specs.declared.segment.Way.TheVariants.{Home, Remote}
+use Rattle.graft_model.specs.FarRows.{FarTaken, FarSent}
 use Rattle.graft_model.specs.First.{first_far}
-use Rattle.graft_model.specs.Parts.{Order, Live, FarPart, World}
+use Rattle.graft_model.specs.Parts.{Errand, Live, FarPart, World}
 use Rattle.graft_model.specs.Setups.{Setup, PeeringSetup, IsSetup, peerings_in}
-use Rattle.graft_model.specs.Steps.{Event, ByRouter, ByFar, ByOperator, FarEvent, Say, Send, Take, Pass, Reach, Lose, Point, Beat, Step, far_row}
+use Rattle.graft_model.specs.declared.event.FarEvent.{FarEvent}
+use Rattle.graft_model.specs.declared.event.FarEvent.TheVariants.{Say, Send, Take, Pass, Reach, Lose, Point, Beat}
+use Rattle.graft_model.specs.Steps.{Event, ByRouter, ByFar, ByOperator, Step, far_row}
 use Rattle.graft_laws.specs.Keeps.{Reached, Has}
 use Rattle.graft_laws.specs.Ranges.{IsInRange}
 use Rattle.graft_laws.specs.Streams.{IsUnbroken}
@@ -53,8 +56,8 @@ module _ (setup : Setup) (ranges : IsInRange setup) where
   row_keeps p (Pass index keep router) before taken sent part row octets = same before part (ap (λ (f : FarPart). f.end.stream) row.effect) octets
   row_keeps p (Reach index keep) before taken sent part row octets =
       same before part (ap (λ (f : FarPart). f.end.stream) row.effect ∙ (takes_same before.end row.segment row.end row.arrives).stream) octets
-  row_keeps p (Lose Homeward index) before taken sent part row octets = same before part (ap (λ (f : FarPart). f.end.stream) row.effect) octets
-  row_keeps p (Lose Remoteward index) before taken sent part row octets = same before part (ap (λ (f : FarPart). f.end.stream) row.effect) octets
+  row_keeps p (Lose Home index) before taken sent part row octets = same before part (ap (λ (f : FarPart). f.end.stream) row.effect) octets
+  row_keeps p (Lose Remote index) before taken sent part row octets = same before part (ap (λ (f : FarPart). f.end.stream) row.effect) octets
   row_keeps p (Point router) before taken sent part row octets = same before part (ap (λ (f : FarPart). f.end.stream) row.effect) octets
 
   abbrev AllSayOctets : World → Type 0
@@ -75,7 +78,7 @@ module _ (setup : Setup) (ranges : IsInRange setup) where
   always_octets w reached = carried setup AllSayOctets (λ p. first_octets p (slice_get setup.peerings p) refl) then_octets w reached
 
   -- what a live session hasn't got yet are octets
-  pub unread_octets : (w : World) → IsSetup setup → Reached setup w → (r p : ℕ) (s : SessionValue) (o : Option Order) → (w.router r).places p ≡ Live s o → AreOctets (unread s)
+  pub unread_octets : (w : World) → IsSetup setup → Reached setup w → (r p : ℕ) (s : SessionValue) (o : Option Errand) → (w.router r).places p ≡ Live s o → AreOctets (unread s)
   unread_octets w sound reached r p s o live =
       let below : p < peerings_in setup = known_place setup w (always_owned setup sound w reached) r p (Live s o) live (λ e. cc) in
       let has : Has setup (IsUnbroken setup) w p = always_unbroken setup w p sound reached below in

@@ -1,8 +1,9 @@
 -- What routers hold, tell and hand on can be written.
-use Rattle.std.proofs.Common.{◌≡◌, ℕ, zero, suc, Bool, true, false, cond, List, [], ◌∷◌, ◌++◌, Option, Some, None, refl, sym, ap, ◌∙◌, subst, inl, inr}
+use Rattle.std.proofs.Common.{◌≡◌, ℕ, Bool, true, false, cond, List, [], ◌∷◌, ◌++◌, Option, Some, None, refl, sym, ap, ◌∙◌, subst, inl, inr}
 use Rattle.std.specs.Prelude.{fold, option_map, is_some}
 use Rattle.std.specs.FinMap as map
 use Rattle.std.specs.List.{AllByRecursion, cons_option, filter_map}
+use Rattle.std.proofs.lemmas.Bool.{cases_eq}
 use Rattle.std.proofs.lemmas.Option.{same_Some}
 use Rattle.bgp_types.specs.declared.attrs.Route.{Route}
 use Rattle.bgp_types.specs.declared.rank.From.{From}
@@ -18,11 +19,12 @@ use Rattle.route_policy.specs.declared.best.Best.{Best}
 use Rattle.route_policy.specs.declared.entry.Entry.{Entry}
 use Rattle.session_value.specs.Sessions.{SessionValue, unread}
 use Rattle.graft_model.specs.Decisions.{chosen, entry_candidate, telling_candidate}
-use Rattle.graft_model.specs.Parts.{Order, Place, Vacant, Live, Frozen, Shadow, RouterPart, Entries, Tellings, Mesh, Told, Moved, Back, Done}
-use Rattle.graft_model.specs.Points.{at}
+use Rattle.graft_model.specs.Parts.{Errand, Place, Vacant, Live, Frozen, Shadow, RouterPart, Entries, Tellings, Mesh, Told, Moved, Back, Done}
 use Rattle.graft_model.specs.RouterRows.{RouterTaken, MeshIn, RouterSent, MeshTo, OutwardTo, ReportOut, BringsIn, FollowsHeard, Follows}
 use Rattle.graft_model.specs.Setups.{Setup, has_network, peering_numbers, router_numbers}
-use Rattle.graft_model.specs.Steps.{RouterEvent, Put, Emit, Arrive, Stray, Got, Decide, Tell, Hear, Admit, Refuse, Freeze, Leave, Land, TurnBack, Return, Clear, Tick, router_row}
+use Rattle.graft_model.specs.declared.event.RouterEvent.{RouterEvent}
+use Rattle.graft_model.proofs.Footprints.{Carries, Holds, HoldsNone, SendsNoTelling, OnePeering, ByItself, ByFrame, ByRound, PeeringChange, Keeping, PuttingNothing, PuttingSome, Following, Emptying, Reviving, Deciding, Telling, Hearing, Staying, Changing, Footprint, footprint}
+use Rattle.graft_model.specs.Steps.{router_row}
 use Rattle.graft_model.specs.TableRows.{Decides, Hears, with_telling}
 use Rattle.graft_laws.specs.Ranges.{IsInRange}
 use Rattle.graft_laws.proofs.HeardSendable.{IsFine, gets_fine, passes_fine}
@@ -96,6 +98,24 @@ pub record Finely (after : RouterPart) (sent : List RouterSent) : Type 0 where
 pub no_entries : AreFineEntries map.empty
 no_entries x entry e = let f : ◌≡◌ {A = Bool} false true = ap is_some (sym (map.get-empty prefix_cmp x) ∙ e) in absurd cc
 
+held_fine : (place : Place) (s : SessionValue) → Holds place s → IsFine s → IsFinePlace place
+held_fine Vacant s holds own = tt
+held_fine (Live t errand) s holds own = subst IsFine (sym holds) own
+held_fine (Frozen t order) s holds own = subst IsFine (sym holds) own
+held_fine (Shadow graft) s holds own = tt
+
+none_fine : (place : Place) → HoldsNone place → IsFinePlace place
+none_fine Vacant none = tt
+none_fine (Live t errand) none = absurd (none t refl)
+none_fine (Frozen t order) none = absurd (none t refl)
+none_fine (Shadow graft) none = tt
+
+carried_fine : (item : Mesh) (s : SessionValue) → Carries item s → IsFineItem item → IsFine s
+carried_fine (Told x route) s carries own = absurd carries
+carried_fine (Moved k p t) s carries own = subst IsFine carries own
+carried_fine (Back k p t refusal) s carries own = subst IsFine carries own
+carried_fine (Done k p) s carries own = absurd carries
+
 told_item : (x : PrefixValue) (best : Option Best) → ((b : Best) → best ≡ Some b → IsSendable b.route.attrs) → IsFineItem (Told x (tell_in best))
 told_item x None each = tt
 told_item x (Some b) each = by_from b.from where
@@ -139,47 +159,36 @@ module _ (setup : Setup) (ranges : IsInRange setup) (r : ℕ) (before after : Ro
 
   -- ---- the rows
 
-  live_fine : (p : ℕ) (s : SessionValue) (o : Option Order) → before.places p ≡ Live s o → IsFine s
+  live_fine : (p : ℕ) (s : SessionValue) (o : Option Errand) → before.places p ≡ Live s o → IsFine s
   live_fine p s o live = subst IsFinePlace live (fine.places p)
 
-  -- nothing but places and what is due and dirty changes
-  placed : (p : ℕ) (place : Place) → IsFinePlace place → after.places ≡ at before.places p place → after.entries ≡ before.entries → after.tellings ≡ before.tellings → after.best ≡ before.best → IsFinePart after
-  placed p place own places entries tellings best = record {
-    places = λ n. subst (λ (f : ℕ → Place). IsFinePlace (f n)) (sym places) (at_keeps (λ m q. IsFinePlace q) before.places p place own fine.places n);
-    entries = λ n. subst (λ (f : ℕ → Entries). AreFineEntries (f n)) (sym entries) (fine.entries n);
-    tellings = λ q. subst (λ (f : ℕ → Tellings). AreFineTellings (f q)) (sym tellings) (fine.tellings q);
-    best = λ x b e. fine.best x b (ap (λ t. map.get t x) (sym best) ∙ e);
+  -- one peering changes
+  placed : (p : ℕ) → OnePeering p before after → IsFinePlace (after.places p) → AreFineEntries (after.entries p) → IsFinePart after
+  placed p one place entries = record {
+    places = λ n. elim (cases_eq n p) [
+      | inl is ↦ subst (λ (m : ℕ). IsFinePlace (after.places m)) (sym is) place
+      | inr other ↦ subst IsFinePlace (sym (one.places n other)) (fine.places n)
+    ];
+    entries = λ n. elim (cases_eq n p) [
+      | inl is ↦ subst (λ (m : ℕ). AreFineEntries (after.entries m)) (sym is) entries
+      | inr other ↦ subst AreFineEntries (sym (one.entries n other)) (fine.entries n)
+    ];
+    tellings = λ q. subst (λ (f : ℕ → Tellings). AreFineTellings (f q)) (sym one.tellings) (fine.tellings q);
+    best = λ x b e. fine.best x b (ap (λ t. map.get t x) (sym one.best) ∙ e);
   }
 
-  unchanged : after.places ≡ before.places → after.entries ≡ before.entries → after.tellings ≡ before.tellings → after.best ≡ before.best → IsFinePart after
-  unchanged places entries tellings best = record {
-    places = λ n. subst (λ (f : ℕ → Place). IsFinePlace (f n)) (sym places) (fine.places n);
-    entries = λ n. subst (λ (f : ℕ → Entries). AreFineEntries (f n)) (sym entries) (fine.entries n);
-    tellings = λ q. subst (λ (f : ℕ → Tellings). AreFineTellings (f q)) (sym tellings) (fine.tellings q);
-    best = λ x b e. fine.best x b (ap (λ t. map.get t x) (sym best) ∙ e);
-  }
-
-  -- places and entries of one peering change
-  entered : (p : ℕ) (place : Place) (entries : Entries) → IsFinePlace place → AreFineEntries entries → after.places ≡ at before.places p place → after.entries ≡ at before.entries p entries
-      → after.tellings ≡ before.tellings → after.best ≡ before.best → IsFinePart after
-  entered p place entries own brought places is tellings best = record {
-    places = λ n. subst (λ (f : ℕ → Place). IsFinePlace (f n)) (sym places) (at_keeps (λ m q. IsFinePlace q) before.places p place own fine.places n);
-    entries = λ n. subst (λ (f : ℕ → Entries). AreFineEntries (f n)) (sym is) (at_keeps (λ m es. AreFineEntries es) before.entries p entries brought fine.entries n);
-    tellings = λ q. subst (λ (f : ℕ → Tellings). AreFineTellings (f q)) (sym tellings) (fine.tellings q);
-    best = λ x b e. fine.best x b (ap (λ t. map.get t x) (sym best) ∙ e);
-  }
+  -- its entries stay
+  entries_stay : (p : ℕ) → after.entries p ≡ before.entries p → AreFineEntries (after.entries p)
+  entries_stay p same = subst AreFineEntries (sym same) (fine.entries p)
 
   brings : (s : SessionValue) (entries : Entries) → IsFine s → BringsIn setup r s entries → AreFineEntries entries
   brings s entries own is x entry e = entry_sendable setup ranges r s x entry own.remote_as (own.heard x) (sym (is x) ∙ e)
 
-  follows : (p : ℕ) (s next : SessionValue) (o : Option Order) → IsFine next → Follows setup r p before s next o after → IsFinePart after
-  follows p s next o own row =
-      entered p (Live next o) (after.entries p) own (λ x entry e. by_heard x entry e (row.entries x)) (ap (λ (u : RouterPart). u.places) row.effect) (ap (λ (u : RouterPart). u.entries) row.effect)
-      (ap (λ (u : RouterPart). u.tellings) row.effect) (ap (λ (u : RouterPart). u.best) row.effect)
-    where
-      by_heard : (x : PrefixValue) (entry : Entry) → map.get (after.entries p) x ≡ Some entry → FollowsHeard setup r s next (before.entries p) (after.entries p) x → IsFineEntry entry
-      by_heard x entry e (inl stays) = fine.entries p x entry (sym stays.1 ∙ e)
-      by_heard x entry e (inr other) = entry_sendable setup ranges r next x entry own.remote_as (own.heard x) (sym other.1 ∙ e)
+  follows : (p : ℕ) (s next : SessionValue) (o : Option Errand) → IsFine next → Follows setup r p before s next o after → AreFineEntries (after.entries p)
+  follows p s next o own row x entry e = by_heard (row.entries x) where
+    by_heard : FollowsHeard setup r s next (before.entries p) (after.entries p) x → IsFineEntry entry
+    by_heard (inl stays) = fine.entries p x entry (sym stays.1 ∙ e)
+    by_heard (inr other) = entry_sendable setup ranges r next x entry own.remote_as (own.heard x) (sym other.1 ∙ e)
 
   decides : (prefix : PrefixValue) (taken : Option RouterTaken) (sent : List RouterSent) → Decides setup r prefix before taken sent after → Finely after sent
   decides prefix taken sent row = record {
@@ -219,78 +228,48 @@ module _ (setup : Setup) (ranges : IsInRange setup) (r : ℕ) (before after : Ro
     heard : AreFineTellings (with_telling (before.tellings q) row.prefix row.route)
     heard x route e = by_prefix x route (same x row.prefix) (sym (get_telling (before.tellings q) row.prefix row.route x) ∙ e)
 
-  pub fine_row : (event : RouterEvent) (taken : Option RouterTaken) (sent : List RouterSent) → ((p : ℕ) (s : SessionValue) (o : Option Order) → before.places p ≡ Live s o → AreOctets (unread s))
+  itself_fine : (s next : SessionValue) → ByItself s next → AreOctets (unread s) → IsFine s → IsFine next
+  itself_fine s next (ByFrame bytes gets) octets own = gets_fine s next bytes octets gets own
+  itself_fine s next (ByRound round passes) octets own = passes_fine s next round passes own
+
+  pub fine_row : (event : RouterEvent) (taken : Option RouterTaken) (sent : List RouterSent) → ((p : ℕ) (s : SessionValue) (o : Option Errand) → before.places p ≡ Live s o → AreOctets (unread s))
       → IsFineTaken taken → router_row setup r event before taken sent after → Finely after sent
-  fine_row (Put p zero) taken sent octets come row = record {
-    part = unchanged (ap (λ (u : RouterPart). u.places) row.effect) (ap (λ (u : RouterPart). u.entries) row.effect) (ap (λ (u : RouterPart). u.tellings) row.effect) (ap (λ (u : RouterPart). u.best) row.effect);
-    items = subst (AllByRecursion IsFineSent) (sym row.alone.1) tt;
-  }
-  fine_row (Put p (suc n)) taken sent octets come row =
-      let own : IsFine row.session = live_fine p row.session row.order row.live.is in
-      let next : IsFine row.next = subst IsFine (sym row.puts.effect) (record { heard = own.heard; remote_as = own.remote_as }) in
-      record {
-        part = placed p (Live row.next row.order) next (ap (λ (u : RouterPart). u.places) row.effect) (ap (λ (u : RouterPart). u.entries) row.effect) (ap (λ (u : RouterPart). u.tellings) row.effect) (ap (λ (u : RouterPart). u.best) row.effect);
-        items = subst (AllByRecursion IsFineSent) (sym row.alone.1) tt;
-      }
-  fine_row (Emit p from len) taken sent octets come row =
-      let own : IsFine row.session = live_fine p row.session row.order row.live.is in
-      record {
-        part = placed p (Live (record row.session { end = row.end }) row.order) (record { heard = own.heard; remote_as = own.remote_as }) (ap (λ (u : RouterPart). u.places) row.effect) (ap (λ (u : RouterPart). u.entries) row.effect) (ap (λ (u : RouterPart). u.tellings) row.effect) (ap (λ (u : RouterPart). u.best) row.effect);
-        items = subst (AllByRecursion IsFineSent) (sym row.sends) (tt, tt);
-      }
-  fine_row (Arrive p) taken sent octets come row =
-      let own : IsFine row.session = live_fine p row.session row.order row.live.is in
-      record {
-        part = placed p (Live (record row.session { end = row.end }) row.order) (record { heard = own.heard; remote_as = own.remote_as }) (ap (λ (u : RouterPart). u.places) row.effect) (ap (λ (u : RouterPart). u.entries) row.effect) (ap (λ (u : RouterPart). u.tellings) row.effect) (ap (λ (u : RouterPart). u.best) row.effect);
-        items = subst (AllByRecursion IsFineSent) (sym row.sends) tt;
-      }
-  fine_row (Stray p) taken sent octets come row = record { part = subst IsFinePart (sym row.stays) fine; items = subst (AllByRecursion IsFineSent) (sym row.sends) tt }
-  fine_row (Got p) taken sent octets come row = record {
-    part = follows p row.session row.next row.order (gets_fine row.session row.next row.bytes (octets p row.session row.order row.live.is) row.gets (live_fine p row.session row.order row.live.is)) row.follows;
-    items = subst (AllByRecursion IsFineSent) (sym row.alone.1) tt;
-  }
-  fine_row (Decide prefix) taken sent octets come row = decides prefix taken sent row
-  fine_row (Tell q prefix) taken sent octets come row = record {
-    part = unchanged (ap (λ (u : RouterPart). u.places) row.effect) (ap (λ (u : RouterPart). u.entries) row.effect) (ap (λ (u : RouterPart). u.tellings) row.effect) (ap (λ (u : RouterPart). u.best) row.effect);
-    items = subst (AllByRecursion IsFineSent) (sym row.sends) (told_item prefix (map.get before.best prefix) (fine.best prefix), tt);
-  }
-  fine_row (Hear q) taken sent octets come row = hears q taken sent come row
-  fine_row (Admit k) taken sent octets come row = record {
-    part = placed row.peering _ (live_fine row.peering row.session None row.live.is) (ap (λ (u : RouterPart). u.places) row.effect) (ap (λ (u : RouterPart). u.entries) row.effect) (ap (λ (u : RouterPart). u.tellings) row.effect) (ap (λ (u : RouterPart). u.best) row.effect);
-    items = subst (AllByRecursion IsFineSent) (sym row.sends) tt;
-  }
-  fine_row (Refuse k) taken sent octets come row = record {
-    part = placed row.peering _ (live_fine row.peering row.session _ row.live.is) (ap (λ (u : RouterPart). u.places) row.effect) (ap (λ (u : RouterPart). u.entries) row.effect) (ap (λ (u : RouterPart). u.tellings) row.effect) (ap (λ (u : RouterPart). u.best) row.effect);
-    items = subst (AllByRecursion IsFineSent) (sym row.sends) (tt, tt);
-  }
-  fine_row (Freeze k) taken sent octets come row = record {
-    part = placed row.peering _ (live_fine row.peering row.session _ row.live.is) (ap (λ (u : RouterPart). u.places) row.effect) (ap (λ (u : RouterPart). u.entries) row.effect) (ap (λ (u : RouterPart). u.tellings) row.effect) (ap (λ (u : RouterPart). u.best) row.effect);
-    items = subst (AllByRecursion IsFineSent) (sym row.alone.1) tt;
-  }
-  fine_row (Leave k) taken sent octets come row = record {
-    part = placed row.peering (Shadow k) tt (ap (λ (u : RouterPart). u.places) row.effect) (ap (λ (u : RouterPart). u.entries) row.effect) (ap (λ (u : RouterPart). u.tellings) row.effect) (ap (λ (u : RouterPart). u.best) row.effect);
-    items = subst (AllByRecursion IsFineSent) (sym row.sends) (subst IsFinePlace row.frozen (fine.places row.peering), tt);
-  }
-  fine_row (Land q) taken sent octets come row =
-      let own : IsFine row.comes.session = subst IsFineTaken row.comes.takes come in
-      record {
-        part = entered row.comes.peering (Live row.comes.session None) (after.entries row.comes.peering) own (brings row.comes.session (after.entries row.comes.peering) own row.entries)
-            (ap (λ (u : RouterPart). u.places) row.effect) (ap (λ (u : RouterPart). u.entries) row.effect) (ap (λ (u : RouterPart). u.tellings) row.effect) (ap (λ (u : RouterPart). u.best) row.effect);
-        items = subst (AllByRecursion IsFineSent) (sym row.sends) (tt, (tt, tt));
-      }
-  fine_row (TurnBack q) taken sent octets come row = record {
-    part = subst IsFinePart (sym row.stays) fine;
-    items = subst (AllByRecursion IsFineSent) (sym row.sends) (subst IsFineTaken row.comes.takes come, tt);
-  }
-  fine_row (Return q) taken sent octets come row = record {
-    part = placed row.peering (Live row.session None) (subst IsFineTaken row.takes come) (ap (λ (u : RouterPart). u.places) row.effect) (ap (λ (u : RouterPart). u.entries) row.effect) (ap (λ (u : RouterPart). u.tellings) row.effect) (ap (λ (u : RouterPart). u.best) row.effect);
-    items = subst (AllByRecursion IsFineSent) (sym row.sends) (tt, tt);
-  }
-  fine_row (Clear q) taken sent octets come row = record {
-    part = entered row.peering Vacant map.empty tt no_entries (ap (λ (u : RouterPart). u.places) row.effect) (ap (λ (u : RouterPart). u.entries) row.effect) (ap (λ (u : RouterPart). u.tellings) row.effect) (ap (λ (u : RouterPart). u.best) row.effect);
-    items = subst (AllByRecursion IsFineSent) (sym row.sends) (tt, tt);
-  }
-  fine_row (Tick p round) taken sent octets come row = record {
-    part = follows p row.session row.next row.order (passes_fine row.session row.next round row.passes (live_fine p row.session row.order row.live.is)) row.follows;
-    items = subst (AllByRecursion IsFineSent) (sym row.alone.1) tt;
-  }
+  fine_row event taken sent octets come row = by_print (footprint setup r before after taken sent event row) where
+    by_change : (p : ℕ) → OnePeering p before after → PeeringChange setup r p before taken sent after → IsFinePart after
+    by_change p one (Keeping session errand end live holds entries due) =
+        let own : IsFine session = live_fine p session errand live in
+        placed p one (held_fine (after.places p) _ holds (record { heard = own.heard; remote_as = own.remote_as })) (entries_stay p entries)
+    by_change p one (PuttingNothing row) =
+        placed p one (subst (λ (u : RouterPart). IsFinePlace (u.places p)) (sym row.effect) (fine.places p)) (entries_stay p (ap (λ (u : RouterPart). u.entries p) row.effect))
+    by_change p one (PuttingSome n row now) =
+        let own : IsFine row.session = live_fine p row.session row.errand row.live.is in
+        let next : IsFine row.next = subst IsFine (sym row.puts.effect) (record { heard = own.heard; remote_as = own.remote_as }) in
+        placed p one (subst IsFinePlace (sym now) next) (entries_stay p (ap (λ (u : RouterPart). u.entries p) row.effect))
+    by_change p one (Following s next o live now by row) =
+        let own : IsFine next = itself_fine s next by (octets p s o live) (live_fine p s o live) in
+        placed p one (subst IsFinePlace (sym now) own) (follows p s next o own row)
+    by_change p one (Emptying none (inl entries) due) = placed p one (none_fine (after.places p) none) (entries_stay p entries)
+    by_change p one (Emptying none (inr entries) due) = placed p one (none_fine (after.places p) none) (subst AreFineEntries (sym entries) no_entries)
+    by_change p one (Reviving q item session errand takes carries now entries due) =
+        let own : IsFine session = carried_fine item session carries (subst IsFineTaken takes come) in
+        placed p one (subst IsFinePlace (sym now) own) (elim entries [ inl same ↦ entries_stay p same | inr brought ↦ brings session (after.entries p) own brought ])
+
+    items : (sent : List RouterSent) → SendsNoTelling event before taken after sent → AllByRecursion IsFineSent sent
+    items [] told = tt
+    items (MeshTo q (Told x route) ∷ []) told = absurd told
+    items (MeshTo q (Moved k p s) ∷ []) (order, frozen) = (subst IsFinePlace frozen (fine.places p), tt)
+    items (MeshTo q (Back k p s refusal) ∷ []) (from, takes) = (subst IsFineTaken takes come, tt)
+    items (MeshTo q (Done k p) ∷ []) told = (tt, tt)
+    items (OutwardTo p item ∷ []) told = (tt, tt)
+    items (ReportOut report ∷ []) told = (tt, tt)
+    items (item ∷ more ∷ later) told = absurd told
+
+    by_print : Footprint setup r event before taken sent after → Finely after sent
+    by_print (Deciding prefix row) = decides prefix taken sent row
+    by_print (Telling q prefix row) = record {
+      part = subst IsFinePart (sym row.effect) (record { places = fine.places; entries = fine.entries; tellings = fine.tellings; best = fine.best });
+      items = subst (AllByRecursion IsFineSent) (sym row.sends) (told_item prefix (map.get before.best prefix) (fine.best prefix), tt);
+    }
+    by_print (Hearing q row) = hears q taken sent come row
+    by_print (Staying silent is) = record { part = subst IsFinePart (sym is) fine; items = items sent silent.sends }
+    by_print (Changing p silent one change) = record { part = by_change p one change; items = items sent silent.sends }

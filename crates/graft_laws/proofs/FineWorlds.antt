@@ -13,7 +13,7 @@ use Rattle.session_value.specs.declared.config.SessionConfig.{SessionConfig}
 use Rattle.session_value.specs.Sessions.{SessionValue, begun}
 use Rattle.graft_model.specs.Decisions.{out_side, to_tell}
 use Rattle.graft_model.specs.First.{first_world, place_in}
-use Rattle.graft_model.specs.Parts.{Order, Vacant, Live, RouterPart, Mesh, World}
+use Rattle.graft_model.specs.Parts.{Errand, Vacant, Live, RouterPart, Mesh, World}
 use Rattle.graft_model.specs.RouterRows.{RouterTaken, OrderIn, SegmentIn, MeshIn, RouterSent, MeshTo, OutwardTo, ReportOut}
 use Rattle.graft_model.specs.Setups.{Setup, PeeringSetup, IsSetup, peerings_in}
 use Rattle.graft_model.specs.Steps.{Event, ByRouter, ByFar, ByOperator, Step}
@@ -27,7 +27,8 @@ use Rattle.graft_laws.proofs.Deeds.{known_place}
 use Rattle.graft_laws.proofs.FarOctets.{unread_octets}
 use Rattle.graft_laws.proofs.FineRouters.{IsFinePlace, IsFineItem, IsFineTaken, IsFineSent, IsFinePart, Finely, no_entries, fine_row}
 use Rattle.graft_laws.proofs.First.{some_peering}
-use Rattle.graft_laws.proofs.HeardSendable.{none_sendable}
+use Rattle.graft_laws.proofs.AllRoutes.{all_of_none}
+use Rattle.graft_laws.proofs.Sendable.{IsSendable}
 use Rattle.graft_laws.proofs.Lists.{all_head, all_join, all_moves}
 use Rattle.graft_laws.proofs.Moves.{router_moves, far_moves, operator_moves}
 use Rattle.graft_laws.proofs.Phases.{live_session}
@@ -84,7 +85,7 @@ module _ (setup : Setup) (sound : IsSetup setup) (ranges : IsInRange setup) wher
   first_place r p None is = tt
   first_place r p (Some peering) is = by_start (peering.start == r) where
     by_start : (t : Bool) → IsFinePlace (cond t (Live (begun peering.config) None) Vacant)
-    by_start true = record { heard = none_sendable; remote_as = ranges.remote_as p peering.config (ap (option_map (λ (x : PeeringSetup). x.config)) is) }
+    by_start true = record { heard = all_of_none IsSendable; remote_as = ranges.remote_as p peering.config (ap (option_map (λ (x : PeeringSetup). x.config)) is) }
     by_start false = tt
 
   first_fine : AreFine (first_world setup)
@@ -102,7 +103,7 @@ module _ (setup : Setup) (sound : IsSetup setup) (ranges : IsInRange setup) wher
   always_fine w reached = carried setup AreFine first_fine fine_then w reached
 
   -- the address of a session is a host's
-  host : (w : World) → Reached setup w → (r p : ℕ) (s : SessionValue) (o : Option Order) → (w.router r).places p ≡ Live s o → is_no_host s.config.local_address ≡ false
+  host : (w : World) → Reached setup w → (r p : ℕ) (s : SessionValue) (o : Option Errand) → (w.router r).places p ≡ Live s o → is_no_host s.config.local_address ≡ false
   host w reached r p s o live =
       let below : p < peerings_in setup = known_place setup w (always_owned setup sound w reached) r p (Live s o) live (λ e. cc) in
       let has : Has setup (IsOwn setup) w p = always_own setup sound w reached p below in
@@ -111,7 +112,7 @@ module _ (setup : Setup) (sound : IsSetup setup) (ranges : IsInRange setup) wher
       let config : some.0.config ≡ has.session.config = same_Some some.0.config has.session.config (sym (ap (option_map (λ (x : PeeringSetup). x.config)) some.1) ∙ has.more.config) in
       subst (λ (c : SessionConfig). is_no_host c.local_address ≡ false) (config ∙ ap (λ (v : SessionValue). v.config) (sym is)) (sound.peerings p some.0 some.1).next_hop
 
-pub always_written : (setup : Setup) (w : World) (r p : ℕ) (s : SessionValue) (o : Option Order) (x : PrefixValue) (attrs : Attrs) → IsSetup setup → IsInRange setup → Reached setup w
+pub always_written : (setup : Setup) (w : World) (r p : ℕ) (s : SessionValue) (o : Option Errand) (x : PrefixValue) (attrs : Attrs) → IsSetup setup → IsInRange setup → Reached setup w
     → (w.router r).places p ≡ Live s o → to_tell setup r (w.router r) s x ≡ Some attrs → IsWritableAttrs attrs
 always_written setup w r p s o x attrs sound ranges reached live e =
     tells_writable setup.home_as (out_side setup r s.config) x (map.get (w.router r).best x) attrs ranges.home_as (host setup sound ranges w reached r p s o live) (rules_in_range setup ranges r s.config.export)

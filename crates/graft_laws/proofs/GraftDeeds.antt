@@ -12,24 +12,26 @@ use Rattle.bgp_types.specs.declared.message.SessionState.{SessionState}
 use Rattle.session_value.specs.Sessions.{SessionValue, state, hold_time}
 use Rattle.graft_model.specs.Points.{at}
 use Rattle.graft_model.specs.Setups.{Setup, peerings_in, room_of}
-use Rattle.graft_model.specs.Parts.{Order, Place, Vacant, Live, Frozen, Shadow, RouterPart, Mesh, Moved, Back, Done, Outward, PointAt, GraftOrder, Report, World}
+use Rattle.graft_model.specs.Parts.{Order, Errand, Leaving, Owing, Place, Vacant, Live, Frozen, Shadow, RouterPart, Mesh, Moved, Back, Done, PointAt, GraftOrder, Report, World}
 use Rattle.graft_model.specs.RouterRows.{RouterTaken, OrderIn, MeshIn, RouterSent, MeshTo, OutwardTo, ReportOut, BringsIn}
-use Rattle.graft_model.specs.GraftRows.{Admits, Refuses, Freezes, Leaves, Lands, TurnsBack, Returns, Clears, is_taken, taken_in, refusal_of}
+use Rattle.graft_model.specs.GraftRows.{Admits, Refuses, Freezes, Leaves, Lands, TurnsBack, Returns, Confirms, Clears, is_taken, taken_in, refusal_of}
 use Rattle.graft_model.specs.Steps.{Heads}
-use Rattle.graft_laws.specs.Phases.{Ordered, Stored, Halted, Moving, Landed, Returning, Phase, Busy, only}
+use Rattle.graft_laws.specs.Phases.{Ordered, Stored, Halted, Moving, Landed, Confirmed, Returning, Phase, Busy, only}
 use Rattle.graft_laws.specs.Log.{graft_at, is_of}
 use Rattle.graft_laws.specs.Owned.{is_on, Stands, Owned}
 use Rattle.graft_laws.specs.Moves.{RouterMoves}
-use Rattle.graft_laws.proofs.Phases.{live_session, stored_at, halted_at, moved_in, back_in, done_in, order_in}
-use Rattle.graft_laws.proofs.Others.{AreOthers}
+use Rattle.graft_laws.proofs.Phases.{live_session, stored_at, halted_at, owing_at, moved_in, back_in, done_in, order_in}
 use Rattle.graft_laws.proofs.Logs.{own_known}
 use Rattle.graft_laws.proofs.Following.{at_phase, at_here, at_other, own_head}
-use Rattle.graft_laws.proofs.Grafts.{equal, admit_own, refuse_own, freeze_own, leave_own, land_own, turn_back_own, return_own, clear_own}
+use Rattle.graft_laws.proofs.Grafts.{equal, admit_own, refuse_own, freeze_own, leave_own, land_own, confirm_own, turn_back_own, return_own, clear_own}
 use Rattle.graft_laws.proofs.Room.{no_more_taken, one_more_taken, room_left}
 use Rattle.graft_laws.proofs.Deeds.{differs, of_known, not_of, known_place, known_order, Deed, own_or_apart, no_items, other_order, other_report, other_mesh, other_sent, other_taken, no_outward}
 
 abbrev order_of : ℕ → ℕ → Order
 order_of k t = record { graft = k; target = t }
+
+abbrev word_of : ℕ → ℕ → Errand
+word_of k q = Owing (record { graft = k; source = q })
 
 -- the deed of an event whose items are known
 pub deed_as : (setup : Setup) (w v : World) (r : ℕ) (taken known : Option RouterTaken) (sent items : List RouterSent) (part : RouterPart) → taken ≡ known → sent ≡ items
@@ -51,11 +53,6 @@ le_trans a b c l m = omega arith
 above : (a b : ℕ) → a < b → a + 1 ≤ b
 above a b l = omega arith
 
-other_landing : (setup : Setup) (p r q n : ℕ) (item : Mesh) (point : Outward) (more : Mesh) → is_on p item ≡ false → is_on p more ≡ false → AreOthers setup p r (Some (MeshIn q item)) (OutwardTo n point ∷ MeshTo q more ∷ [])
-other_landing setup p r q n item point more e f =
-    let others : AreOthers setup p r (Some (MeshIn q item)) (MeshTo q more ∷ []) = other_mesh setup p r q q item more e f in
-    record { mesh_taken = others.mesh_taken; mesh_sent = others.mesh_sent; orders_taken = others.orders_taken; reports_sent = others.reports_sent }
-
 -- a session freezes for another router alone
 freezes_apart : (r t : ℕ) (s : SessionState) (h : ℕ) → freeze_refusal (record { 0 = r }) (record { 0 = t }) s h ≡ None → t ≢ r
 freezes_apart r t s h e is = by_test (t == r) refl e where
@@ -75,7 +72,7 @@ module _ (setup : Setup) (w v : World) (r : ℕ) (owned : Owned setup w) where
   before = w.router r
 
   -- the graft for which a session is stored, comes back or has landed is its peering's own
-  stored_own : (q k t : ℕ) (s : SessionValue) → before.places q ≡ Live s (Some (order_of k t)) → q < peerings_in setup → is_of setup q k ≡ true
+  stored_own : (q k t : ℕ) (s : SessionValue) → before.places q ≡ Live s (Some (Leaving (order_of k t))) → q < peerings_in setup → is_of setup q k ≡ true
   stored_own q k t s is known =
       let h = owned.peerings q known in
       let e : h.phase ≡ Busy r k t Stored = (stored_at h.phase h.session s r k t (sym is ∙ h.stands.places r)).0 in
@@ -92,8 +89,8 @@ module _ (setup : Setup) (w v : World) (r : ℕ) (owned : Owned setup w) where
   done_own : (a q k : ℕ) → Heads (w.mesh a r) (Done k q) → q < peerings_in setup → is_of setup q k ≡ true
   done_own a q k head known =
       let h = owned.peerings q known in
-      let e : h.phase ≡ Busy r k a Landed = done_in h.phase q h.session a r k _ (own_head (is_on q) (w.mesh a r) head.rest (Done k q) head.is (equal q) ∙ h.stands.mesh a r) in
-      let b : Stands setup w q (Busy r k a Landed) h.session = subst (λ (x : Phase). Stands setup w q x h.session) e h.stands in
+      let e : h.phase ≡ Busy r k a Confirmed = done_in h.phase q h.session a r k _ (own_head (is_on q) (w.mesh a r) head.rest (Done k q) head.is (equal q) ∙ h.stands.mesh a r) in
+      let b : Stands setup w q (Busy r k a Confirmed) h.session = subst (λ (x : Phase). Stands setup w q x h.session) e h.stands in
       own_known setup q k a b.log.goes_on.known
 
   -- ---- at the source
@@ -102,7 +99,7 @@ module _ (setup : Setup) (w v : World) (r : ℕ) (owned : Owned setup w) where
   admit_deed k taken sent part row = deed_as setup w v r taken (Some (OrderIn (record { graft = k; peering = row.peering; target = row.target }))) sent [] part row.takes row.sends (λ m.
       let q : ℕ = row.peering in
       let o : GraftOrder = record { graft = k; peering = q; target = row.target } in
-      let places : part.places ≡ at before.places q (Live row.session (Some (order_of k row.target))) = ap (λ (x : RouterPart). x.places) row.effect in
+      let places : part.places ≡ at before.places q (Live row.session (Some (Leaving (order_of k row.target)))) = ap (λ (x : RouterPart). x.places) row.effect in
       record {
         each = own_or_apart setup w v r q (Some (OrderIn o)) [] part m (known_order setup w owned r q o m.heads (equal q))
             (λ p ne. record {
@@ -116,7 +113,7 @@ module _ (setup : Setup) (w v : World) (r : ℕ) (owned : Owned setup w) where
             let e = order_in phase q r o _ (own_head (λ (x : GraftOrder). x.peering == q) (w.orders r) m.heads.rest o m.heads.is (equal q) ∙ b.orders r) in
             let same : row.session ≡ s = live_session phase s row.session None r (sym row.live.is ∙ b.places r) in
             at_phase setup w v q phase (Busy r k row.target Ordered) s e.0
-            (admit_own setup w v q r k row.target s part m (place_here before part q _ places ∙ ap (λ (x : SessionValue). Live x (Some (order_of k row.target))) same) (ap (λ (x : RouterPart). x.entries q) row.effect)) b);
+            (admit_own setup w v q r k row.target s part m (place_here before part q _ places ∙ ap (λ (x : SessionValue). Live x (Some (Leaving (order_of k row.target)))) same) (ap (λ (x : RouterPart). x.entries q) row.effect)) b);
         reports = λ a. tt;
         room = λ l. le_trans _ _ _ (no_more_taken setup before part q _ places (ap is_taken row.live.is)) l;
       })
@@ -193,29 +190,50 @@ module _ (setup : Setup) (w v : World) (r : ℕ) (owned : Owned setup w) where
 
   pub land_deed : (q : ℕ) (taken : Option RouterTaken) (sent : List RouterSent) (part : RouterPart) → Lands setup r q before taken sent part → RouterMoves r taken sent part w v → Deed setup w v r taken sent part
   land_deed q taken sent part row = deed_as setup w v r taken (Some (MeshIn q (Moved row.comes.graft row.comes.peering row.comes.session))) sent
-      (OutwardTo row.comes.peering (PointAt row.comes.graft) ∷ MeshTo q (Done row.comes.graft row.comes.peering) ∷ []) part row.comes.takes row.sends (λ m.
+      (OutwardTo row.comes.peering (PointAt row.comes.graft) ∷ []) part row.comes.takes row.sends (λ m.
       let k : ℕ = row.comes.graft in
       let n : ℕ = row.comes.peering in
       let item : Mesh = Moved k n row.comes.session in
-      let places : part.places ≡ at before.places n (Live row.comes.session None) = ap (λ (x : RouterPart). x.places) row.effect in
+      let places : part.places ≡ at before.places n (Live row.comes.session (Some (word_of k q))) = ap (λ (x : RouterPart). x.places) row.effect in
       record {
-        each = own_or_apart setup w v r n (Some (MeshIn q item)) (OutwardTo n (PointAt k) ∷ MeshTo q (Done k n) ∷ []) part m row.comes.known
+        each = own_or_apart setup w v r n (Some (MeshIn q item)) (OutwardTo n (PointAt k) ∷ []) part m row.comes.known
             (λ p ne. record {
               places = place_stays before part p n _ places ne;
               entries = ap (λ (x : RouterPart). x.entries p) row.effect ∙ at_other before.entries n p (part.entries n) ne;
-              items = other_landing setup p r q n item (PointAt k) (Done k n) (differs p n ne) (differs p n ne);
+              items = record { mesh_taken = other_taken setup p r q item (differs p n ne); mesh_sent = λ i j. refl; orders_taken = λ i. refl; reports_sent = λ i. refl };
               outward_sent = λ a. no_outward r n p a (PointAt k) ne;
               inward_taken = λ b. refl;
             })
             (λ phase s b.
             let e = moved_in phase n s row.comes.session q r k _ (own_head (is_on n) (w.mesh q r) m.heads.rest item m.heads.is (equal n) ∙ b.mesh q r) in
             at_phase setup w v n phase (Busy q k r Moving) s e.0
-            (land_own setup w v n q k r s part (subst (λ (x : SessionValue). RouterMoves r (Some (MeshIn q (Moved k n x))) (OutwardTo n (PointAt k) ∷ MeshTo q (Done k n) ∷ []) part w v) e.1 m)
-            (place_here before part n _ places ∙ ap (λ (x : SessionValue). Live x None) e.1)
+            (land_own setup w v n q k r s part (subst (λ (x : SessionValue). RouterMoves r (Some (MeshIn q (Moved k n x))) (OutwardTo n (PointAt k) ∷ []) part w v) e.1 m)
+            (place_here before part n _ places ∙ ap (λ (x : SessionValue). Live x (Some (word_of k q))) e.1)
             (subst (λ (x : SessionValue). BringsIn setup r x (part.entries n)) e.1 row.entries)
             (subst (λ (x : SessionValue). refusal_of setup r before x ≡ None) e.1 row.admitted)) b);
         reports = λ a. tt;
         room = λ l. le_trans _ _ _ (one_more_taken setup before part n _ places) (above _ _ (room_left setup r before row.comes.session row.admitted));
+      })
+
+  pub confirm_deed : (k : ℕ) (taken : Option RouterTaken) (sent : List RouterSent) (part : RouterPart) → Confirms k before taken sent part → RouterMoves r taken sent part w v → Deed setup w v r taken sent part
+  confirm_deed k taken sent part row = deed_as setup w v r taken None sent (MeshTo row.source (Done k row.peering) ∷ []) part row.takes row.sends (λ m.
+      let n : ℕ = row.peering in
+      let places : part.places ≡ at before.places n (Live row.session None) = ap (λ (x : RouterPart). x.places) row.effect in
+      record {
+        each = own_or_apart setup w v r n None (MeshTo row.source (Done k n) ∷ []) part m (known_place setup w owned r n _ row.live.is (λ e. absurd cc))
+            (λ p ne. record {
+              places = place_stays before part p n _ places ne;
+              entries = ap (λ (x : RouterPart). x.entries p) row.effect;
+              items = other_sent setup p r row.source (Done k n) (differs p n ne);
+              outward_sent = λ a. refl;
+              inward_taken = λ b. refl;
+            })
+            (λ phase s b.
+            let e = owing_at phase s row.session r k row.source (sym row.live.is ∙ b.places r) in
+            at_phase setup w v n phase (Busy row.source k r Landed) s e.0
+            (confirm_own setup w v n row.source k r s part m (place_here before part n _ places ∙ ap (λ (x : SessionValue). Live x None) e.1) (ap (λ (x : RouterPart). x.entries n) row.effect)) b);
+        reports = λ a. tt;
+        room = λ l. le_trans _ _ _ (no_more_taken setup before part n _ places (ap is_taken row.live.is)) l;
       })
 
   pub turn_back_deed : (q : ℕ) (taken : Option RouterTaken) (sent : List RouterSent) (part : RouterPart) → TurnsBack setup r q before taken sent part → RouterMoves r taken sent part w v → Deed setup w v r taken sent part
@@ -296,7 +314,7 @@ module _ (setup : Setup) (w v : World) (r : ℕ) (owned : Owned setup w) where
             })
             (λ phase s b.
             let e = done_in phase n s q r k _ (own_head (is_on n) (w.mesh q r) m.heads.rest item m.heads.is (equal n) ∙ b.mesh q r) in
-            at_phase setup w v n phase (Busy r k q Landed) s e
+            at_phase setup w v n phase (Busy r k q Confirmed) s e
             (clear_own setup w v n r k q s part m (place_here before part n _ places) (ap (λ (x : RouterPart). x.entries n) row.effect ∙ at_here before.entries n map.empty)) b);
         reports = λ a. one_report setup r a report (of_known setup n k own);
         room = λ l. le_trans _ _ _ (no_more_taken setup before part n _ places (ap is_taken row.shadow)) l;

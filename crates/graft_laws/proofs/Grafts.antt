@@ -9,14 +9,14 @@ use Rattle.graft_steps.specs.declared.refusal.Outcome.TheVariants.{Accepted, Ref
 use Rattle.graft_steps.specs.Refusals.{freeze_refusal}
 use Rattle.session_value.specs.Sessions.{SessionValue, state, hold_time}
 use Rattle.graft_model.specs.Setups.{Setup}
-use Rattle.graft_model.specs.Parts.{Place, Vacant, Live, Frozen, Shadow, RouterPart, Mesh, Moved, Back, Done, PointAt, GraftOrder, Report, World}
+use Rattle.graft_model.specs.Parts.{Place, Vacant, Live, Frozen, Shadow, Leaving, Owing, RouterPart, Mesh, Moved, Back, Done, PointAt, GraftOrder, Report, World}
 use Rattle.graft_model.specs.RouterRows.{OrderIn, MeshIn, MeshTo, OutwardTo, ReportOut, BringsIn}
 use Rattle.graft_model.specs.GraftRows.{refusal_of}
-use Rattle.graft_laws.specs.Phases.{Ordered, Stored, Halted, Moving, Landed, Returning, Declined, Cleared, Busy, only, only2, place_by}
+use Rattle.graft_laws.specs.Phases.{Ordered, Stored, Halted, Moving, Landed, Confirmed, Returning, Declined, Cleared, Busy, only, only2, place_by}
 use Rattle.graft_laws.specs.Log.{is_of}
 use Rattle.graft_laws.specs.Owned.{is_on, mesh_of, Stands}
 use Rattle.graft_laws.specs.Moves.{RouterMoves}
-use Rattle.graft_laws.specs.Life.{Admits, Refuses, Freezes, Leaves, Lands, TurnsBack, Returns, Clears}
+use Rattle.graft_laws.specs.Life.{Grafts, Admits, Refuses, Freezes, Leaves, Lands, TurnsBack, Returns, Confirms, Clears}
 use Rattle.graft_laws.proofs.Logs.{log_on, own_known}
 use Rattle.graft_laws.proofs.Following.{Followed, own_only, own_only2, shifted, line_by_router, line_gets, same_entries, enters, drops}
 
@@ -38,14 +38,14 @@ own_report setup p r a o e = ap (filter (λ (x : Report). is_of setup p x.graft)
 
 module _ (setup : Setup) (w v : World) (p q k t : ℕ) (s : SessionValue) (part : RouterPart) where
   -- the order is stored
-  pub admit_own : RouterMoves q (Some (OrderIn (record { graft = k; peering = p; target = t }))) [] part w v → part.places p ≡ Live s (Some (record { graft = k; target = t })) → part.entries p ≡ (w.router q).entries p
+  pub admit_own : RouterMoves q (Some (OrderIn (record { graft = k; peering = p; target = t }))) [] part w v → part.places p ≡ Live s (Some (Leaving (record { graft = k; target = t }))) → part.entries p ≡ (w.router q).entries p
       → Stands setup w p (Busy q k t Ordered) s → Followed setup w v p (Busy q k t Ordered) s
   admit_own m place entries b = record {
     next = Busy q k t Stored;
     session = s;
     stands = shifted setup w v p q s (Some (OrderIn (record { graft = k; peering = p; target = t }))) [] part (Busy q k t Ordered) (Busy q k t Stored) m
         (record {
-          places = λ x. place_now q x (part.places p) (Live s (Some (record { graft = k; target = t }))) (Live s None) place;
+          places = λ x. place_now q x (part.places p) (Live s (Some (Leaving (record { graft = k; target = t })))) (Live s None) place;
           mesh_taken = λ i j. refl;
           mesh_sent = λ i j. refl;
           orders_taken = λ x. own_only (λ (o : GraftOrder). o.peering == p) (record { graft = k; peering = p; target = t }) q x (equal p);
@@ -53,7 +53,7 @@ module _ (setup : Setup) (w v : World) (p q k t : ℕ) (s : SessionValue) (part 
           no_report = λ x. refl;
           reports_sent = λ x. refl;
         }) b (log_on setup w.operator p q k t Ordered Stored b.log) b.bounds;
-    change = Admits (line_by_router w v p q _ [] part m (λ a. refl) (λ a. refl)) (same_entries w v p q part m.router entries);
+    change = Grafts Admits (line_by_router w v p q _ [] part m (λ a. refl) (λ a. refl)) (same_entries w v p q part m.router entries);
   }
 
   -- the source refuses
@@ -65,7 +65,7 @@ module _ (setup : Setup) (w v : World) (p q k t : ℕ) (s : SessionValue) (part 
     session = s;
     stands = shifted setup w v p q s None (ReportOut (record { graft = k; outcome = Refused refusal }) ∷ []) part (Busy q k t Stored) (Busy q k t (Declined refusal)) m
         (record {
-          places = λ x. place_now q x (part.places p) (Live s None) (Live s (Some (record { graft = k; target = t }))) place;
+          places = λ x. place_now q x (part.places p) (Live s None) (Live s (Some (Leaving (record { graft = k; target = t })))) place;
           mesh_taken = λ i j. refl;
           mesh_sent = λ i j. refl;
           orders_taken = λ x. refl;
@@ -73,7 +73,7 @@ module _ (setup : Setup) (w v : World) (p q k t : ℕ) (s : SessionValue) (part 
           no_report = λ x. refl;
           reports_sent = λ x. own_report setup p q x (record { graft = k; outcome = Refused refusal }) (own_known setup p k t b.log.goes_on.known);
         }) b (log_on setup w.operator p q k t Stored (Declined refusal) b.log) b.bounds;
-    change = Refuses cause (line_by_router w v p q None _ part m (λ a. refl) (λ a. refl)) (same_entries w v p q part m.router entries);
+    change = Grafts (Refuses cause) (line_by_router w v p q None _ part m (λ a. refl) (λ a. refl)) (same_entries w v p q part m.router entries);
   }
 
   -- the source freezes
@@ -85,7 +85,7 @@ module _ (setup : Setup) (w v : World) (p q k t : ℕ) (s : SessionValue) (part 
     session = s;
     stands = shifted setup w v p q s None [] part (Busy q k t Stored) (Busy q k t Halted) m
         (record {
-          places = λ x. place_now q x (part.places p) (Frozen s (record { graft = k; target = t })) (Live s (Some (record { graft = k; target = t }))) place;
+          places = λ x. place_now q x (part.places p) (Frozen s (record { graft = k; target = t })) (Live s (Some (Leaving (record { graft = k; target = t })))) place;
           mesh_taken = λ i j. refl;
           mesh_sent = λ i j. refl;
           orders_taken = λ x. refl;
@@ -93,7 +93,7 @@ module _ (setup : Setup) (w v : World) (p q k t : ℕ) (s : SessionValue) (part 
           no_report = λ x. refl;
           reports_sent = λ x. refl;
         }) b (log_on setup w.operator p q k t Stored Halted b.log) (b.bounds.0, b.bounds.1, apart);
-    change = Freezes no_cause (line_by_router w v p q None [] part m (λ a. refl) (λ a. refl)) (same_entries w v p q part m.router entries);
+    change = Grafts (Freezes no_cause) (line_by_router w v p q None [] part m (λ a. refl) (λ a. refl)) (same_entries w v p q part m.router entries);
   }
 
   -- the session leaves
@@ -112,23 +112,23 @@ module _ (setup : Setup) (w v : World) (p q k t : ℕ) (s : SessionValue) (part 
           no_report = λ x. refl;
           reports_sent = λ x. refl;
         }) b (log_on setup w.operator p q k t Halted Moving b.log) b.bounds;
-    change = Leaves (line_by_router w v p q None _ part m (λ a. refl) (λ a. refl)) (same_entries w v p q part m.router entries);
+    change = Grafts Leaves (line_by_router w v p q None _ part m (λ a. refl) (λ a. refl)) (same_entries w v p q part m.router entries);
   }
 
-  landed_place : (x : ℕ) (here : Place) → t ≢ q → here ≡ Live s None → cond (x == t) here (place_by (Busy q k t Moving) s x) ≡ place_by (Busy q k t Landed) s x
-  landed_place x here apart e = ap (λ (y : Place). cond (x == t) y (place_by (Busy q k t Moving) s x)) e
+  abbrev owing : Place
+  owing = Live s (Some (Owing (record { graft = k; source = q })))
 
   -- the session lands
-  pub land_own : RouterMoves t (Some (MeshIn q (Moved k p s))) (OutwardTo p (PointAt k) ∷ MeshTo q (Done k p) ∷ []) part w v → part.places p ≡ Live s None → BringsIn setup t s (part.entries p)
+  pub land_own : RouterMoves t (Some (MeshIn q (Moved k p s))) (OutwardTo p (PointAt k) ∷ []) part w v → part.places p ≡ owing → BringsIn setup t s (part.entries p)
       → refusal_of setup t (w.router t) s ≡ None → Stands setup w p (Busy q k t Moving) s → Followed setup w v p (Busy q k t Moving) s
   land_own m place brings admitted b = record {
     next = Busy q k t Landed;
     session = s;
-    stands = shifted setup w v p t s (Some (MeshIn q (Moved k p s))) (OutwardTo p (PointAt k) ∷ MeshTo q (Done k p) ∷ []) part (Busy q k t Moving) (Busy q k t Landed) m
+    stands = shifted setup w v p t s (Some (MeshIn q (Moved k p s))) (OutwardTo p (PointAt k) ∷ []) part (Busy q k t Moving) (Busy q k t Landed) m
         (record {
-          places = λ x. landed_place x (part.places p) b.bounds.2 place;
+          places = λ x. ap (λ (y : Place). cond (x == t) y (place_by (Busy q k t Moving) s x)) place;
           mesh_taken = λ i j. own_only2 (is_on p) (Moved k p s) q t i j (equal p);
-          mesh_sent = λ i j. own_sent p t q i j (Done k p) (equal p);
+          mesh_sent = λ i j. refl;
           orders_taken = λ x. refl;
           no_order = λ x. refl;
           no_report = λ x. refl;
@@ -136,6 +136,31 @@ module _ (setup : Setup) (w v : World) (p q k t : ℕ) (s : SessionValue) (part 
         }) b (log_on setup w.operator p q k t Moving Landed b.log) b.bounds;
     change = Lands admitted (line_gets w v p t _ _ part (PointAt k) m (λ a. (let e : only2 t p (PointAt k) a p ≡ only t (PointAt k) a = ap (λ c. cond (a == t) (cond c (PointAt k ∷ []) []) []) (equal p) in append-nil (only2 t p (PointAt k) a p) ∙ e)) (λ a. refl))
         (enters setup w v p t s part m.router brings);
+  }
+
+  confirmed_place : (x : ℕ) (here other : Place) → here ≡ Live s None → cond (x == t) here (cond (x == t) owing other) ≡ cond (x == t) (Live s None) other
+  confirmed_place x here other e = by_test (x == t) where
+    by_test : (b : Bool) → cond b here (cond b owing other) ≡ cond b (Live s None) other
+    by_test true = e
+    by_test false = refl
+
+  -- the target gives word
+  pub confirm_own : RouterMoves t None (MeshTo q (Done k p) ∷ []) part w v → part.places p ≡ Live s None → part.entries p ≡ (w.router t).entries p
+      → Stands setup w p (Busy q k t Landed) s → Followed setup w v p (Busy q k t Landed) s
+  confirm_own m place entries b = record {
+    next = Busy q k t Confirmed;
+    session = s;
+    stands = shifted setup w v p t s None (MeshTo q (Done k p) ∷ []) part (Busy q k t Landed) (Busy q k t Confirmed) m
+        (record {
+          places = λ x. confirmed_place x (part.places p) (cond (x == q) (Shadow k) Vacant) place;
+          mesh_taken = λ i j. refl;
+          mesh_sent = λ i j. own_sent p t q i j (Done k p) (equal p);
+          orders_taken = λ x. refl;
+          no_order = λ x. refl;
+          no_report = λ x. refl;
+          reports_sent = λ x. refl;
+        }) b (log_on setup w.operator p q k t Landed Confirmed b.log) b.bounds;
+    change = Grafts Confirms (line_by_router w v p t None _ part m (λ a. refl) (λ a. refl)) (same_entries w v p t part m.router entries);
   }
 
   turned_place : (x : ℕ) (here : Place) → t ≢ q → here ≡ Vacant → cond (x == t) here (cond (x == q) (Shadow k) Vacant) ≡ cond (x == q) (Shadow k) Vacant
@@ -157,7 +182,7 @@ module _ (setup : Setup) (w v : World) (p q k t : ℕ) (s : SessionValue) (part 
           no_report = λ x. refl;
           reports_sent = λ x. refl;
         }) b (log_on setup w.operator p q k t Moving (Returning refusal) b.log) b.bounds;
-    change = TurnsBack cause (line_by_router w v p t _ _ part m (λ a. refl) (λ a. refl)) (same_entries w v p t part m.router entries);
+    change = Grafts (TurnsBack cause) (line_by_router w v p t _ _ part m (λ a. refl) (λ a. refl)) (same_entries w v p t part m.router entries);
   }
 
   -- it is back at the source
@@ -176,7 +201,7 @@ module _ (setup : Setup) (w v : World) (p q k t : ℕ) (s : SessionValue) (part 
           no_report = λ x. refl;
           reports_sent = λ x. own_report setup p q x (record { graft = k; outcome = Refused refusal }) (own_known setup p k t b.log.goes_on.known);
         }) b (log_on setup w.operator p q k t (Returning refusal) (Declined refusal) b.log) (b.bounds.0, b.bounds.1, tt);
-    change = Returns (line_by_router w v p q _ _ part m (λ a. refl) (λ a. refl)) (same_entries w v p q part m.router entries);
+    change = Grafts Returns (line_by_router w v p q _ _ part m (λ a. refl) (λ a. refl)) (same_entries w v p q part m.router entries);
   }
 
   cleared_place : (x : ℕ) (here : Place) → t ≢ q → here ≡ Vacant → cond (x == q) here (cond (x == t) (Live s None) (cond (x == q) (Shadow k) Vacant)) ≡ cond (x == t) (Live s None) Vacant
@@ -184,11 +209,11 @@ module _ (setup : Setup) (w v : World) (p q k t : ℕ) (s : SessionValue) (part 
 
   -- the source clears its shadow
   pub clear_own : RouterMoves q (Some (MeshIn t (Done k p))) (ReportOut (record { graft = k; outcome = Accepted }) ∷ []) part w v → part.places p ≡ Vacant → part.entries p ≡ map.empty
-      → Stands setup w p (Busy q k t Landed) s → Followed setup w v p (Busy q k t Landed) s
+      → Stands setup w p (Busy q k t Confirmed) s → Followed setup w v p (Busy q k t Confirmed) s
   clear_own m place none b = record {
     next = Busy q k t Cleared;
     session = s;
-    stands = shifted setup w v p q s (Some (MeshIn t (Done k p))) (ReportOut (record { graft = k; outcome = Accepted }) ∷ []) part (Busy q k t Landed) (Busy q k t Cleared) m
+    stands = shifted setup w v p q s (Some (MeshIn t (Done k p))) (ReportOut (record { graft = k; outcome = Accepted }) ∷ []) part (Busy q k t Confirmed) (Busy q k t Cleared) m
         (record {
           places = λ x. cleared_place x (part.places p) b.bounds.2 place;
           mesh_taken = λ i j. own_only2 (is_on p) (Done k p) t q i j (equal p);
@@ -197,6 +222,6 @@ module _ (setup : Setup) (w v : World) (p q k t : ℕ) (s : SessionValue) (part 
           no_order = λ x. refl;
           no_report = λ x. refl;
           reports_sent = λ x. own_report setup p q x (record { graft = k; outcome = Accepted }) (own_known setup p k t b.log.goes_on.known);
-        }) b (log_on setup w.operator p q k t Landed Cleared b.log) b.bounds;
+        }) b (log_on setup w.operator p q k t Confirmed Cleared b.log) b.bounds;
     change = Clears (line_by_router w v p q _ _ part m (λ a. refl) (λ a. refl)) (drops w v p q part m.router none);
   }

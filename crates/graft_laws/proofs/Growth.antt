@@ -7,7 +7,9 @@ use Rattle.graft_model.specs.Points.{at}
 use Rattle.graft_model.specs.Setups.{Setup, ScriptStep, SayStep, MoveStep, SettleStep, ScriptGraft, grafts_in, grafts_after}
 use Rattle.graft_model.specs.Parts.{OperatorPart, World}
 use Rattle.graft_model.specs.OperatorRows.{OperatorTaken, OperatorSent}
-use Rattle.graft_model.specs.Steps.{Event, ByRouter, ByFar, ByOperator, OperatorEvent, Order, Note, Go, operator_row, Step}
+use Rattle.graft_model.specs.declared.event.OperatorEvent.{OperatorEvent}
+use Rattle.graft_model.specs.declared.event.OperatorEvent.TheVariants.{Order, Note, Go}
+use Rattle.graft_model.specs.Steps.{Event, ByRouter, ByFar, ByOperator, operator_row, Step}
 use Rattle.graft_laws.specs.Phases.{Stage, Idle, Busy}
 use Rattle.graft_laws.specs.Log.{grafts_of, graft_at, is_peering, is_of, HasEnded, Waits, LogSays}
 use Rattle.graft_laws.proofs.Lists.{all_map, all_join, filter_all}

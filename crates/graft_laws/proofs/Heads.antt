@@ -7,15 +7,15 @@ use Rattle.graft_steps.specs.declared.refusal.Refusal.{Refusal}
 use Rattle.graft_steps.specs.declared.refusal.Outcome.TheVariants.{Accepted, Refused}
 use Rattle.session_value.specs.Sessions.{SessionValue}
 use Rattle.graft_model.specs.Setups.{Setup, ScriptGraft, peerings_in}
-use Rattle.graft_model.specs.Parts.{Place, Vacant, Live, Frozen, Shadow, Moved, Back, Done, GraftOrder, Report, World}
+use Rattle.graft_model.specs.Parts.{Place, Vacant, Live, Frozen, Shadow, Leaving, Owing, Moved, Back, Done, GraftOrder, Report, World}
 use Rattle.graft_model.specs.Claims.{sessions_at, sessions_on}
 use Rattle.graft_model.specs.Steps.{Heads}
-use Rattle.graft_laws.specs.Phases.{Stage, Ordered, Stored, Halted, Moving, Landed, Returning, Declined, Cleared, Phase, Idle, Busy, only, only2, place_by, mesh_by}
+use Rattle.graft_laws.specs.Phases.{Stage, Ordered, Stored, Halted, Moving, Landed, Confirmed, Returning, Declined, Cleared, Phase, Idle, Busy, only, only2, place_by, mesh_by}
 use Rattle.graft_laws.specs.Owned.{is_on, mesh_of, orders_of, Stands, Owned}
 use Rattle.graft_laws.specs.Facts.{IsNowhereElse}
 use Rattle.graft_model.specs.RouterRows.{OrderIn}
 use Rattle.graft_model.specs.Taking.{RouterMayTake}
-use Rattle.graft_laws.proofs.Phases.{stored_at, halted_at, moved_in, back_in, done_in, order_in, refusal_in, success_in}
+use Rattle.graft_laws.proofs.Phases.{stored_at, halted_at, owing_at, moved_in, back_in, done_in, order_in, refusal_in, success_in}
 use Rattle.graft_laws.proofs.Numbers.{the_graft}
 use Rattle.graft_laws.proofs.Following.{own_head}
 use Rattle.graft_laws.proofs.Deeds.{known_mesh, known_order}
@@ -33,6 +33,9 @@ only2_here j k x = ap (λ b. cond b (cond (k == k) (x ∷ []) []) []) (equal j) 
 pub placed_here : (q : ℕ) (place : Place) → cond (q == q) place Vacant ≡ place
 placed_here q place = ap (λ b. cond b place Vacant) (equal q)
 
+pub landed_here : (t : ℕ) (place other : Place) → cond (t == t) place other ≡ place
+landed_here t place other = ap (λ b. cond b place other) (equal t)
+
 same_target : (k p t u : ℕ) → Some (the_graft k p t) ≡ Some (the_graft k p u) → t ≡ u
 same_target k p t u e = let f : the_graft k p t ≡ the_graft k p u = cc in ap (λ (g : ScriptGraft). g.target) f
 
@@ -47,10 +50,11 @@ module _ (setup : Setup) (w : World) (p q k t : ℕ) (s : SessionValue) (next : 
   busy_same Ordered b =
       let o : GraftOrder = record { graft = k; peering = p; target = t } in
       (order_in next p q o [] (sym (only_here q o) ∙ (sym (b.orders q) ∙ other.orders q))).0
-  busy_same Stored b = (stored_at next u s q k t (sym (placed_here q (Live s (Some (record { graft = k; target = t })))) ∙ (sym (b.places q) ∙ other.places q))).0
+  busy_same Stored b = (stored_at next u s q k t (sym (placed_here q (Live s (Some (Leaving (record { graft = k; target = t }))))) ∙ (sym (b.places q) ∙ other.places q))).0
   busy_same Halted b = (halted_at next u s q k t (sym (placed_here q (Frozen s (record { graft = k; target = t }))) ∙ (sym (b.places q) ∙ other.places q))).0
   busy_same Moving b = (moved_in next p u s q t k [] (sym (only2_here q t (Moved k p s)) ∙ (sym (b.mesh q t) ∙ other.mesh q t))).0
-  busy_same Landed b = done_in next p u t q k [] (sym (only2_here t q (Done k p)) ∙ (sym (b.mesh t q) ∙ other.mesh t q))
+  busy_same Landed b = (owing_at next u s t k q (sym (landed_here t (Live s (Some (Owing (record { graft = k; source = q })))) (cond (t == q) (Shadow k) Vacant)) ∙ (sym (b.places t) ∙ other.places t))).0
+  busy_same Confirmed b = done_in next p u t q k [] (sym (only2_here t q (Done k p)) ∙ (sym (b.mesh t q) ∙ other.mesh t q))
   busy_same (Returning refusal) b = (back_in next p u s refusal t q k [] (sym (only2_here t q (Back k p s refusal)) ∙ (sym (b.mesh t q) ∙ other.mesh t q))).0
   busy_same (Declined refusal) b =
       let found = refusal_in next q k refusal [] (sym (only_here q (let o : Report = record { graft = k; outcome = Refused refusal } in o)) ∙ (sym (b.reports q) ∙ other.reports q)) in
@@ -77,15 +81,11 @@ abbrev NoOther : Phase → ℕ → SessionValue → ℕ → Type 0
 NoOther phase p s r = ((x : ℕ) → x ≢ r → sessions_at (place_by phase s x) ≡ []) × ((a b : ℕ) → flat_map (sessions_on p) (mesh_by phase p s a b) ≡ [])
 
 no_other : (phase : Phase) (p : ℕ) (s : SessionValue) (r : ℕ) → sessions_at (place_by phase s r) ≢ [] → NoOther phase p s r
-no_other (Idle q) p s r some = (λ x ne. grind (arith, nat_tests), λ a b. refl)
-no_other (Busy q k t Ordered) p s r some = (λ x ne. grind (arith, nat_tests), λ a b. refl)
-no_other (Busy q k t Stored) p s r some = (λ x ne. grind (arith, nat_tests), λ a b. refl)
-no_other (Busy q k t Halted) p s r some = (λ x ne. grind (arith, nat_tests), λ a b. refl)
 no_other (Busy q k t Moving) p s r some = absurd (some (grind (arith, nat_tests)))
 no_other (Busy q k t Landed) p s r some = (λ x ne. grind (arith, nat_tests), λ a b. grind (arith, nat_tests))
+no_other (Busy q k t Confirmed) p s r some = (λ x ne. grind (arith, nat_tests), λ a b. grind (arith, nat_tests))
 no_other (Busy q k t (Returning refusal)) p s r some = absurd (some (grind (arith, nat_tests)))
-no_other (Busy q k t (Declined refusal)) p s r some = (λ x ne. grind (arith, nat_tests), λ a b. refl)
-no_other (Busy q k t Cleared) p s r some = (λ x ne. grind (arith, nat_tests), λ a b. refl)
+no_other _ p s r some = (λ x ne. grind (arith, nat_tests), λ a b. refl)
 
 pub nowhere_else : (setup : Setup) (w : World) (p r : ℕ) (phase : Phase) (s : SessionValue) → Stands setup w p phase s → sessions_at ((w.router r).places p) ≢ [] → IsNowhereElse w p r
 nowhere_else setup w p r phase s b some =
@@ -131,7 +131,7 @@ module _ (setup : Setup) (w : World) (owned : Owned setup w) where
       let l : p < peerings_in setup = known_mesh setup w owned q r p (Done k p) h (equal p) in
       let held = owned.peerings p l in
       let e = done_in held.phase p held.session q r k (mesh_of p h.rest) (own_head (is_on p) (w.mesh q r) h.rest (Done k p) h.is (equal p) ∙ held.stands.mesh q r) in
-      let b : Stands setup w p (Busy r k q Landed) held.session = subst (λ (x : Phase). Stands setup w p x held.session) e held.stands in
+      let b : Stands setup w p (Busy r k q Confirmed) held.session = subst (λ (x : Phase). Stands setup w p x held.session) e held.stands in
       b.places r ∙ shadow r q k held.session b.bounds.2
     where
       shadow : (r q k : ℕ) (s : SessionValue) → q ≢ r → cond (r == q) (Live s None) (cond (r == r) (Shadow k) Vacant) ≡ Shadow k

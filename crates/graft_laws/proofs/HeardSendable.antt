@@ -1,6 +1,6 @@
 -- What is heard can be written.
-use Rattle.std.proofs.Common.{◌≡◌, ℕ, ◌<◌, ◌^◌, Bool, true, false, cond, List, [], ◌∷◌, ◌++◌, length, Option, Some, None, Result, Ok, Err, refl, sym, ap, ◌∙◌, subst, inl, inr}
-use Rattle.std.specs.Prelude.{fold, is_some}
+use Rattle.std.proofs.Common.{◌≡◌, ℕ, ◌<◌, ◌^◌, Bool, List, ◌++◌, length, Option, Some, None, Result, Ok, Err, refl, sym, ap, subst, inl, inr}
+use Rattle.std.specs.Prelude.{fold}
 use Rattle.std.specs.Int.{w16, to_be_bytes}
 use Rattle.std.specs.FinMap as map
 use Rattle.std.proofs.lemmas.Option.{same_Some}
@@ -9,62 +9,32 @@ use Rattle.bgp_types.specs.declared.fault.Expected.{Expected}
 use Rattle.bgp_types.specs.declared.message.Message.{Message}
 use Rattle.bgp_types.specs.declared.message.Message.TheVariants.{OpenMsg, UpdateMsg, NoticeMsg, KeepaliveMsg}
 use Rattle.bgp_types.specs.declared.message.Notice.{Notice}
-use Rattle.bgp_types.specs.declared.message.SessionState.{SessionState}
-use Rattle.bgp_types.specs.declared.message.SessionState.TheVariants.{OpenSent, OpenConfirm, Established, Closed}
 use Rattle.bgp_types.specs.declared.message.Update.{Update}
 use Rattle.bgp_types.specs.FirstFault.{message_of}
 use Rattle.bgp_types.specs.OctetLists.{AreOctets}
 use Rattle.bgp_types.specs.Prefixes.{PrefixValue}
 use Rattle.bgp_types.specs.Reads.{Reads, ReadsUpdate}
 use Rattle.bgp_types.specs.Spelling.{counted, framed, kind_of}
-use Rattle.bgp_types.specs.Tables.{prefix_cmp}
 use Rattle.bgp_types.specs.Writable.{HasAttrsFor}
 use Rattle.bgp_types.proofs.AttrLaws.{AreOctets-drop}
 use Rattle.bgp_types.proofs.MessageLaws.{message_read}
-use Rattle.bgp_types.proofs.TableLaws.{prefix_total}
 use Rattle.bgp_wire.proofs.OctetLaws.{AreOctets-front, AreOctets-back}
 use Rattle.bgp_wire.proofs.ReadAttrs.{read_good, attrs_for}
 use Rattle.bgp_story.specs.Legal.{IsGot, expected_next}
-use Rattle.bgp_story.specs.Readings.{Routes, announce, apply_if, unless_closed, update_in}
+use Rattle.bgp_story.specs.Readings.{Routes, apply_if, update_in}
 use Rattle.bgp_story.proofs.HeaderKinds.{read_of}
 use Rattle.session_value.specs.Cases.{GetsFrame, PassesRound}
 use Rattle.session_value.specs.Sessions.{SessionValue, peering_of, state, unread}
-use Rattle.graft_laws.proofs.PrefixTables.{same}
+use Rattle.graft_laws.proofs.AllRoutes.{AllRoutes, removes, announces, unclosed}
 use Rattle.graft_laws.proofs.Sendable.{IsSendable, sendable_of}
 
 abbrev pub AreSendable : Routes → Type 0
-AreSendable routes = (x : PrefixValue) (a : Attrs) → map.get routes x ≡ Some a → IsSendable a
+AreSendable routes = AllRoutes IsSendable routes
 
 -- what a session heard can be written, and the AS of its remote has 32 bits
 pub record IsFine (s : SessionValue) : Type 0 where
   pub heard : AreSendable s.heard
   pub remote_as : s.config.remote_as < 2 ^ 32
-
--- ---- tables
-
-pub none_sendable : AreSendable map.empty
-none_sendable x a e = let f : ◌≡◌ {A = Bool} false true = ap is_some (sym (map.get-empty prefix_cmp x) ∙ e) in absurd cc
-
-removed : (routes : Routes) (y : PrefixValue) → AreSendable routes → AreSendable (map.remove routes y)
-removed routes y all x a e = by_test (same x y) (sym (map.get-remove prefix_total routes y x) ∙ e) where
-  by_test : (t : Bool) → cond t None (map.get routes x) ≡ Some a → IsSendable a
-  by_test true f = absurd cc
-  by_test false f = all x a f
-
-put : (routes : Routes) (y : PrefixValue) (attrs : Attrs) → IsSendable attrs → AreSendable routes → AreSendable (map.insert routes y attrs)
-put routes y attrs can all x a e = by_test (same x y) (sym (map.get-insert prefix_total routes y attrs x) ∙ e) where
-  by_test : (t : Bool) → cond t (Some attrs) (map.get routes x) ≡ Some a → IsSendable a
-  by_test true f = subst IsSendable (same_Some attrs a f) can
-  by_test false f = all x a f
-
-removes : (ys : List PrefixValue) (routes : Routes) → AreSendable routes → AreSendable (fold map.remove routes ys)
-removes [] routes all = all
-removes (y ∷ ys) routes all = removes ys (map.remove routes y) (removed routes y all)
-
-announces : (attrs : Option Attrs) → ((a : Attrs) → attrs ≡ Some a → IsSendable a) → (ys : List PrefixValue) (routes : Routes) → AreSendable routes → AreSendable (fold (announce attrs) routes ys)
-announces attrs can [] routes all = all
-announces None can (y ∷ ys) routes all = announces None can ys routes all
-announces (Some a) can (y ∷ ys) routes all = announces (Some a) can ys (map.insert routes y a) (put routes y a (can a refl) all)
 
 -- ---- messages
 
@@ -88,16 +58,10 @@ update_can e bytes u (inr faulty) octets g = let sound = (read_of e bytes (Updat
 
 applied : (e : Expected) (bytes : List ℕ) (routes : Routes) (m : Result Message Notice) → IsGot bytes → AreOctets bytes → message_of e bytes ≡ m → AreSendable routes → AreSendable (apply_if routes (update_in m))
 applied e bytes routes (Ok (OpenMsg o)) got octets g all = all
-applied e bytes routes (Ok (UpdateMsg u)) got octets g all = announces u.attrs (update_can e bytes u got octets g) u.nlri (fold map.remove routes u.withdrawn) (removes u.withdrawn routes all)
+applied e bytes routes (Ok (UpdateMsg u)) got octets g all = announces IsSendable u.attrs (update_can e bytes u got octets g) u.nlri (fold map.remove routes u.withdrawn) (removes IsSendable u.withdrawn routes all)
 applied e bytes routes (Ok (NoticeMsg n)) got octets g all = all
 applied e bytes routes (Ok KeepaliveMsg) got octets g all = all
 applied e bytes routes (Err n) got octets g all = all
-
-unclosed : (now : SessionState) (routes : Routes) → AreSendable routes → AreSendable (unless_closed now routes)
-unclosed OpenSent routes all = all
-unclosed OpenConfirm routes all = all
-unclosed Established routes all = all
-unclosed Closed routes all = none_sendable
 
 -- ---- sessions
 
@@ -107,12 +71,12 @@ gets_fine s next bytes octets g fine =
     let own : AreOctets bytes = AreOctets-front bytes g.rest (subst AreOctets g.front octets) in
     record {
       heard = subst AreSendable (sym (ap (λ (v : SessionValue). v.heard) g.effect))
-          (unclosed g.next (apply_if s.heard (update_in (message_of e bytes))) (applied e bytes s.heard (message_of e bytes) g.got own refl fine.heard));
+          (unclosed IsSendable g.next (apply_if s.heard (update_in (message_of e bytes))) (applied e bytes s.heard (message_of e bytes) g.got own refl fine.heard));
       remote_as = subst (λ (v : SessionValue). v.config.remote_as < 2 ^ 32) (sym g.effect) fine.remote_as;
     }
 
 pub passes_fine : (s next : SessionValue) (round : ℕ) → PassesRound s round next → IsFine s → IsFine next
 passes_fine s next round g fine = record {
-  heard = subst AreSendable (sym (ap (λ (v : SessionValue). v.heard) g.effect)) (unclosed g.next s.heard fine.heard);
+  heard = subst AreSendable (sym (ap (λ (v : SessionValue). v.heard) g.effect)) (unclosed IsSendable g.next s.heard fine.heard);
   remote_as = subst (λ (v : SessionValue). v.config.remote_as < 2 ^ 32) (sym g.effect) fine.remote_as;
 }

@@ -8,7 +8,7 @@ use Rattle.session_value.specs.Sessions.{SessionValue}
 use Rattle.graft_model.specs.Setups.{Setup, routers_in, router_numbers}
 use Rattle.graft_model.specs.Parts.{Mesh, Told, Moved, Back, Done, World}
 use Rattle.graft_model.specs.Claims.{sessions_at, sessions_on, sessions_of}
-use Rattle.graft_laws.specs.Phases.{Ordered, Stored, Halted, Moving, Landed, Returning, Declined, Cleared, Phase, Idle, Busy, place_by, mesh_by, InBounds}
+use Rattle.graft_laws.specs.Phases.{Ordered, Stored, Halted, Moving, Landed, Confirmed, Returning, Declined, Cleared, Phase, Idle, Busy, place_by, mesh_by, InBounds}
 use Rattle.graft_laws.specs.Owned.{mesh_of, Stands}
 
 -- ---- lists joined over numbers
@@ -95,6 +95,7 @@ one_by setup (Busy q k t Stored) p s l = at_router _ (Busy q k t Stored) p q s l
 one_by setup (Busy q k t Halted) p s l = at_router _ (Busy q k t Halted) p q s l.0 (grind (arith, nat_tests)) (λ k ne. grind (arith, nat_tests)) (λ a b. refl)
 one_by setup (Busy q k t Moving) p s l = on_the_way _ (Busy q k t Moving) p q t s l.0 l.1 (λ r. grind (arith, nat_tests)) (grind (arith, nat_tests)) (λ a b ne. grind (arith, nat_tests)) (λ a b ne. grind (arith, nat_tests))
 one_by setup (Busy q k t Landed) p s l = at_router _ (Busy q k t Landed) p t s l.1 (grind (arith, nat_tests)) (λ k ne. grind (arith, nat_tests)) (λ a b. grind (arith, nat_tests))
+one_by setup (Busy q k t Confirmed) p s l = at_router _ (Busy q k t Confirmed) p t s l.1 (grind (arith, nat_tests)) (λ k ne. grind (arith, nat_tests)) (λ a b. grind (arith, nat_tests))
 one_by setup (Busy q k t (Returning refusal)) p s l =
     on_the_way _ (Busy q k t (Returning refusal)) p t q s l.1 l.0 (λ r. grind (arith, nat_tests)) (grind (arith, nat_tests)) (λ a b ne. grind (arith, nat_tests)) (λ a b ne. grind (arith, nat_tests))
 one_by setup (Busy q k t (Declined refusal)) p s l = at_router _ (Busy q k t (Declined refusal)) p q s l.0 (grind (arith, nat_tests)) (λ k ne. grind (arith, nat_tests)) (λ a b. refl)

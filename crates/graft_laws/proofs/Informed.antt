@@ -1,5 +1,5 @@
 -- What a router has of another is what that one tells, but for what is due or on its way.
-use Rattle.std.proofs.Common.{◌≡◌, ◌≢◌, ◌==◌, cond, ℕ, zero, suc, ◌<◌, Bool, true, false, List, [], ◌∷◌, ◌++◌, Option, Some, None, refl, sym, ap, ◌∙◌, subst, arith, ◌⊎◌, inl, inr}
+use Rattle.std.proofs.Common.{◌≡◌, ◌≢◌, ◌==◌, cond, ℕ, ◌<◌, Bool, true, false, List, [], ◌∷◌, ◌++◌, Option, Some, None, refl, sym, ap, ◌∙◌, subst, arith, ◌⊎◌, inl, inr}
 use Rattle.std.specs.Prelude.{◌||◌, ◌&&◌, not, nat_lt, if◌then◌else◌}
 use Rattle.std.specs.FinMap as map
 use Rattle.std.proofs.lemmas.Bool.{cases_eq}
@@ -17,7 +17,9 @@ use Rattle.graft_model.specs.Parts.{RouterPart, Tellings, Mesh, Told, Moved, Bac
 use Rattle.graft_model.specs.Points.{at}
 use Rattle.graft_model.specs.RouterRows.{RouterTaken, OrderIn, SegmentIn, MeshIn, RouterSent, MeshTo, OutwardTo, ReportOut}
 use Rattle.graft_model.specs.Setups.{Setup, routers_in}
-use Rattle.graft_model.specs.Steps.{Event, ByRouter, ByFar, ByOperator, RouterEvent, Put, Emit, Arrive, Stray, Got, Decide, Tell, Hear, Admit, Refuse, Freeze, Leave, Land, TurnBack, Return, Clear, Tick, Step, router_row}
+use Rattle.graft_model.specs.declared.event.RouterEvent.{RouterEvent}
+use Rattle.graft_model.proofs.Footprints.{TakesNoTelling, SendsNoTelling, Deciding, Telling, Hearing, Staying, Changing, Footprint, footprint}
+use Rattle.graft_model.specs.Steps.{Event, ByRouter, ByFar, ByOperator, Step, router_row}
 use Rattle.graft_model.specs.TableRows.{Decides, DueEverywhere, Tells, Hears, with_telling}
 use Rattle.graft_laws.specs.Keeps.{Reached}
 use Rattle.graft_laws.specs.Moves.{mesh_taken, mesh_sent, RouterMoves}
@@ -71,38 +73,46 @@ Deaf r taken = (a : ℕ) (x : PrefixValue) (rest was : List Mesh) (d : Option Ro
 mute_none : (r : ℕ) (sent : List RouterSent) → sent ≡ [] → Mute r sent
 mute_none r sent is b x d = ap (λ (s : List RouterSent). last_told x (mesh_sent r s r b) d) is
 
-mute_item : (r t : ℕ) (item : Mesh) (sent : List RouterSent) → sent ≡ MeshTo t item ∷ [] → Skips item → Mute r sent
-mute_item r t item sent is skips b x d = ap (λ (s : List RouterSent). last_told x (mesh_sent r s r b) d) is ∙ skip item skips r t r b x [] d
+mute : (event : RouterEvent) (before : RouterPart) (taken : Option RouterTaken) (after : RouterPart) (r : ℕ) (sent : List RouterSent) → SendsNoTelling event before taken after sent → Mute r sent
+mute event before taken after r [] none b x d = refl
+mute event before taken after r (MeshTo q (Told y route) ∷ []) none b x d = absurd none
+mute event before taken after r (MeshTo q (Moved k p s) ∷ []) none b x d = skip (Moved k p s) (λ y ys e. refl) r q r b x [] d
+mute event before taken after r (MeshTo q (Back k p s refusal) ∷ []) none b x d = skip (Back k p s refusal) (λ y ys e. refl) r q r b x [] d
+mute event before taken after r (MeshTo q (Done k p) ∷ []) none b x d = skip (Done k p) (λ y ys e. refl) r q r b x [] d
+mute event before taken after r (OutwardTo p item ∷ []) none b x d = refl
+mute event before taken after r (ReportOut report ∷ []) none b x d = refl
+mute event before taken after r (item ∷ more ∷ items) none b x d = absurd none
 
-deaf_none : (r : ℕ) (taken : Option RouterTaken) → ((a : ℕ) → mesh_taken r taken a r ≡ []) → Deaf r taken
-deaf_none r taken none a x rest was d e = ap (λ (xs : List Mesh). last_told x xs d) (ap (λ (ys : List Mesh). ys ++ rest) (sym (none a)) ∙ e)
+deaf_item : (r q : ℕ) (item : Mesh) → Skips item → Deaf r (Some (MeshIn q item))
+deaf_item r q item skips a x rest was d e = sym (skip item skips q r a r x rest d) ∙ ap (λ (xs : List Mesh). last_told x xs d) e
 
-deaf_item : (r q : ℕ) (item : Mesh) (taken : Option RouterTaken) → taken ≡ Some (MeshIn q item) → Skips item → Deaf r taken
-deaf_item r q item taken is skips a x rest was d e =
-    sym (skip item skips q r a r x rest d) ∙ ap (λ (xs : List Mesh). last_told x xs d) (ap (λ (t : Option RouterTaken). mesh_taken r t a r ++ rest) (sym is) ∙ e)
+deaf : (setup : Setup) (before : RouterPart) (r : ℕ) (taken : Option RouterTaken) → TakesNoTelling setup before taken → Deaf r taken
+deaf setup before r None none a x rest was d e = ap (λ (xs : List Mesh). last_told x xs d) e
+deaf setup before r (Some (OrderIn order)) none a x rest was d e = ap (λ (xs : List Mesh). last_told x xs d) e
+deaf setup before r (Some (SegmentIn p segment)) none a x rest was d e = ap (λ (xs : List Mesh). last_told x xs d) e
+deaf setup before r (Some (MeshIn q (Told y route))) none a x rest was d e = absurd none
+deaf setup before r (Some (MeshIn q (Moved k p s))) none a x rest was d e = deaf_item r q (Moved k p s) (λ y ys o. refl) a x rest was d e
+deaf setup before r (Some (MeshIn q (Back k p s refusal))) none a x rest was d e = deaf_item r q (Back k p s refusal) (λ y ys o. refl) a x rest was d e
+deaf setup before r (Some (MeshIn q (Done k p))) none a x rest was d e = deaf_item r q (Done k p) (λ y ys o. refl) a x rest was d e
 
-record Says (setup : Setup) (r : ℕ) (before : RouterPart) (taken : Option RouterTaken) (sent : List RouterSent) (after : RouterPart) : Type 0 where
-  sends : (b : ℕ) → b ≢ r → b < routers_in setup → (x : PrefixValue) → has (after.due_in b) x ≡ false → (d : Option Route)
+pub record Says (setup : Setup) (r : ℕ) (before : RouterPart) (taken : Option RouterTaken) (sent : List RouterSent) (after : RouterPart) : Type 0 where
+  pub sends : (b : ℕ) → b ≢ r → b < routers_in setup → (x : PrefixValue) → has (after.due_in b) x ≡ false → (d : Option Route)
       → (has (before.due_in b) x ≡ false → d ≡ tell_in (map.get before.best x)) → last_told x (mesh_sent r sent r b) d ≡ tell_in (map.get after.best x)
-  hears : (a : ℕ) (x : PrefixValue) (rest was : List Mesh) → mesh_taken r taken a r ++ rest ≡ was → last_told x rest (map.get (after.tellings a) x) ≡ last_told x was (map.get (before.tellings a) x)
-  itself : ((x : PrefixValue) → has (before.due_in r) x ≡ false) → (x : PrefixValue) → (has (after.due_in r) x ≡ false) × (last_told x (mesh_sent r sent r r) None ≡ None)
+  pub hears : (a : ℕ) (x : PrefixValue) (rest was : List Mesh) → mesh_taken r taken a r ++ rest ≡ was → last_told x rest (map.get (after.tellings a) x) ≡ last_told x was (map.get (before.tellings a) x)
+  pub itself : ((x : PrefixValue) → has (before.due_in r) x ≡ false) → (x : PrefixValue) → (has (after.due_in r) x ≡ false) × (last_told x (mesh_sent r sent r r) None ≡ None)
 
 module _ (setup : Setup) (r : ℕ) (before : RouterPart) (taken : Option RouterTaken) (sent : List RouterSent) (after : RouterPart) where
   -- neither tells nor hears, and nothing of this changes
   quiet : Mute r sent → Deaf r taken → after.due_in ≡ before.due_in → after.best ≡ before.best → after.tellings ≡ before.tellings → Says setup r before taken sent after
-  quiet mute deaf due best tellings = record {
+  quiet no_sent no_heard due best tellings = record {
     sends = λ b other below x clean d is.
-        mute b x d ∙ is (ap (λ (f : ℕ → Prefixes). has (f b) x) (sym due) ∙ clean) ∙ ap (λ (t : BestRoutes). tell_in (map.get t x)) (sym best);
-    hears = λ a x rest was e. ap (λ (f : ℕ → Tellings). last_told x rest (map.get (f a) x)) tellings ∙ deaf a x rest was (map.get (before.tellings a) x) e;
-    itself = λ none x. (ap (λ (f : ℕ → Prefixes). has (f r) x) due ∙ none x, mute r x None);
+        no_sent b x d ∙ is (ap (λ (f : ℕ → Prefixes). has (f b) x) (sym due) ∙ clean) ∙ ap (λ (t : BestRoutes). tell_in (map.get t x)) (sym best);
+    hears = λ a x rest was e. ap (λ (f : ℕ → Tellings). last_told x rest (map.get (f a) x)) tellings ∙ no_heard a x rest was (map.get (before.tellings a) x) e;
+    itself = λ none x. (ap (λ (f : ℕ → Prefixes). has (f r) x) due ∙ none x, no_sent r x None);
   }
 
-  by_effect : (v : RouterPart) → after ≡ v → Mute r sent → Deaf r taken → v.due_in ≡ before.due_in → v.best ≡ before.best → v.tellings ≡ before.tellings → Says setup r before taken sent after
-  by_effect v is mute deaf a b c =
-      quiet mute deaf (ap (λ (u : RouterPart). u.due_in) is ∙ a) (ap (λ (u : RouterPart). u.best) is ∙ b) (ap (λ (u : RouterPart). u.tellings) is ∙ c)
-
   no_taken : taken ≡ None → Deaf r taken
-  no_taken e = deaf_none r taken (λ a. ap (λ (t : Option RouterTaken). mesh_taken r t a r) e)
+  no_taken e = subst (Deaf r) (sym e) (deaf setup before r None tt)
 
   -- a prefix is decided
   decides : (prefix : PrefixValue) → Decides setup r prefix before taken sent after → Says setup r before taken sent after
@@ -227,35 +237,19 @@ module _ (setup : Setup) (r : ℕ) (before : RouterPart) (taken : Option RouterT
         ap (λ (t : Tellings). last_told x rest (map.get t x)) (at_apart before.tellings q a new other)
         ∙ ap (λ (xs : List Mesh). last_told x xs (map.get (before.tellings a) x)) (ap (λ (xs : List Mesh). xs ++ rest) (sym (none_else a other)) ∙ e)
 
-  no_mesh : (t : Option RouterTaken) → taken ≡ t → ((a : ℕ) → mesh_taken r t a r ≡ []) → Deaf r taken
-  no_mesh t is none = deaf_none r taken (λ a. ap (λ (u : Option RouterTaken). mesh_taken r u a r) is ∙ none a)
-
-  mute_list : (items : List RouterSent) → sent ≡ items → Mute r items → Mute r sent
-  mute_list items is mute b x d = ap (λ (s : List RouterSent). last_told x (mesh_sent r s r b) d) is ∙ mute b x d
-
-  says_row : (event : RouterEvent) → router_row setup r event before taken sent after → Says setup r before taken sent after
-  says_row (Put p zero) row = by_effect _ row.effect (mute_none r sent row.alone.1) (no_taken row.alone.0) refl refl refl
-  says_row (Put p (suc n)) row = by_effect _ row.effect (mute_none r sent row.alone.1) (no_taken row.alone.0) refl refl refl
-  says_row (Emit p from len) row = by_effect _ row.effect (mute_list _ row.sends (λ b x d. refl)) (no_taken row.takes) refl refl refl
-  says_row (Arrive p) row = by_effect _ row.effect (mute_none r sent row.sends) (no_mesh _ row.takes (λ a. refl)) refl refl refl
-  says_row (Stray p) row = by_effect _ row.stays (mute_none r sent row.sends) (no_mesh _ row.takes (λ a. refl)) refl refl refl
-  says_row (Got p) row = by_effect _ row.follows.effect (mute_none r sent row.alone.1) (no_taken row.alone.0) refl refl refl
-  says_row (Decide prefix) row = decides prefix row
-  says_row (Tell q prefix) row = tells q prefix row
-  says_row (Hear q) row = hears q row
-  says_row (Admit k) row = by_effect _ row.effect (mute_none r sent row.sends) (no_mesh _ row.takes (λ a. refl)) refl refl refl
-  says_row (Refuse k) row = by_effect _ row.effect (mute_list _ row.sends (λ b x d. refl)) (no_taken row.takes) refl refl refl
-  says_row (Freeze k) row = by_effect _ row.effect (mute_none r sent row.alone.1) (no_taken row.alone.0) refl refl refl
-  says_row (Leave k) row = by_effect _ row.effect (mute_item r _ _ sent row.sends (λ x ys d. refl)) (no_taken row.takes) refl refl refl
-  says_row (Land q) row = by_effect _ row.effect (mute_list _ row.sends (λ b x d. skip (Done row.comes.graft row.comes.peering) (λ y ys e. refl) r q r b x [] d)) (deaf_item r q _ taken row.comes.takes (λ x ys d. refl)) refl refl refl
-  says_row (TurnBack q) row = by_effect _ row.stays (mute_item r _ _ sent row.sends (λ x ys d. refl)) (deaf_item r q _ taken row.comes.takes (λ x ys d. refl)) refl refl refl
-  says_row (Return q) row = by_effect _ row.effect (mute_list _ row.sends (λ b x d. refl)) (deaf_item r q _ taken row.takes (λ x ys d. refl)) refl refl refl
-  says_row (Clear q) row = by_effect _ row.effect (mute_list _ row.sends (λ b x d. refl)) (deaf_item r q _ taken row.takes (λ x ys d. refl)) refl refl refl
-  says_row (Tick p round) row = by_effect _ row.follows.effect (mute_none r sent row.alone.1) (no_taken row.alone.0) refl refl refl
+  pub says_row : (event : RouterEvent) → router_row setup r event before taken sent after → Says setup r before taken sent after
+  says_row event row = by_print (footprint setup r before after taken sent event row) where
+    by_print : Footprint setup r event before taken sent after → Says setup r before taken sent after
+    by_print (Deciding prefix row) = decides prefix row
+    by_print (Telling q prefix row) = tells q prefix row
+    by_print (Hearing q row) = hears q row
+    by_print (Staying silent is) =
+        quiet (mute event before taken after r sent silent.sends) (deaf setup before r taken silent.takes) (ap (λ (u : RouterPart). u.due_in) is) (ap (λ (u : RouterPart). u.best) is) (ap (λ (u : RouterPart). u.tellings) is)
+    by_print (Changing p silent one change) = quiet (mute event before taken after r sent silent.sends) (deaf setup before r taken silent.takes) one.due_in one.best one.tellings
 
 -- ---- the world
 
-taken_apart : (r : ℕ) (taken : Option RouterTaken) (a b : ℕ) → b ≢ r → mesh_taken r taken a b ≡ []
+pub taken_apart : (r : ℕ) (taken : Option RouterTaken) (a b : ℕ) → b ≢ r → mesh_taken r taken a b ≡ []
 taken_apart r None a b other = refl
 taken_apart r (Some (OrderIn order)) a b other = refl
 taken_apart r (Some (SegmentIn p segment)) a b other = refl

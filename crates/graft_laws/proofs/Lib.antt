@@ -43,6 +43,7 @@ pub mod ToldNone
 pub mod HeardNone
 pub mod Answered
 pub mod TableLaws
+pub mod MadeBefore
 pub mod AwayUp
 pub mod DueHeld
 pub mod QuietPhases
@@ -52,6 +53,8 @@ pub mod Solves
 pub mod QuietSolves
 pub mod Sendable
 pub mod FarOctets
+pub mod AllRoutes
 pub mod HeardSendable
+pub mod ToldPaths
 pub mod FineRouters
 pub mod FineWorlds

@@ -1,5 +1,5 @@
 -- Lists whose items all have a property, and what filters leave.
-use Rattle.std.proofs.Common.{◌≡◌, Bool, true, false, cond, List, [], ◌∷◌, ◌++◌, Option, Some, refl, sym, subst, arith}
+use Rattle.std.proofs.Common.{◌≡◌, Bool, true, false, cond, List, [], ◌∷◌, ◌++◌, Option, Some, refl, sym, ap, ◌∙◌, subst, arith, ◌⊎◌, inl, inr}
 use Rattle.std.specs.Prelude.{filter, ◌&&◌}
 use Rattle.std.specs.List.{AllByRecursion, last_or}
 
@@ -90,3 +90,30 @@ last_end d (x ∷ xs) y = last_end (Some x) xs y
 pub append_same : {A : Type 0} (xs ys zs : List A) → xs ++ ys ≡ xs ++ zs → ys ≡ zs
 append_same [] ys zs e = e
 append_same (x ∷ xs) ys zs e = append_same xs ys zs (let f : xs ++ ys ≡ xs ++ zs = cc in f)
+
+-- ---- where an item stands
+
+-- in two lists that are joined
+abbrev pub StandsIn : {A : Type 0} → List A → List A → List A → List A → A → Type 0
+StandsIn {A = A} xs ys us vs z = ((ws : List A) × (xs ≡ us ++ z ∷ ws)) ⊎ ((ws : List A) × (us ≡ xs ++ ws) × (ys ≡ ws ++ z ∷ vs))
+
+pub stands_in : {A : Type 0} (xs ys us vs : List A) (z : A) → xs ++ ys ≡ us ++ z ∷ vs → StandsIn xs ys us vs z
+stands_in [] ys us vs z e = inr (us, refl, e)
+stands_in (x ∷ xs) ys [] vs z e = inl (xs, (let f : x ≡ z = cc in ap (λ y. y ∷ xs) f))
+stands_in (x ∷ xs) ys (u ∷ us) vs z e = behind (stands_in xs ys us vs z (let g : xs ++ ys ≡ us ++ z ∷ vs = cc in g)) where
+  same : x ≡ u
+  same = cc
+
+  behind : StandsIn xs ys us vs z → StandsIn (x ∷ xs) ys (u ∷ us) vs z
+  behind (inl (ws, f)) = inl (ws, ap (λ y. y ∷ xs) same ∙ ap (λ (l : List _). u ∷ l) f)
+  behind (inr (ws, f, g)) = inr (ws, ap (λ y. y ∷ us) (sym same) ∙ ap (λ (l : List _). x ∷ l) f, g)
+
+-- in a list of one
+pub alone : {A : Type 0} (item z : A) (ws vs : List A) → item ∷ [] ≡ ws ++ z ∷ vs → (ws ≡ []) × (item ≡ z)
+alone item z [] vs e = (refl, cc)
+alone item z (w ∷ []) vs e = absurd cc
+alone item z (w ∷ u ∷ ws) vs e = absurd cc
+
+pub none_stands : {A : Type 0} (z : A) (ws vs : List A) → [] ≡ ws ++ z ∷ vs → ⊥
+none_stands z [] vs e = cc
+none_stands z (w ∷ ws) vs e = cc

@@ -10,7 +10,10 @@ use Rattle.graft_model.specs.Parts.{RouterPart, FarPart, Outward, GraftOrder, Re
 use Rattle.graft_model.specs.RouterRows.{RouterTaken, OrderIn, SegmentIn, MeshIn, RouterSent, MeshTo, OutwardTo, ReportOut}
 use Rattle.graft_model.specs.FarRows.{FarTaken, OutwardIn, SayIn, FarSent}
 use Rattle.graft_model.specs.OperatorRows.{OperatorTaken, ReportIn, OperatorSent, OrderTo, SayTo}
-use Rattle.graft_model.specs.Steps.{RouterEvent, FarEvent, OperatorEvent, RouterTook, FarTook, OperatorTook, router_sends, far_sends, operator_sends, RouterStep, FarStep, OperatorStep}
+use Rattle.graft_model.specs.declared.event.RouterEvent.{RouterEvent}
+use Rattle.graft_model.specs.declared.event.FarEvent.{FarEvent}
+use Rattle.graft_model.specs.declared.event.OperatorEvent.{OperatorEvent}
+use Rattle.graft_model.specs.Steps.{RouterTook, FarTook, OperatorTook, router_sends, far_sends, operator_sends, RouterStep, FarStep, OperatorStep}
 use Rattle.graft_laws.specs.Phases.{only, only2}
 use Rattle.graft_laws.specs.Moves.{mesh_taken, inward_taken, orders_taken, mesh_sent, outward_sent, reports_sent, RouterHeads, RouterMoves, outward_taken, says_taken, inward_sent, FarHeads, FarMoves, orders_sent, says_sent, OperatorMoves}
 

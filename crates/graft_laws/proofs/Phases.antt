@@ -4,50 +4,34 @@ use Rattle.std.proofs.lemmas.Bool.Decides.{nat_tests}
 use Rattle.graft_steps.specs.declared.refusal.Refusal.{Refusal}
 use Rattle.graft_steps.specs.declared.refusal.Outcome.TheVariants.{Accepted, Refused}
 use Rattle.session_value.specs.Sessions.{SessionValue}
-use Rattle.graft_model.specs.Parts.{Order, Live, Frozen, Mesh, Moved, Back, Done, GraftOrder, Report}
-use Rattle.graft_laws.specs.Phases.{Ordered, Stored, Halted, Moving, Landed, Returning, Declined, Cleared, Phase, Idle, Busy, place_by, mesh_by, orders_by, reports_by}
+use Rattle.graft_model.specs.Parts.{Errand, Leaving, Owing, Live, Frozen, Mesh, Moved, Back, Done, GraftOrder, Report}
+use Rattle.graft_laws.specs.Phases.{Ordered, Stored, Halted, Moving, Landed, Confirmed, Returning, Declined, Cleared, Phase, Busy, place_by, mesh_by, orders_by, reports_by}
 
 -- ---- at a router
 
-pub live_session : (phase : Phase) (s t : SessionValue) (o : Option Order) (r : ℕ) → Live t o ≡ place_by phase s r → t ≡ s
-live_session (Idle q) s t o r e = grind (arith, nat_tests)
+pub live_session : (phase : Phase) (s t : SessionValue) (o : Option Errand) (r : ℕ) → Live t o ≡ place_by phase s r → t ≡ s
 live_session (Busy q k u Ordered) s t o r e = grind (arith, nat_tests)
-live_session (Busy q k u Stored) s t o r e = grind (arith, nat_tests)
-live_session (Busy q k u Halted) s t o r e = grind (arith, nat_tests)
-live_session (Busy q k u Moving) s t o r e = grind (arith, nat_tests)
-live_session (Busy q k u Landed) s t o r e = grind (arith, nat_tests)
-live_session (Busy q k u (Returning refusal)) s t o r e = grind (arith, nat_tests)
-live_session (Busy q k u (Declined refusal)) s t o r e = grind (arith, nat_tests)
-live_session (Busy q k u Cleared) s t o r e = grind (arith, nat_tests)
+live_session _ s t o r e = grind (arith, nat_tests)
 
 -- a session with a graft that is stored for it
-pub stored_at : (phase : Phase) (s t : SessionValue) (r k u : ℕ) → Live t (Some (record { graft = k; target = u })) ≡ place_by phase s r → (phase ≡ Busy r k u Stored) × (t ≡ s)
+pub stored_at : (phase : Phase) (s t : SessionValue) (r k u : ℕ) → Live t (Some (Leaving (record { graft = k; target = u }))) ≡ place_by phase s r → (phase ≡ Busy r k u Stored) × (t ≡ s)
 stored_at (Busy q l v Stored) s t r k u e = grind (arith, nat_tests)
-stored_at (Idle q) s t r k u e = absurd (grind (arith, nat_tests))
-stored_at (Busy q l v Ordered) s t r k u e = absurd (grind (arith, nat_tests))
-stored_at (Busy q l v Halted) s t r k u e = absurd (grind (arith, nat_tests))
-stored_at (Busy q l v Moving) s t r k u e = absurd (grind (arith, nat_tests))
-stored_at (Busy q l v Landed) s t r k u e = absurd (grind (arith, nat_tests))
-stored_at (Busy q l v (Returning refusal)) s t r k u e = absurd (grind (arith, nat_tests))
-stored_at (Busy q l v (Declined refusal)) s t r k u e = absurd (grind (arith, nat_tests))
-stored_at (Busy q l v Cleared) s t r k u e = absurd (grind (arith, nat_tests))
+stored_at _ s t r k u e = absurd (grind (arith, nat_tests))
 
 pub halted_at : (phase : Phase) (s t : SessionValue) (r k u : ℕ) → Frozen t (record { graft = k; target = u }) ≡ place_by phase s r → (phase ≡ Busy r k u Halted) × (t ≡ s)
 halted_at (Busy q l v Halted) s t r k u e = grind (arith, nat_tests)
-halted_at (Idle q) s t r k u e = absurd (grind (arith, nat_tests))
-halted_at (Busy q l v Ordered) s t r k u e = absurd (grind (arith, nat_tests))
-halted_at (Busy q l v Stored) s t r k u e = absurd (grind (arith, nat_tests))
-halted_at (Busy q l v Moving) s t r k u e = absurd (grind (arith, nat_tests))
-halted_at (Busy q l v Landed) s t r k u e = absurd (grind (arith, nat_tests))
-halted_at (Busy q l v (Returning refusal)) s t r k u e = absurd (grind (arith, nat_tests))
-halted_at (Busy q l v (Declined refusal)) s t r k u e = absurd (grind (arith, nat_tests))
-halted_at (Busy q l v Cleared) s t r k u e = absurd (grind (arith, nat_tests))
+halted_at _ s t r k u e = absurd (grind (arith, nat_tests))
+
+-- a session that has landed, and word of that is owed
+pub owing_at : (phase : Phase) (s t : SessionValue) (r k q : ℕ) → Live t (Some (Owing (record { graft = k; source = q }))) ≡ place_by phase s r → (phase ≡ Busy q k r Landed) × (t ≡ s)
+owing_at (Busy q l v Landed) s t r k u e = grind (arith, nat_tests)
+owing_at _ s t r k u e = absurd (grind (arith, nat_tests))
 
 -- ---- between routers
 
 pub moved_in : (phase : Phase) (p : ℕ) (s t : SessionValue) (a b k : ℕ) (rest : List Mesh) → Moved k p t ∷ rest ≡ mesh_by phase p s a b → (phase ≡ Busy a k b Moving) × (t ≡ s)
 moved_in (Busy q l v Moving) p s t a b k rest e = grind (arith, nat_tests)
-moved_in (Busy q l v Landed) p s t a b k rest e = absurd (grind (arith, nat_tests))
+moved_in (Busy q l v Confirmed) p s t a b k rest e = absurd (grind (arith, nat_tests))
 moved_in (Busy q l v (Returning refusal)) p s t a b k rest e = absurd (grind (arith, nat_tests))
 moved_in _ p s t a b k rest e = absurd cc
 
@@ -55,11 +39,11 @@ pub back_in : (phase : Phase) (p : ℕ) (s t : SessionValue) (refusal : Refusal)
     → (phase ≡ Busy b k a (Returning refusal)) × (t ≡ s)
 back_in (Busy q l v (Returning other)) p s t refusal a b k rest e = grind (arith, nat_tests)
 back_in (Busy q l v Moving) p s t refusal a b k rest e = absurd (grind (arith, nat_tests))
-back_in (Busy q l v Landed) p s t refusal a b k rest e = absurd (grind (arith, nat_tests))
+back_in (Busy q l v Confirmed) p s t refusal a b k rest e = absurd (grind (arith, nat_tests))
 back_in _ p s t refusal a b k rest e = absurd cc
 
-pub done_in : (phase : Phase) (p : ℕ) (s : SessionValue) (a b k : ℕ) (rest : List Mesh) → Done k p ∷ rest ≡ mesh_by phase p s a b → phase ≡ Busy b k a Landed
-done_in (Busy q l v Landed) p s a b k rest e = grind (arith, nat_tests)
+pub done_in : (phase : Phase) (p : ℕ) (s : SessionValue) (a b k : ℕ) (rest : List Mesh) → Done k p ∷ rest ≡ mesh_by phase p s a b → phase ≡ Busy b k a Confirmed
+done_in (Busy q l v Confirmed) p s a b k rest e = grind (arith, nat_tests)
 done_in (Busy q l v Moving) p s a b k rest e = absurd (grind (arith, nat_tests))
 done_in (Busy q l v (Returning refusal)) p s a b k rest e = absurd (grind (arith, nat_tests))
 done_in _ p s a b k rest e = absurd cc
@@ -83,25 +67,12 @@ success_in _ r k rest e = absurd cc
 
 -- ---- another session at the same place
 
-pub place_for : (phase : Phase) (s t : SessionValue) (o : Option Order) (r x : ℕ) → place_by phase s r ≡ Live s o → cond (x == r) (Live t o) (place_by phase s x) ≡ place_by phase t x
-place_for (Idle q) s t o r x e = grind (arith, nat_tests)
+pub place_for : (phase : Phase) (s t : SessionValue) (o : Option Errand) (r x : ℕ) → place_by phase s r ≡ Live s o → cond (x == r) (Live t o) (place_by phase s x) ≡ place_by phase t x
 place_for (Busy q k u Ordered) s t o r x e = grind (arith, nat_tests)
-place_for (Busy q k u Stored) s t o r x e = grind (arith, nat_tests)
-place_for (Busy q k u Halted) s t o r x e = grind (arith, nat_tests)
-place_for (Busy q k u Moving) s t o r x e = grind (arith, nat_tests)
-place_for (Busy q k u Landed) s t o r x e = grind (arith, nat_tests)
-place_for (Busy q k u (Returning refusal)) s t o r x e = grind (arith, nat_tests)
-place_for (Busy q k u (Declined refusal)) s t o r x e = grind (arith, nat_tests)
-place_for (Busy q k u Cleared) s t o r x e = grind (arith, nat_tests)
+place_for _ s t o r x e = grind (arith, nat_tests)
 
 -- where a session is live, none is on its way
-pub mesh_for : (phase : Phase) (s t : SessionValue) (o : Option Order) (r p a b : ℕ) → place_by phase s r ≡ Live s o → mesh_by phase p s a b ≡ mesh_by phase p t a b
-mesh_for (Idle q) s t o r p a b e = refl
-mesh_for (Busy q k u Ordered) s t o r p a b e = refl
-mesh_for (Busy q k u Stored) s t o r p a b e = refl
-mesh_for (Busy q k u Halted) s t o r p a b e = refl
+pub mesh_for : (phase : Phase) (s t : SessionValue) (o : Option Errand) (r p a b : ℕ) → place_by phase s r ≡ Live s o → mesh_by phase p s a b ≡ mesh_by phase p t a b
 mesh_for (Busy q k u Moving) s t o r p a b e = absurd (grind (arith, nat_tests))
-mesh_for (Busy q k u Landed) s t o r p a b e = refl
 mesh_for (Busy q k u (Returning refusal)) s t o r p a b e = absurd (grind (arith, nat_tests))
-mesh_for (Busy q k u (Declined refusal)) s t o r p a b e = refl
-mesh_for (Busy q k u Cleared) s t o r p a b e = refl
+mesh_for _ s t o r p a b e = refl

@@ -10,14 +10,18 @@ use Rattle.session_value.specs.Sessions.{SessionValue, begun}
 use Rattle.session_value.specs.declared.config.SessionConfig.{SessionConfig}
 use Rattle.graft_model.specs.Setups.{Setup, PeeringSetup, IsSetup, peerings_in, config_of, start_of}
 use Rattle.graft_model.specs.Parts.{FarPart, Outward, Seg, PointAt, World}
-use Rattle.graft_model.specs.FarRows.{FarTaken, OutwardIn, SayIn, FarSent, Way, Homeward, Remoteward, link, with_link, without}
+use Rattle.tcp_seq.specs.declared.segment.Way.{Way}
+use Rattle.tcp_seq.specs.declared.segment.Way.TheVariants.{Home, Remote}
+use Rattle.graft_model.specs.FarRows.{FarTaken, OutwardIn, SayIn, FarSent, link, with_link, without}
 use Rattle.graft_model.specs.First.{first_world, first_far}
-use Rattle.graft_model.specs.Steps.{FarEvent, Say, Send, Take, Pass, Reach, Lose, Point, Beat, far_row}
-use Rattle.graft_laws.specs.Phases.{Stage, Ordered, Stored, Halted, Moving, Landed, Returning, Declined, Cleared, Phase, Idle, Busy, only, only2}
+use Rattle.graft_model.specs.declared.event.FarEvent.{FarEvent}
+use Rattle.graft_model.specs.declared.event.FarEvent.TheVariants.{Say, Send, Take, Pass, Reach, Lose, Point, Beat}
+use Rattle.graft_model.specs.Steps.{far_row}
+use Rattle.graft_laws.specs.Phases.{Stage, Moving, Landed, Confirmed, Cleared, Phase, Idle, Busy, only, only2}
 use Rattle.graft_laws.specs.Log.{is_of}
 use Rattle.graft_laws.specs.Owned.{Stands}
 use Rattle.graft_laws.specs.Moves.{FarMoves, outward_taken}
-use Rattle.graft_laws.specs.Life.{SameLine, LineGets, LineGives, LineSays, Change, Rests, Begins, Admits, Refuses, Freezes, Leaves, Lands, TurnsBack, Returns, Clears, NotesRefusal, NotesSuccess, Puts, Emits, Arrives, Gets, Ticks, Strays, IsToSay, FarActs}
+use Rattle.graft_laws.specs.Life.{Acts, SameLine, LineGets, LineGives, LineSays, Change, Rests, Lands, Confirms, Clears, NotesSuccess, Puts, Emits, Arrives, Gets, Ticks, Strays, IsToSay, FarActs, GraftMove, Grafts}
 use Rattle.graft_laws.specs.Keeps.{Reached, Has}
 use Rattle.graft_laws.specs.Pointing.{home_of, IsUpTo, IsBelow, is_word_of, IsPast, HasLandedLast, WordOf, Words, Points}
 use Rattle.graft_laws.proofs.Lists.{all_map, all_join, all_back, all_head, filter_none, append_same}
@@ -37,14 +41,9 @@ module _ (setup : Setup) (w v : World) (p : ℕ) (grows : LogGrows w.operator v.
 
   landed_still : (phase : Phase) (last : ℕ) → HasLandedLast setup w p phase last → HasLandedLast setup v p phase last
   landed_still (Busy q k t Landed) last is = is
+  landed_still (Busy q k t Confirmed) last is = is
   landed_still (Busy q k t Cleared) last is = is
-  landed_still (Idle q) last past = past_still last past
-  landed_still (Busy q k t Ordered) last past = past_still last past
-  landed_still (Busy q k t Stored) last past = past_still last past
-  landed_still (Busy q k t Halted) last past = past_still last past
-  landed_still (Busy q k t Moving) last past = past_still last past
-  landed_still (Busy q k t (Returning refusal)) last past = past_still last past
-  landed_still (Busy q k t (Declined refusal)) last past = past_still last past
+  landed_still _ last past = past_still last past
 
 -- a graft that is under way comes after the last that landed
 below_graft : (setup : Setup) (w : World) (p q k t last : ℕ) (stage : Stage) (s : SessionValue) → Stands setup w p (Busy q k t stage) s → IsPast setup w p last → last < k
@@ -263,8 +262,8 @@ far_as : (w v : World) (p : ℕ) (taken known : Option FarTaken) (sent : List Fa
 far_as w v p taken known sent part e m = subst (λ (x : Option FarTaken). FarMoves p x sent part w v) e m
 
 lose_stays : (before part : FarPart) (way : Way) (index : ℕ) → part ≡ with_link before way (without index (link before way)) → (part.pointer ≡ before.pointer) × (part.followed ≡ before.followed)
-lose_stays before part Homeward index e = (ap (λ (x : FarPart). x.pointer) e, ap (λ (x : FarPart). x.followed) e)
-lose_stays before part Remoteward index e = (ap (λ (x : FarPart). x.pointer) e, ap (λ (x : FarPart). x.followed) e)
+lose_stays before part Home index e = (ap (λ (x : FarPart). x.pointer) e, ap (λ (x : FarPart). x.followed) e)
+lose_stays before part Remote index e = (ap (λ (x : FarPart). x.pointer) e, ap (λ (x : FarPart). x.followed) e)
 
 far_words : (setup : Setup) (w v : World) (p home last : ℕ) (event : FarEvent) (taken : Option FarTaken) (sent : List FarSent) (part : FarPart) → far_row setup p event (w.far p) taken sent part → FarMoves p taken sent part w v
     → Words w p home last → Words v p home last
@@ -289,32 +288,38 @@ far_words setup w v p home last (Point router) taken sent part row m =
 
 -- ---- every change
 
+same_home : {setup : Setup} {w : World} {phase next : Phase} {s : SessionValue} → GraftMove setup w phase s next → home_of next ≡ home_of phase
+same_home Confirms = refl
+same_home _ = refl
+
 module _ (setup : Setup) (w v : World) (p : ℕ) (grows : LogGrows w.operator v.operator) where
+  landed_on : (phase next : Phase) (s : SessionValue) → GraftMove setup w phase s next → (last : ℕ) → Stands setup w p phase s → Stands setup v p next s
+      → HasLandedLast setup w p phase last → HasLandedLast setup v p next last
+  landed_on _ _ _ Confirms last b then is = is
+  landed_on _ _ s (NotesSuccess {q = q} {k = k} {t = t}) last b then is = subst (IsPast setup v p) (sym is) (landed_ended setup w v p q k t t Cleared s s grows b then)
+  landed_on _ _ _ _ last b then past = past_still setup w v p grows last past
+
+  same_phase : {s t : SessionValue} (phase : Phase) (i : Points setup w p phase s) → Words v p (home_of phase) i.last → Points setup v p phase t
+  same_phase phase i words = record { last = i.last; landed = landed_still setup w v p grows phase i.last i.landed; words = words }
+
   points_then : (phase next : Phase) (s t : SessionValue) → Stands setup w p phase s → Stands setup v p next t → Change setup w v p phase s next t → Points setup w p phase s → Points setup v p next t
-  points_then _ _ _ _ b then (Rests {phase = phase} line entries) i = record { last = i.last; landed = landed_still setup w v p grows phase i.last i.landed; words = line_words w v p (home_of phase) i.last line i.words }
-  points_then _ _ _ _ b then (Begins line entries) i = record { last = i.last; landed = past_still setup w v p grows i.last i.landed; words = line_words w v p _ i.last line i.words }
-  points_then _ _ _ _ b then (Admits line entries) i = record { last = i.last; landed = past_still setup w v p grows i.last i.landed; words = line_words w v p _ i.last line i.words }
-  points_then _ _ _ _ b then (Refuses cause line entries) i = record { last = i.last; landed = past_still setup w v p grows i.last i.landed; words = line_words w v p _ i.last line i.words }
-  points_then _ _ _ _ b then (Freezes cause line entries) i = record { last = i.last; landed = past_still setup w v p grows i.last i.landed; words = line_words w v p _ i.last line i.words }
-  points_then _ _ _ _ b then (Leaves line entries) i = record { last = i.last; landed = past_still setup w v p grows i.last i.landed; words = line_words w v p _ i.last line i.words }
+  points_then _ _ _ _ b then (Rests {phase = phase} line entries) i = same_phase phase i (line_words w v p (home_of phase) i.last line i.words)
+  points_then phase next s _ b then (Grafts move line entries) i = record {
+    last = i.last;
+    landed = landed_on phase next s move i.last b then i.landed;
+    words = subst (λ (home : ℕ). Words v p home i.last) (sym (same_home move)) (line_words w v p (home_of phase) i.last line i.words);
+  }
   points_then _ _ _ _ b then (Lands {q = q} {k = k} {t = t} {s = s} admitted line entries) i =
       record { last = k; landed = refl; words = landing_words w v p q i.last k t (below_graft setup w p q k t i.last Moving s b i.landed) line i.words }
-  points_then _ _ _ _ b then (TurnsBack cause line entries) i = record { last = i.last; landed = past_still setup w v p grows i.last i.landed; words = line_words w v p _ i.last line i.words }
-  points_then _ _ _ _ b then (Returns line entries) i = record { last = i.last; landed = past_still setup w v p grows i.last i.landed; words = line_words w v p _ i.last line i.words }
   points_then _ _ _ _ b then (Clears line entries) i = record { last = i.last; landed = i.landed; words = line_words w v p _ i.last line i.words }
-  points_then _ _ _ _ b then (NotesRefusal line entries) i = record { last = i.last; landed = past_still setup w v p grows i.last i.landed; words = line_words w v p _ i.last line i.words }
-  points_then _ _ _ u b then (NotesSuccess {q = q} {k = k} {t = t} {s = s} line entries) i =
-      record { last = i.last; landed = subst (IsPast setup v p) (sym i.landed) (landed_ended setup w v p q k t t Cleared s s grows b then); words = line_words w v p t i.last line i.words }
-  points_then _ _ _ _ b then (Puts {phase = phase} r order update there puts line entries) i = record { last = i.last; landed = landed_still setup w v p grows phase i.last i.landed; words = line_words w v p (home_of phase) i.last line i.words }
-  points_then _ _ _ _ b then (Emits {phase = phase} r order from len segment end there emits line entries) i =
-      record { last = i.last; landed = landed_still setup w v p grows phase i.last i.landed; words = segment_words w v p r (home_of phase) i.last segment line i.words }
-  points_then _ _ _ _ b then (Arrives {phase = phase} r order segment end there takes line entries) i = record { last = i.last; landed = landed_still setup w v p grows phase i.last i.landed; words = gives w v p r (home_of phase) i.last segment line i.words }
-  points_then _ _ _ _ b then (Gets {phase = phase} r order bytes there gets line entries) i = record { last = i.last; landed = landed_still setup w v p grows phase i.last i.landed; words = line_words w v p (home_of phase) i.last line i.words }
-  points_then _ _ _ _ b then (Ticks {phase = phase} r order round there passes line entries) i = record { last = i.last; landed = landed_still setup w v p grows phase i.last i.landed; words = line_words w v p (home_of phase) i.last line i.words }
-  points_then _ _ _ _ b then (Strays {phase = phase} r segment line entries) i = record { last = i.last; landed = landed_still setup w v p grows phase i.last i.landed; words = gives w v p r (home_of phase) i.last segment line i.words }
-  points_then _ _ _ _ b then (IsToSay {phase = phase} step line entries) i = record { last = i.last; landed = landed_still setup w v p grows phase i.last i.landed; words = says w v p step (home_of phase) i.last line i.words }
-  points_then _ _ _ _ b then (FarActs {phase = phase} event taken sent part row m entries) i =
-      record { last = i.last; landed = landed_still setup w v p grows phase i.last i.landed; words = far_words setup w v p (home_of phase) i.last event taken sent part row m i.words }
+  points_then _ _ _ _ b then (Acts {phase = phase} r errand there (Puts update puts told line entries)) i = same_phase phase i (line_words w v p (home_of phase) i.last line i.words)
+  points_then _ _ _ _ b then (Acts {phase = phase} r errand there (Emits from len segment end emits line entries)) i = same_phase phase i (segment_words w v p r (home_of phase) i.last segment line i.words)
+  points_then _ _ _ _ b then (Acts {phase = phase} r errand there (Arrives segment end takes line entries)) i = same_phase phase i (gives w v p r (home_of phase) i.last segment line i.words)
+  points_then _ _ _ _ b then (Acts {phase = phase} r errand there (Gets bytes gets line entries)) i = same_phase phase i (line_words w v p (home_of phase) i.last line i.words)
+  points_then _ _ _ _ b then (Acts {phase = phase} r errand there (Ticks round passes line entries)) i = same_phase phase i (line_words w v p (home_of phase) i.last line i.words)
+  points_then _ _ _ _ b then (Strays {phase = phase} r segment line entries) i = same_phase phase i (gives w v p r (home_of phase) i.last segment line i.words)
+  points_then _ _ _ _ b then (IsToSay {phase = phase} step line entries) i = same_phase phase i (says w v p step (home_of phase) i.last line i.words)
+  points_then _ _ _ _ b then (FarActs {phase = phase} event taken sent part row m entries) i = same_phase phase i (far_words setup w v p (home_of phase) i.last event taken sent part row m i.words)
 
 -- ---- every run
 

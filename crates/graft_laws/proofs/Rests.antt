@@ -2,7 +2,7 @@
 use Rattle.std.proofs.Common.{◌≡◌, ◌==◌, ℕ, List, Option, sym, ap, ◌∙◌, subst}
 use Rattle.session_value.specs.Sessions.{SessionValue}
 use Rattle.graft_model.specs.Setups.{Setup}
-use Rattle.graft_model.specs.Parts.{Order, Live, RouterPart, OperatorPart, World}
+use Rattle.graft_model.specs.Parts.{Errand, Live, RouterPart, OperatorPart, World}
 use Rattle.graft_model.specs.RouterRows.{RouterTaken, RouterSent}
 use Rattle.graft_laws.specs.Phases.{Phase, place_by}
 use Rattle.graft_laws.specs.Log.{is_of, LogSays}
@@ -33,7 +33,7 @@ rests_by_router setup w v p r taken sent part phase s m apart = rests setup w v 
     (line_by_router w v p r taken sent part m apart.outward_sent apart.inward_taken) (same_entries w v p r part m.router apart.entries)
 
 -- the session is another one, at the same place
-pub changed : (setup : Setup) (w v : World) (p r : ℕ) (taken : Option RouterTaken) (sent : List RouterSent) (part : RouterPart) (phase : Phase) (s t : SessionValue) (o : Option Order)
+pub changed : (setup : Setup) (w v : World) (p r : ℕ) (taken : Option RouterTaken) (sent : List RouterSent) (part : RouterPart) (phase : Phase) (s t : SessionValue) (o : Option Errand)
     → RouterMoves r taken sent part w v → AreOthers setup p r taken sent → place_by phase s r ≡ Live s o → part.places p ≡ Live t o → Stands setup w p phase s → Stands setup v p phase t
 changed setup w v p r taken sent part phase s t o m items there place b = record {
   places = λ x. ap (λ (f : ℕ → RouterPart). (f x).places p) m.router ∙ (places_step (x == r) part (w.router x) p (Live t o) (place_by phase s x) place (b.places x) ∙ place_for phase s t o r x there);

@@ -1,23 +1,18 @@
 -- What each event of a router keeps of its part, every run keeps of all routers.
-use Rattle.std.proofs.Common.{◌≡◌, ℕ, Option, sym, subst, arith, inl, inr}
-use Rattle.std.specs.Prelude.{◌≢◌, List}
+use Rattle.std.proofs.Common.{ℕ, Option, sym, subst, inl, inr}
+use Rattle.std.specs.Prelude.{List}
 use Rattle.std.proofs.lemmas.Bool.{cases_eq}
-use Rattle.std.proofs.lemmas.Bool.Decides.{nat_tests}
 use Rattle.graft_model.specs.First.{first_router}
 use Rattle.graft_model.specs.Parts.{RouterPart, World}
 use Rattle.graft_model.specs.Points.{at}
 use Rattle.graft_model.specs.RouterRows.{RouterTaken, RouterSent}
 use Rattle.graft_model.specs.Setups.{Setup}
-use Rattle.graft_model.specs.Steps.{Event, ByRouter, ByFar, ByOperator, RouterEvent, Step, router_row}
+use Rattle.graft_model.specs.declared.event.RouterEvent.{RouterEvent}
+use Rattle.graft_model.specs.Steps.{Event, ByRouter, ByFar, ByOperator, Step, router_row}
+pub use Rattle.graft_model.proofs.Footprints.{at_same, at_apart}
 use Rattle.graft_laws.specs.Keeps.{Reached}
 use Rattle.graft_laws.proofs.Moves.{router_moves, far_moves, operator_moves}
 use Rattle.graft_laws.proofs.Runs.{carried}
-
-pub at_same : {A : Type 0} (f : ℕ → A) (j : ℕ) (x : A) → at f j x j ≡ x
-at_same f j x = grind (arith, nat_tests)
-
-pub at_apart : {A : Type 0} (f : ℕ → A) (j n : ℕ) (x : A) → n ≢ j → at f j x n ≡ f n
-at_apart f j n x other = grind (arith, nat_tests)
 
 -- a property of all values is kept where one of them changes
 pub at_keeps : {A : Type 0} (P : ℕ → A → Type 0) (f : ℕ → A) (j : ℕ) (x : A) → P j x → ((n : ℕ) → P n (f n)) → (n : ℕ) → P n (at f j x n)

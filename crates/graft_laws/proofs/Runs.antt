@@ -1,5 +1,5 @@
 -- What each event keeps, every run keeps.
-use Rattle.std.proofs.Common.{◌≡◌, ◌==◌, cond, ℕ, ◌<◌, ◌≤◌, Bool, true, false, List, [], ◌∷◌, ◌++◌, Some, refl, sym, ap, subst, arith}
+use Rattle.std.proofs.Common.{◌≡◌, ◌==◌, cond, ℕ, ◌<◌, ◌≤◌, Bool, true, false, List, [], ◌∷◌, ◌++◌, Some, refl, sym, ap, subst, arith, append_assoc, append-nil}
 use Rattle.std.proofs.lemmas.Bool.Decides.{nat_tests}
 use Rattle.std.specs.Prelude.{IsSome, option_map}
 use Rattle.std.specs.List.{AllByRecursion}
@@ -79,7 +79,7 @@ owned_then setup w v event ok owned step =
 
 -- ---- runs
 
-run_more : (setup : Setup) (events : List Event) (event : Event) (w u v : World) → Run setup w events u → Step setup event u v → Run setup w (events ++ event ∷ []) v
+pub run_more : (setup : Setup) (events : List Event) (event : Event) (w u v : World) → Run setup w events u → Step setup event u v → Run setup w (events ++ event ∷ []) v
 run_more setup [] event w u v is step = (v, subst (λ (x : World). Step setup event x v) is step, refl)
 run_more setup (e ∷ events) event w u v (next, first, run) step = (next, first, run_more setup events event next u v run step)
 
@@ -94,6 +94,15 @@ module _ (setup : Setup) (I : World → Type 0) (keeps : (event : Event) (before
   along : (events : List Event) (w v : World) → Reached setup w → Run setup w events v → I w → I v
   along [] w v reached is i = subst I (sym is) i
   along (event ∷ events) w v reached (u, step, run) i = along events u v (reached_more setup event w u reached step) run (keeps event w u reached step i)
+
+-- The same of a property that speaks of the events before, too.
+pub with_events : (setup : Setup) (I : List Event → World → Type 0) (first : World)
+    → ((done : List Event) (event : Event) (before after : World) → Run setup first done before → Step setup event before after → I done before → I (done ++ event ∷ []) after)
+    → (done events : List Event) (w v : World) → Run setup first done w → Run setup w events v → I done w → I (done ++ events) v
+with_events setup I first keeps done [] w v before is i = subst (λ (es : List Event). I es v) (sym (append-nil done)) (subst (I done) (sym is) i)
+with_events setup I first keeps done (event ∷ events) w v before (u, step, run) i =
+    subst (λ (es : List Event). I es v) (append_assoc done (event ∷ []) events)
+    (with_events setup I first keeps (done ++ event ∷ []) events u v (run_more setup done event first w u before step) run (keeps done event w u before step i))
 
 -- a run goes on from a world that is reached
 pub reached_run : (setup : Setup) (events : List Event) (w v : World) → Reached setup w → Run setup w events v → Reached setup v

@@ -14,9 +14,15 @@ use Rattle.session_value.proofs.Ties.{emits_same, takes_same}
 use Rattle.graft_model.specs.Points.{at}
 use Rattle.graft_model.specs.Setups.{Setup, PeeringSetup, ScriptStep, SayStep, MoveStep, IsPeeringSetup, beat_of, said_by}
 use Rattle.graft_model.specs.Parts.{FarPart, OperatorPart, World}
-use Rattle.graft_model.specs.FarRows.{FarTaken, OutwardIn, SayIn, FarSent, Homeward, Remoteward, Says, Beats}
+use Rattle.tcp_seq.specs.declared.segment.Way.TheVariants.{Home, Remote}
+use Rattle.graft_model.specs.FarRows.{FarTaken, OutwardIn, SayIn, FarSent, Says, Beats}
 use Rattle.graft_model.specs.OperatorRows.{OperatorSent, SayTo}
-use Rattle.graft_model.specs.Steps.{Event, ByRouter, ByFar, ByOperator, FarEvent, Say, Send, Take, Pass, Reach, Lose, Point, Beat, OperatorEvent, Order, Note, Go, Step, RouterStep, FarStep, OperatorStep, far_row, operator_row}
+use Rattle.graft_model.specs.declared.event.RouterEvent.{RouterEvent}
+use Rattle.graft_model.specs.declared.event.FarEvent.{FarEvent}
+use Rattle.graft_model.specs.declared.event.OperatorEvent.{OperatorEvent}
+use Rattle.graft_model.specs.declared.event.FarEvent.TheVariants.{Say, Send, Take, Pass, Reach, Lose, Point, Beat}
+use Rattle.graft_model.specs.declared.event.OperatorEvent.TheVariants.{Order, Note, Go}
+use Rattle.graft_model.specs.Steps.{Event, ByRouter, ByFar, ByOperator, Step, RouterStep, FarStep, OperatorStep, far_row, operator_row}
 use Rattle.graft_laws.specs.Moves.{says_taken, says_sent, FarMoves, OperatorMoves}
 use Rattle.graft_laws.specs.Phases.{only}
 use Rattle.graft_laws.specs.Said.{said_in, size_at, unissued, IsSayOf, Said}
@@ -39,7 +45,7 @@ module _ (setup : Setup) (p : ℕ) (peering : PeeringSetup) where
     beats = λ some. is.beats (omega (arith, some, beats));
   }
 
-  by_router : (w v : World) (r : ℕ) (event : Rattle.graft_model.specs.Steps.RouterEvent) → RouterStep setup r event w v → Said setup p peering w → Said setup p peering v
+  by_router : (w v : World) (r : ℕ) (event : RouterEvent) → RouterStep setup r event w v → Said setup p peering w → Said setup p peering v
   by_router w v r event x is =
       let m = router_moves setup r event w v x in
       same w v (ap (λ (f : ℕ → FarPart). (f p).end.stream) m.far) (ap (λ (f : ℕ → FarPart). (f p).beats) m.far) (ap (λ (o : OperatorPart). o.issued) m.operator) (ap (λ (f : ℕ → List ℕ). f p) m.says) is
@@ -108,8 +114,8 @@ module _ (setup : Setup) (p : ℕ) (peering : PeeringSetup) where
     own_event (Pass index keep router) known row = silent (ap (λ (f : FarPart). f.end.stream) row.effect) (ap (λ (f : FarPart). f.beats) row.effect) (takes_none row.takes)
     own_event (Reach index keep) known row =
         stays_said row.end (ap (λ (f : FarPart). f.end.stream) row.effect) (takes_same (w.far p).end row.segment row.end row.arrives).stream (ap (λ (f : FarPart). f.beats) row.effect) row.takes
-    own_event (Lose Homeward index) known row = silent (ap (λ (f : FarPart). f.end.stream) row.effect) (ap (λ (f : FarPart). f.beats) row.effect) (takes_none row.takes)
-    own_event (Lose Remoteward index) known row = silent (ap (λ (f : FarPart). f.end.stream) row.effect) (ap (λ (f : FarPart). f.beats) row.effect) (takes_none row.takes)
+    own_event (Lose Home index) known row = silent (ap (λ (f : FarPart). f.end.stream) row.effect) (ap (λ (f : FarPart). f.beats) row.effect) (takes_none row.takes)
+    own_event (Lose Remote index) known row = silent (ap (λ (f : FarPart). f.end.stream) row.effect) (ap (λ (f : FarPart). f.beats) row.effect) (takes_none row.takes)
     own_event (Point router) known row =
         silent (ap (λ (f : FarPart). f.end.stream) row.effect) (ap (λ (f : FarPart). f.beats) row.effect) (takes_item router _ row.takes)
 

@@ -23,7 +23,7 @@ use Rattle.route_policy.specs.Candidates.{imported, own_route}
 use Rattle.route_policy.specs.Paths.{prepend, prepend_times}
 use Rattle.route_policy.specs.Policies.{policy, decision, changed}
 use Rattle.route_policy.specs.Rules.{matches, holds_as}
-use Rattle.route_policy.specs.Telling.{OutSide, comes_from, exported, is_too_long, made_partial, told_attrs, told_where_it_fits, tell_out, without_med}
+use Rattle.route_policy.specs.Telling.{OutSide, exported, is_kept_back, is_too_long, made_partial, told_attrs, told_where_it_fits, tell_out, without_med}
 use Rattle.session_value.specs.Sessions.{SessionValue}
 use Rattle.graft_model.specs.Decisions.{entry_of, session_route, remote_identifier}
 use Rattle.graft_model.specs.Setups.{Setup, rules_for, rules_named}
@@ -151,7 +151,7 @@ unset route can hop host = let w : IsWritableAttrs (record route.attrs { next_ho
 pub tells_writable : (home_as : ℕ) (out : OutSide) (x : PrefixValue) (best : Option Best) (attrs : Attrs) → home_as < 2 ^ 32 → is_no_host out.local_address ≡ false → AllByRecursion HasMedInRange (unwrap_or out.export_rules [])
     → ((b : Best) → best ≡ Some b → IsSendable b.route.attrs) → tell_out home_as out x best ≡ Some attrs → IsWritableAttrs attrs
 tells_writable home_as out x None attrs below host meds can e = absurd cc
-tells_writable home_as out x (Some b) attrs below host meds can e = by_from (comes_from b.from out.peering) e where
+tells_writable home_as out x (Some b) attrs below host meds can e = by_kept (is_kept_back out b) e where
   by_size : (route : Route) → IsSendable route.attrs → (t : Bool) → cond t None (Some (told_attrs home_as out route)) ≡ Some attrs → IsWritableAttrs attrs
   by_size route sendable true f = absurd cc
   by_size route sendable false f = subst IsWritableAttrs (same_Some (told_attrs home_as out route) attrs f) (told_is home_as out route below host sendable)
@@ -161,6 +161,6 @@ tells_writable home_as out x (Some b) attrs below host meds can e = by_from (com
   by_export (Some route) is f =
       by_size route (policy_sendable (unwrap_or out.export_rules []) x home_as (without_med b.route) route below meds (unset b.route (can b refl)) is) (is_too_long x (told_attrs home_as out route)) f
 
-  by_from : (t : Bool) → cond t None (told_where_it_fits home_as out x (exported home_as out x b.route)) ≡ Some attrs → IsWritableAttrs attrs
-  by_from true f = absurd cc
-  by_from false f = by_export (exported home_as out x b.route) refl f
+  by_kept : (t : Bool) → cond t None (told_where_it_fits home_as out x (exported home_as out x b.route)) ≡ Some attrs → IsWritableAttrs attrs
+  by_kept true f = absurd cc
+  by_kept false f = by_export (exported home_as out x b.route) refl f

@@ -5,6 +5,7 @@ use Rattle.std.specs.Prelude.{filter, length, IsSome}
 use Rattle.std.specs.List.{AllByRecursion}
 use Rattle.std.specs.FinMap as map
 use Rattle.route_policy.specs.Telling.{tell_in}
+use Rattle.bgp_types.specs.declared.attrs.Attrs.{Attrs}
 use Rattle.bgp_types.specs.Prefixes.{PrefixValue}
 use Rattle.tcp_seq.specs.Endpoint.{PlacedSegment, TakesSegment}
 use Rattle.session_value.specs.Sessions.{SessionValue}
@@ -12,7 +13,7 @@ use Rattle.session_value.specs.Cases.{GetsFrame, PutsUpdate, PassesRound}
 use Rattle.graft_model.specs.Slices.{EmitsAt}
 use Rattle.graft_model.specs.Points.{at}
 use Rattle.graft_model.specs.Setups.{Setup, peering_numbers, room_of}
-use Rattle.graft_model.specs.Parts.{Order, Place, Live, RouterPart, Entries, Told, Outward, Seg, Report, World}
+use Rattle.graft_model.specs.Parts.{Errand, Place, Live, RouterPart, Entries, Told, Outward, Seg, Report, World}
 use Rattle.graft_model.specs.RouterRows.{RouterTaken, SegmentIn, MeshIn, RouterSent, MeshTo, OutwardTo, PutsNothing, PutsSome, Emits, Arrives, Strays, GetsNext, Ticks, Follows, update_for}
 use Rattle.graft_model.specs.TableRows.{Decides, Tells, Hears}
 use Rattle.graft_model.specs.GraftRows.{is_taken, taken_in}
@@ -20,8 +21,10 @@ use Rattle.graft_laws.specs.Phases.{Phase, only, only2, place_by}
 use Rattle.graft_laws.specs.Owned.{Stands, Owned}
 use Rattle.graft_laws.specs.Log.{graft_at}
 use Rattle.graft_laws.specs.Moves.{inward_taken, outward_sent, reports_sent, RouterMoves}
-use Rattle.graft_model.specs.Steps.{RouterEvent, Put, Emit, Arrive, Stray, Got, Decide, Tell, Hear, Admit, Refuse, Freeze, Leave, Land, TurnBack, Return, Clear, Tick, router_row}
-use Rattle.graft_laws.specs.Life.{SameLine, SameEntries, EntersHeard, Change, Rests, Puts, Emits as ToEmit, Arrives as ToArrive, Gets, Ticks as ToTick, Strays as ToStray}
+use Rattle.graft_model.specs.declared.event.RouterEvent.{RouterEvent}
+use Rattle.graft_model.specs.declared.event.RouterEvent.TheVariants.{Put, Emit, Arrive, Stray, Got, Decide, Tell, Hear, Admit, Refuse, Freeze, Leave, Land, TurnBack, Return, Clear, Confirm, Tick}
+use Rattle.graft_model.specs.Steps.{router_row}
+use Rattle.graft_laws.specs.Life.{Acts, SameLine, SameEntries, EntersHeard, Change, Rests, Puts, Emits as ToEmit, Arrives as ToArrive, Gets, Ticks as ToTick, Strays as ToStray, IsUpdateToTell}
 use Rattle.graft_laws.proofs.Phases.{live_session}
 use Rattle.graft_laws.proofs.Others.{Untouched, AreOthers, absent_still, untouched_by_items}
 use Rattle.graft_laws.proofs.Following.{at_other, line_by_router, line_gets, line_gives, same_entries, enters_heard}
@@ -29,7 +32,7 @@ use Rattle.graft_laws.proofs.Rests.{changed, stands_still}
 use Rattle.graft_laws.proofs.Room.{no_more_taken}
 use Rattle.graft_laws.proofs.Deeds.{known_place, equal_or_not, Deed, all_apart, own_or_apart, no_items, other_sent, other_taken, no_outward, no_inward}
 use Rattle.graft_laws.proofs.Grafts.{equal}
-use Rattle.graft_laws.proofs.GraftDeeds.{deed_as, place_stays, place_here, le_trans, admit_deed, refuse_deed, freeze_deed, leave_deed, land_deed, turn_back_deed, return_deed, clear_deed}
+use Rattle.graft_laws.proofs.GraftDeeds.{deed_as, place_stays, place_here, le_trans, admit_deed, refuse_deed, freeze_deed, leave_deed, land_deed, confirm_deed, turn_back_deed, return_deed, clear_deed}
 
 sends_outward : (setup : Setup) (p r q : ℕ) (item : Outward) → AreOthers setup p r None (OutwardTo q item ∷ [])
 sends_outward setup p r q item = record { mesh_taken = λ i j. refl; mesh_sent = λ i j. refl; orders_taken = λ i. refl; reports_sent = λ i. refl }
@@ -49,27 +52,32 @@ module _ (setup : Setup) (w v : World) (r : ℕ) (owned : Owned setup w) where
   before = w.router r
 
   -- where a session is live in its phase, it is the peering's session
-  there : (p : ℕ) (phase : Phase) (s t : SessionValue) (o : Option Order) → before.places p ≡ Live t o → Stands setup w p phase s → (t ≡ s) × (place_by phase s r ≡ Live s o)
+  there : (p : ℕ) (phase : Phase) (s t : SessionValue) (o : Option Errand) → before.places p ≡ Live t o → Stands setup w p phase s → (t ≡ s) × (place_by phase s r ≡ Live s o)
   there p phase s t o is b =
       let same : t ≡ s = live_session phase s t o r (sym is ∙ b.places r) in
       (same, sym (b.places r) ∙ (is ∙ ap (λ (x : SessionValue). Live x o) same))
 
   -- ---- put
 
+  for_attrs : (attrs : Option Attrs) (prefixes : List PrefixValue) → (update_for attrs prefixes).attrs ≡ attrs
+  for_attrs None prefixes = refl
+  for_attrs (Some a) prefixes = refl
+
   pub put_deed : (p n : ℕ) (taken : Option RouterTaken) (sent : List RouterSent) (part : RouterPart) → PutsSome setup r p n before taken sent part → RouterMoves r taken sent part w v → Deed setup w v r taken sent part
   put_deed p n taken sent part row = deed_as setup w v r taken None sent [] part row.alone.0 row.alone.1 (λ m.
-      let places : part.places ≡ at before.places p (Live row.next row.order) = ap (λ (x : RouterPart). x.places) row.effect in
+      let places : part.places ≡ at before.places p (Live row.next row.errand) = ap (λ (x : RouterPart). x.places) row.effect in
       record {
         each = own_or_apart setup w v r p None [] part m (known_place setup w owned r p _ row.live.is (λ e. absurd cc))
             (λ q ne. record { places = place_stays before part q p _ places ne; entries = ap (λ (x : RouterPart). x.entries q) row.effect; items = no_items setup q r; outward_sent = λ a. refl; inward_taken = λ b. refl })
             (λ phase s b.
-            let e = there p phase s row.session row.order row.live.is b in
+            let e = there p phase s row.session row.errand row.live.is b in
             record {
               next = phase;
               session = row.next;
-              stands = changed setup w v p r None [] part phase s row.next row.order m (no_items setup p r) e.1 (place_here before part p _ places) b;
-              change = Puts r row.order (update_for row.attrs row.prefixes) e.1 (subst (λ (x : SessionValue). PutsUpdate x (update_for row.attrs row.prefixes) row.next) e.0 row.puts)
-                  (line_by_router w v p r None [] part m (λ a. refl) (λ a. refl)) (same_entries w v p r part m.router (ap (λ (x : RouterPart). x.entries p) row.effect));
+              stands = changed setup w v p r None [] part phase s row.next row.errand m (no_items setup p r) e.1 (place_here before part p _ places) b;
+              change = Acts r row.errand e.1 (Puts (update_for row.attrs row.prefixes) (subst (λ (x : SessionValue). PutsUpdate x (update_for row.attrs row.prefixes) row.next) e.0 row.puts)
+                  (subst (λ (x : SessionValue). IsUpdateToTell setup r x (update_for row.attrs row.prefixes) w) e.0 (record { prefix = row.first; attrs = for_attrs row.attrs row.prefixes ∙ row.told_first }))
+                  (line_by_router w v p r None [] part m (λ a. refl) (λ a. refl)) (same_entries w v p r part m.router (ap (λ (x : RouterPart). x.entries p) row.effect)));
             });
         reports = λ a. tt;
         room = λ l. le_trans _ _ _ (no_more_taken setup before part p _ places (ap is_taken row.live.is)) l;
@@ -80,20 +88,20 @@ module _ (setup : Setup) (w v : World) (r : ℕ) (owned : Owned setup w) where
   pub emit_deed : (p from len : ℕ) (taken : Option RouterTaken) (sent : List RouterSent) (part : RouterPart) → Emits p from len before taken sent part → RouterMoves r taken sent part w v → Deed setup w v r taken sent part
   emit_deed p from len taken sent part row = deed_as setup w v r taken None sent (OutwardTo p (Seg row.segment) ∷ []) part row.takes row.sends (λ m.
       let next : SessionValue = record row.session { end = row.end } in
-      let places : part.places ≡ at before.places p (Live next row.order) = ap (λ (x : RouterPart). x.places) row.effect in
+      let places : part.places ≡ at before.places p (Live next row.errand) = ap (λ (x : RouterPart). x.places) row.effect in
       record {
         each = own_or_apart setup w v r p None (OutwardTo p (Seg row.segment) ∷ []) part m (known_place setup w owned r p _ row.live.is (λ e. absurd cc))
             (λ q ne. record { places = place_stays before part q p _ places ne; entries = ap (λ (x : RouterPart). x.entries q) row.effect; items = sends_outward setup q r p (Seg row.segment); outward_sent = λ a. no_outward r p q a (Seg row.segment) ne; inward_taken = λ b. refl })
             (λ phase s b.
-            let e = there p phase s row.session row.order row.live.is b in
+            let e = there p phase s row.session row.errand row.live.is b in
             let then : SessionValue = record s { end = row.end } in
             record {
               next = phase;
               session = then;
-              stands = changed setup w v p r None (OutwardTo p (Seg row.segment) ∷ []) part phase s then row.order m (sends_outward setup p r p (Seg row.segment)) e.1
-                  (place_here before part p _ places ∙ ap (λ (x : SessionValue). (let y : SessionValue = record x { end = row.end } in Live y row.order)) e.0) b;
-              change = ToEmit r row.order from len row.segment row.end e.1 (subst (λ (x : SessionValue). EmitsAt from len x.end row.segment row.end) e.0 row.emits)
-                  (line_gets w v p r None _ part (Seg row.segment) m (λ a. own_outward r p a (Seg row.segment)) (λ a. refl)) (same_entries w v p r part m.router (ap (λ (x : RouterPart). x.entries p) row.effect));
+              stands = changed setup w v p r None (OutwardTo p (Seg row.segment) ∷ []) part phase s then row.errand m (sends_outward setup p r p (Seg row.segment)) e.1
+                  (place_here before part p _ places ∙ ap (λ (x : SessionValue). (let y : SessionValue = record x { end = row.end } in Live y row.errand)) e.0) b;
+              change = Acts r row.errand e.1 (ToEmit from len row.segment row.end (subst (λ (x : SessionValue). EmitsAt from len x.end row.segment row.end) e.0 row.emits)
+                  (line_gets w v p r None _ part (Seg row.segment) m (λ a. own_outward r p a (Seg row.segment)) (λ a. refl)) (same_entries w v p r part m.router (ap (λ (x : RouterPart). x.entries p) row.effect)));
             });
         reports = λ a. tt;
         room = λ l. le_trans _ _ _ (no_more_taken setup before part p _ places (ap is_taken row.live.is)) l;
@@ -102,20 +110,20 @@ module _ (setup : Setup) (w v : World) (r : ℕ) (owned : Owned setup w) where
   pub arrive_deed : (p : ℕ) (taken : Option RouterTaken) (sent : List RouterSent) (part : RouterPart) → Arrives p before taken sent part → RouterMoves r taken sent part w v → Deed setup w v r taken sent part
   arrive_deed p taken sent part row = deed_as setup w v r taken (Some (SegmentIn p row.segment)) sent [] part row.takes row.sends (λ m.
       let next : SessionValue = record row.session { end = row.end } in
-      let places : part.places ≡ at before.places p (Live next row.order) = ap (λ (x : RouterPart). x.places) row.effect in
+      let places : part.places ≡ at before.places p (Live next row.errand) = ap (λ (x : RouterPart). x.places) row.effect in
       record {
         each = own_or_apart setup w v r p (Some (SegmentIn p row.segment)) [] part m (known_place setup w owned r p _ row.live.is (λ e. absurd cc))
             (λ q ne. record { places = place_stays before part q p _ places ne; entries = ap (λ (x : RouterPart). x.entries q) row.effect; items = takes_segment setup q r p row.segment; outward_sent = λ a. refl; inward_taken = λ b. no_inward r p q b row.segment ne })
             (λ phase s b.
-            let e = there p phase s row.session row.order row.live.is b in
+            let e = there p phase s row.session row.errand row.live.is b in
             let then : SessionValue = record s { end = row.end } in
             record {
               next = phase;
               session = then;
-              stands = changed setup w v p r (Some (SegmentIn p row.segment)) [] part phase s then row.order m (takes_segment setup p r p row.segment) e.1
-                  (place_here before part p _ places ∙ ap (λ (x : SessionValue). (let y : SessionValue = record x { end = row.end } in Live y row.order)) e.0) b;
-              change = ToArrive r row.order row.segment row.end e.1 (subst (λ (x : SessionValue). TakesSegment x.end row.segment row.end) e.0 row.arrives)
-                  (line_gives w v p r _ part row.segment m (λ a. own_inward r p a row.segment)) (same_entries w v p r part m.router (ap (λ (x : RouterPart). x.entries p) row.effect));
+              stands = changed setup w v p r (Some (SegmentIn p row.segment)) [] part phase s then row.errand m (takes_segment setup p r p row.segment) e.1
+                  (place_here before part p _ places ∙ ap (λ (x : SessionValue). (let y : SessionValue = record x { end = row.end } in Live y row.errand)) e.0) b;
+              change = Acts r row.errand e.1 (ToArrive row.segment row.end (subst (λ (x : SessionValue). TakesSegment x.end row.segment row.end) e.0 row.arrives)
+                  (line_gives w v p r _ part row.segment m (λ a. own_inward r p a row.segment)) (same_entries w v p r part m.router (ap (λ (x : RouterPart). x.entries p) row.effect)));
             });
         reports = λ a. tt;
         room = λ l. le_trans _ _ _ (no_more_taken setup before part p _ places (ap is_taken row.live.is)) l;
@@ -146,11 +154,11 @@ module _ (setup : Setup) (w v : World) (r : ℕ) (owned : Owned setup w) where
   -- ---- got, and rounds
 
   -- a session that changed by itself, as its entries follow
-  follow_deed : (p : ℕ) (session next : SessionValue) (order : Option Order) (part : RouterPart) → before.places p ≡ Live session order → Follows setup r p before session next order part
-      → ((phase : Phase) (s : SessionValue) → s ≡ session → place_by phase s r ≡ Live s order → SameLine p w v → EntersHeard setup p r s next w v → Change setup w v p phase s phase next)
+  follow_deed : (p : ℕ) (session next : SessionValue) (errand : Option Errand) (part : RouterPart) → before.places p ≡ Live session errand → Follows setup r p before session next errand part
+      → ((phase : Phase) (s : SessionValue) → s ≡ session → place_by phase s r ≡ Live s errand → SameLine p w v → EntersHeard setup p r s next w v → Change setup w v p phase s phase next)
       → RouterMoves r None [] part w v → Deed setup w v r None [] part
-  follow_deed p session next order part is row change m =
-      let places : part.places ≡ at before.places p (Live next order) = ap (λ (x : RouterPart). x.places) row.effect in
+  follow_deed p session next errand part is row change m =
+      let places : part.places ≡ at before.places p (Live next errand) = ap (λ (x : RouterPart). x.places) row.effect in
       record {
         each = own_or_apart setup w v r p None [] part m (known_place setup w owned r p _ is (λ e. absurd cc))
             (λ q ne. record {
@@ -161,11 +169,11 @@ module _ (setup : Setup) (w v : World) (r : ℕ) (owned : Owned setup w) where
               inward_taken = λ b. refl;
             })
             (λ phase s b.
-            let e = there p phase s session order is b in
+            let e = there p phase s session errand is b in
             record {
               next = phase;
               session = next;
-              stands = changed setup w v p r None [] part phase s next order m (no_items setup p r) e.1 (place_here before part p _ places) b;
+              stands = changed setup w v p r None [] part phase s next errand m (no_items setup p r) e.1 (place_here before part p _ places) b;
               change = change phase s (sym e.0) e.1 (line_by_router w v p r None [] part m (λ a. refl) (λ a. refl)) (subst (λ (x : SessionValue). EntersHeard setup p r x next w v) e.0 (enters_heard setup w v p r session next part m.router row.entries));
             });
         reports = λ a. tt;
@@ -174,13 +182,13 @@ module _ (setup : Setup) (w v : World) (r : ℕ) (owned : Owned setup w) where
 
   pub get_deed : (p : ℕ) (taken : Option RouterTaken) (sent : List RouterSent) (part : RouterPart) → GetsNext setup r p before taken sent part → RouterMoves r taken sent part w v → Deed setup w v r taken sent part
   get_deed p taken sent part row = deed_as setup w v r taken None sent [] part row.alone.0 row.alone.1
-      (follow_deed p row.session row.next row.order part row.live.is row.follows
-      (λ phase s e place line entries. Gets r row.order row.bytes place (subst (λ (x : SessionValue). GetsFrame x row.bytes row.next) (sym e) row.gets) line entries))
+      (follow_deed p row.session row.next row.errand part row.live.is row.follows
+      (λ phase s e place line entries. Acts r row.errand place (Gets row.bytes (subst (λ (x : SessionValue). GetsFrame x row.bytes row.next) (sym e) row.gets) line entries)))
 
   pub tick_deed : (p round : ℕ) (taken : Option RouterTaken) (sent : List RouterSent) (part : RouterPart) → Ticks setup r p round before taken sent part → RouterMoves r taken sent part w v → Deed setup w v r taken sent part
   tick_deed p round taken sent part row = deed_as setup w v r taken None sent [] part row.alone.0 row.alone.1
-      (follow_deed p row.session row.next row.order part row.live.is row.follows
-      (λ phase s e place line entries. ToTick r row.order round place (subst (λ (x : SessionValue). PassesRound x round row.next) (sym e) row.passes) line entries))
+      (follow_deed p row.session row.next row.errand part row.live.is row.follows
+      (λ phase s e place line entries. Acts r row.errand place (ToTick round (subst (λ (x : SessionValue). PassesRound x round row.next) (sym e) row.passes) line entries)))
 
   -- ---- tables alone
 
@@ -232,4 +240,5 @@ deed setup w v r owned (Land q) taken sent part row = land_deed setup w v r owne
 deed setup w v r owned (TurnBack q) taken sent part row = turn_back_deed setup w v r owned q taken sent part row
 deed setup w v r owned (Return q) taken sent part row = return_deed setup w v r owned q taken sent part row
 deed setup w v r owned (Clear q) taken sent part row = clear_deed setup w v r owned q taken sent part row
+deed setup w v r owned (Confirm k) taken sent part row = confirm_deed setup w v r owned k taken sent part row
 deed setup w v r owned (Tick p round) taken sent part row = tick_deed setup w v r owned p round taken sent part row

@@ -2,7 +2,7 @@
 use Rattle.std.proofs.Common.{◌≡◌, ℕ, ◌<◌, Option, sym, ◌∙◌, subst}
 use Rattle.session_value.specs.Sessions.{SessionValue}
 use Rattle.session_value.specs.Ties.{IsOfStory}
-use Rattle.graft_model.specs.Parts.{Order, Live, World}
+use Rattle.graft_model.specs.Parts.{Errand, Live, World}
 use Rattle.graft_model.specs.Setups.{Setup, IsSetup, peerings_in}
 use Rattle.graft_laws.specs.Keeps.{Reached, Keeps, Has}
 use Rattle.graft_laws.specs.Streams.{IsUnbroken}
@@ -25,7 +25,7 @@ pub always_informed : (setup : Setup) (w : World) → Reached setup w → (a b :
 always_informed setup w reached a b = informed setup a b w reached
 
 -- a live session is what its story tells
-pub live_story : (setup : Setup) (w : World) → IsSetup setup → Reached setup w → (r p : ℕ) (s : SessionValue) (o : Option Order) → (w.router r).places p ≡ Live s o → IsOfStory s
+pub live_story : (setup : Setup) (w : World) → IsSetup setup → Reached setup w → (r p : ℕ) (s : SessionValue) (o : Option Errand) → (w.router r).places p ≡ Live s o → IsOfStory s
 live_story setup w sound reached r p s o live =
     let below : p < peerings_in setup = known_place setup w (always_owned setup sound w reached) r p (Live s o) live (λ e. cc) in
     let has : Has setup (IsUnbroken setup) w p = always_unbroken setup w p sound reached below in

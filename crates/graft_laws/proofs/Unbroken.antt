@@ -19,7 +19,7 @@ use Rattle.graft_model.specs.First.{first_far, first_world}
 use Rattle.graft_model.specs.FarRows.{FarTaken, FarSent, Beats}
 use Rattle.graft_model.specs.Parts.{FarPart, Seg, PointAt, World}
 use Rattle.graft_model.specs.Setups.{Setup, PeeringSetup, IsSetup, IsPeeringSetup, config_of, start_of}
-use Rattle.graft_laws.specs.Life.{Change, Rests, Begins, Admits, Refuses, Freezes, Leaves, Lands, TurnsBack, Returns, Clears, NotesRefusal, NotesSuccess, Puts, Emits, Arrives, Gets, Ticks, Strays, IsToSay, FarActs, SameLine}
+use Rattle.graft_laws.specs.Life.{Acts, Change, Rests, Lands, Clears, Puts, Emits, Arrives, Gets, Ticks, Strays, IsToSay, FarActs, SameLine, Grafts}
 use Rattle.graft_laws.specs.Phases.{Phase, Idle}
 use Rattle.graft_laws.specs.Streams.{Streams, IsUnbroken}
 use Rattle.graft_laws.proofs.Configs.{same_config}
@@ -91,38 +91,30 @@ module _ (setup : Setup) (w v : World) (p : ℕ) where
       → ((round : ℕ) (taken : Option FarTaken) (sent : List FarSent) (part : FarPart) → Beats setup p round (w.far p) taken sent part → length (w.far p).end.stream + length (spell KeepaliveMsg false) ≤ 2 ^ 20)
       → Change setup w v p phase s next t → Joined w p s → Joined v p t
   changes _ _ s _ room (Rests line entries) is = rests s line is
-  changes _ _ s _ room (Begins line entries) is = rests s line is
-  changes _ _ s _ room (Admits line entries) is = rests s line is
-  changes _ _ s _ room (Refuses cause line entries) is = rests s line is
-  changes _ _ s _ room (Freezes cause line entries) is = rests s line is
-  changes _ _ s _ room (Leaves line entries) is = rests s line is
+  changes _ _ s _ room (Grafts move line entries) is = rests s line is
+  changes _ _ s _ room (Clears line entries) is = rests s line is
   changes _ _ s _ room (Lands {q = q} {k = k} {t = t} admitted line entries) is = record {
     story = is.story;
     streams = line_gets w v p t (PointAt k) s.end s.end line (unmoved s.end (w.far p).end is.streams.linked) tt is.streams;
   }
-  changes _ _ s _ room (TurnsBack cause line entries) is = rests s line is
-  changes _ _ s _ room (Returns line entries) is = rests s line is
-  changes _ _ s _ room (Clears line entries) is = rests s line is
-  changes _ _ s _ room (NotesRefusal line entries) is = rests s line is
-  changes _ _ s _ room (NotesSuccess line entries) is = rests s line is
-  changes _ _ s next room (Puts r order update live puts line entries) is =
+  changes _ _ s next room (Acts r errand live (Puts update puts told line entries)) is =
       becomes s next line (puts_of_story s next update puts is.story) (puts_stays s next update (w.far p).end is.streams.linked puts) is
-  changes _ _ s _ room (Emits r order from len segment end live emits line entries) is =
+  changes _ _ s _ room (Acts r errand live (Emits from len segment end emits line entries)) is =
       let stays = emits_linked s.end end (w.far p).end segment is.streams.linked emits.emits in
       record {
         story = emits_of_story s segment end is.story emits.emits;
         streams = line_gets w v p r (Seg segment) s.end end line stays.0 stays.1 is.streams;
       }
-  changes _ _ s _ room (Arrives r order segment end live arrives line entries) is =
+  changes _ _ s _ room (Acts r errand live (Arrives segment end arrives line entries)) is =
       let his = comes_in w v p r segment s.end line is.streams in
       let stays = takes_linked s.end end (w.far p).end segment is.streams.linked his arrives in
       record {
         story = takes_of_story s segment end is.story arrives;
         streams = line_gives w v p r segment s.end end line stays is.streams;
       }
-  changes _ _ s next room (Gets r order bytes live gets line entries) is =
+  changes _ _ s next room (Acts r errand live (Gets bytes gets line entries)) is =
       becomes s next line (gets_of_story s next bytes gets is.story) (gets_stays s next bytes (w.far p).end is.story.tied is.streams.linked gets) is
-  changes _ _ s next room (Ticks r order round live passes line entries) is =
+  changes _ _ s next room (Acts r errand live (Ticks round passes line entries)) is =
       becomes s next line (passes_of_story s next round passes is.story) (passes_stays s next round (w.far p).end is.streams.linked passes) is
   changes _ _ s _ room (Strays r segment line entries) is = record {
     story = is.story;

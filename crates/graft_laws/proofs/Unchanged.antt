@@ -9,17 +9,19 @@ use Rattle.graft_steps.specs.declared.refusal.Outcome.TheVariants.{Refused}
 use Rattle.session_value.specs.Sessions.{SessionValue}
 use Rattle.graft_model.specs.Points.{at}
 use Rattle.graft_model.specs.Setups.{Setup, IsSetup, peerings_in, router_numbers}
-use Rattle.graft_model.specs.Parts.{Order, Place, Live, Frozen, RouterPart, Mesh, Moved, Back, World}
+use Rattle.graft_model.specs.Parts.{Order, Errand, Leaving, Owing, Place, Live, Frozen, RouterPart, Mesh, Moved, Back, World}
 use Rattle.graft_model.specs.RouterRows.{RouterTaken, MeshIn, RouterSent, ReportOut}
 use Rattle.graft_model.specs.GraftRows.{Refuses, Freezes, Lands, Returns}
 use Rattle.graft_model.specs.Claims.{sessions_at, sessions_on, sessions_of, FrozenBefore, Unchanged}
 use Rattle.graft_model.specs.First.{first_world}
 use Rattle.graft_model.specs.Laws.{HasGraft, HasOnce}
-use Rattle.graft_model.specs.Steps.{RouterEvent, Refuse, Freeze, Land, Return, Event, ByRouter, Step, Heads}
-use Rattle.graft_laws.specs.Phases.{Stage, Ordered, Stored, Halted, Moving, Landed, Returning, Declined, Cleared, Phase, Idle, Busy, place_by}
+use Rattle.graft_model.specs.declared.event.RouterEvent.{RouterEvent}
+use Rattle.graft_model.specs.declared.event.RouterEvent.TheVariants.{Refuse, Freeze, Land, Return}
+use Rattle.graft_model.specs.Steps.{Event, ByRouter, Step, Heads}
+use Rattle.graft_laws.specs.Phases.{Stage, Ordered, Stored, Halted, Moving, Returning, Declined, Cleared, Phase, Idle, Busy, place_by}
 use Rattle.graft_laws.specs.Owned.{is_on, mesh_of, Stands, Owned}
 use Rattle.graft_laws.specs.Moves.{RouterHeads, RouterMoves}
-use Rattle.graft_laws.specs.Life.{Change, Rests, Begins, Admits, Refuses as SourceRefuses, Freezes as SourceFreezes, Leaves, Lands as TargetLands, TurnsBack, Returns as SourceReturns, Clears, NotesRefusal, NotesSuccess, Puts, Emits, Arrives, Gets, Ticks, Strays, IsToSay, FarActs}
+use Rattle.graft_laws.specs.Life.{Acts, Change, Begins, Admits, Refuses as SourceRefuses, Freezes as SourceFreezes, Lands as TargetLands, Returns as SourceReturns, NotesRefusal, NotesSuccess, GraftMove, Grafts}
 use Rattle.graft_laws.specs.Keeps.{Reached}
 use Rattle.graft_laws.specs.Unchanged.{IsFound, IsAwayIn, IsAway}
 use Rattle.graft_laws.proofs.Phases.{halted_at, moved_in, back_in}
@@ -37,17 +39,15 @@ use Rattle.graft_laws.proofs.Runs.{followed, reached_more, reached_run, carried_
 -- ---- one change
 
 -- Where a session is live, it isn't away.
-live_not_away : (stage : Stage) (q k t x : ℕ) (found s next : SessionValue) (o : Option Order) → place_by (Busy q k t stage) s x ≡ Live s o → IsFound stage found s → IsFound stage found next
+live_not_away : (stage : Stage) (q k t x : ℕ) (found s next : SessionValue) (o : Option Errand) → place_by (Busy q k t stage) s x ≡ Live s o → IsFound stage found s → IsFound stage found next
 live_not_away Ordered q k t x found s next o there is = is
 live_not_away Stored q k t x found s next o there is = is
 live_not_away Halted q k t x found s next o there is = absurd (grind (arith, nat_tests))
 live_not_away Moving q k t x found s next o there is = absurd (grind (arith, nat_tests))
 live_not_away (Returning refusal) q k t x found s next o there is = absurd (grind (arith, nat_tests))
-live_not_away Landed q k t x found s next o there is = tt
-live_not_away (Declined refusal) q k t x found s next o there is = tt
-live_not_away Cleared q k t x found s next o there is = tt
+live_not_away _ q k t x found s next o there is = tt
 
-changed_away : (phase : Phase) (r k t x : ℕ) (found s next : SessionValue) (o : Option Order) → place_by phase s x ≡ Live s o → IsAwayIn phase r k t found s → IsAwayIn phase r k t found next
+changed_away : (phase : Phase) (r k t x : ℕ) (found s next : SessionValue) (o : Option Errand) → place_by phase s x ≡ Live s o → IsAwayIn phase r k t found s → IsAwayIn phase r k t found next
 changed_away (Idle q) r k t x found s next o there away = away
 changed_away (Busy q j u stage) r k t x found s next o there away = (away.0, away.1, away.2, live_not_away stage q j u x found s next o there away.3)
 
@@ -58,27 +58,21 @@ module _ (setup : Setup) (w v : World) (p : ℕ) (grows : LogGrows w.operator v.
       subst (λ (x : ℕ). v.operator.outcome x ≢ None) is
       (idle_ended setup v.operator p n j then.log (own_known setup p j u b.log.goes_on.known) (grows.source j (λ none. (let e : Some q ≡ None = sym b.log.goes_on.ordered ∙ none in absurd cc))))
 
+  away_on : (phase next : Phase) (s : SessionValue) → GraftMove setup w phase s next → Stands setup w p phase s → Stands setup v p next s → IsAwayIn phase r k t found s → IsAway v next r k t found s
+  away_on _ _ _ Begins b then away = absurd away
+  away_on _ _ _ Admits b then away = absurd away.3
+  away_on _ _ _ (SourceRefuses cause) b then away = absurd away.3
+  away_on _ _ _ (SourceFreezes cause) b then away = absurd away.3
+  away_on _ _ _ SourceReturns b then away = inr (away.0, away.1, away.2, tt)
+  away_on _ _ s (NotesRefusal {q = q} {k = j} {t = u} {refusal = refusal}) b then away = inl (noted q j u q (Declined refusal) s s b then away.1)
+  away_on _ _ s (NotesSuccess {q = q} {k = j} {t = u}) b then away = inl (noted q j u u Cleared s s b then away.1)
+  away_on _ _ _ _ b then away = inr away
+
   away_in : (phase next : Phase) (s z : SessionValue) → Stands setup w p phase s → Stands setup v p next z → Change setup w v p phase s next z → IsAwayIn phase r k t found s → IsAway v next r k t found z
-  away_in _ _ _ _ b then (Rests line entries) away = inr away
-  away_in _ _ _ _ b then (Begins line entries) away = absurd away
-  away_in _ _ _ _ b then (Admits line entries) away = absurd away.3
-  away_in _ _ _ _ b then (SourceRefuses cause line entries) away = absurd away.3
-  away_in _ _ _ _ b then (SourceFreezes cause line entries) away = absurd away.3
-  away_in _ _ _ _ b then (Leaves line entries) away = inr away
+  away_in phase next s _ b then (Grafts move line entries) away = away_on phase next s move b then away
   away_in _ _ _ _ b then (TargetLands admitted line entries) away = inr (away.0, away.1, away.2, tt)
-  away_in _ _ _ _ b then (TurnsBack cause line entries) away = inr away
-  away_in _ _ _ _ b then (SourceReturns line entries) away = inr (away.0, away.1, away.2, tt)
-  away_in _ _ _ _ b then (Clears line entries) away = inr away
-  away_in _ _ _ z b then (NotesRefusal {q = q} {k = j} {t = u} {s = s} {refusal = refusal} line entries) away = inl (noted q j u q (Declined refusal) s s b then away.1)
-  away_in _ _ _ z b then (NotesSuccess {q = q} {k = j} {t = u} {s = s} line entries) away = inl (noted q j u u Cleared s s b then away.1)
-  away_in _ _ _ _ b then (Puts {phase = phase} {s = s} {next = next} x order update there puts line entries) away = inr (changed_away phase r k t x found s next order there away)
-  away_in _ _ _ _ b then (Emits {phase = phase} {s = s} x order from len segment end there emits line entries) away = inr (changed_away phase r k t x found s (record s { end = end }) order there away)
-  away_in _ _ _ _ b then (Arrives {phase = phase} {s = s} x order segment end there takes line entries) away = inr (changed_away phase r k t x found s (record s { end = end }) order there away)
-  away_in _ _ _ _ b then (Gets {phase = phase} {s = s} {next = next} x order bytes there gets line entries) away = inr (changed_away phase r k t x found s next order there away)
-  away_in _ _ _ _ b then (Ticks {phase = phase} {s = s} {next = next} x order round there passes line entries) away = inr (changed_away phase r k t x found s next order there away)
-  away_in _ _ _ _ b then (Strays x segment line entries) away = inr away
-  away_in _ _ _ _ b then (IsToSay step line entries) away = inr away
-  away_in _ _ _ _ b then (FarActs event taken sent part row m entries) away = inr away
+  away_in phase _ s next b then (Acts x errand live act) away = inr (changed_away phase r k t x found s next errand live away)
+  away_in _ _ _ _ b then _ away = inr away
 
   away_then : (phase next : Phase) (s z : SessionValue) → Stands setup w p phase s → Stands setup v p next z → Change setup w v p phase s next z → IsAway w phase r k t found s → IsAway v next r k t found z
   away_then phase next s z b then change (inl ended) = inl (grows.outcome k ended)
@@ -100,13 +94,13 @@ module _ (setup : Setup) (ok : IsSetup setup) (p r k t : ℕ) (l : p < peerings_
       (subst (λ (x : SessionValue). IsAway v f.next r k t found x) (same_session setup v p f.next phase f.session s f.stands b) a)
 
   -- the freeze itself
-  away_first : (w v : World) → Reached setup w → (w.router r).places p ≡ Live found (Some (record { graft = k; target = t })) → Step setup (ByRouter r (Freeze k)) w v → IsAwayNow v
+  away_first : (w v : World) → Reached setup w → (w.router r).places p ≡ Live found (Some (Leaving (record { graft = k; target = t }))) → Step setup (ByRouter r (Freeze k)) w v → IsAwayNow v
   away_first w v reached was step phase s b =
       let owned : Owned setup w = always_owned setup ok w reached in
       let row : Freezes r k (w.router r) step.taken step.sent step.part = step.row in
       let once : HasOnce k (w.router r) = at_one_place setup w r k owned in
       let here : row.peering ≡ p = once row.peering p (has_graft (w.router r) row.peering row.session row.target row.live.is) (has_graft (w.router r) p found t was) in
-      let same : Live row.session (Some (record { graft = k; target = row.target })) ≡ Live found (Some (record { graft = k; target = t })) = sym row.live.is ∙ (ap (λ (x : ℕ). (w.router r).places x) here ∙ was) in
+      let same : Live row.session (Some (Leaving (record { graft = k; target = row.target }))) ≡ Live found (Some (Leaving (record { graft = k; target = t }))) = sym row.live.is ∙ (ap (λ (x : ℕ). (w.router r).places x) here ∙ was) in
       let m : RouterMoves r step.taken step.sent step.part w v = router_moves setup r (Freeze k) w v step in
       let frozen : (v.router r).places p ≡ Frozen found (record { graft = k; target = t }) =
       ap (λ (f : ℕ → RouterPart). (f r).places p) m.router ∙ (ap (λ (x : RouterPart). x.places p) (at_here w.router r step.part)
@@ -114,13 +108,13 @@ module _ (setup : Setup) (ok : IsSetup setup) (p r k t : ℕ) (l : p < peerings_
       ∙ (at_here (w.router r).places p (Frozen row.session (record { graft = k; target = row.target })) ∙ frozen_same row.session found row.target same)))) in
       is_away phase s b (sym frozen ∙ b.places r)
     where
-      has_graft : (part : RouterPart) (x : ℕ) (y : SessionValue) (u : ℕ) → part.places x ≡ Live y (Some (record { graft = k; target = u })) → HasGraft k (part.places x)
+      has_graft : (part : RouterPart) (x : ℕ) (y : SessionValue) (u : ℕ) → part.places x ≡ Live y (Some (Leaving (record { graft = k; target = u }))) → HasGraft k (part.places x)
       has_graft part x y u e = subst (HasGraft k) (sym e) refl
 
-      frozen_same : (y z : SessionValue) (u : ℕ) → Live y (Some (record { graft = k; target = u })) ≡ Live z (Some (record { graft = k; target = t })) → Frozen y (record { graft = k; target = u }) ≡ Frozen z (record { graft = k; target = t })
+      frozen_same : (y z : SessionValue) (u : ℕ) → Live y (Some (Leaving (record { graft = k; target = u }))) ≡ Live z (Some (Leaving (record { graft = k; target = t }))) → Frozen y (record { graft = k; target = u }) ≡ Frozen z (record { graft = k; target = t })
       frozen_same y z u e =
           let a : y ≡ z = cc in
-          let o : Some (let x : Order = record { graft = k; target = u } in x) ≡ Some (record { graft = k; target = t }) = cc in
+          let o : Some (Leaving (record { graft = k; target = u })) ≡ Some (Leaving (record { graft = k; target = t })) = cc in
           let c : (let x : Order = record { graft = k; target = u } in x) ≡ record { graft = k; target = t } = cc in
           ap (λ (x : SessionValue). Frozen x (record { graft = k; target = u })) a ∙ ap (λ (x : Order). Frozen z x) c
 
@@ -167,17 +161,17 @@ taken_is setup w v s q taken sent part item other items m takes comes =
     heads_same other item head.rest items (sym head.is ∙ comes)
 
 -- where the router's place is then
-place_after : (setup : Setup) (w v : World) (s p n : ℕ) (taken : Option RouterTaken) (sent : List RouterSent) (part : RouterPart) (z found : SessionValue) → RouterMoves s taken sent part w v
-    → part.places ≡ at (w.router s).places n (Live z None) → n ≡ p → z ≡ found → (v.router s).places p ≡ Live found None
-place_after setup w v s p n taken sent part z found m places is same =
+place_after : (setup : Setup) (w v : World) (s p n : ℕ) (taken : Option RouterTaken) (sent : List RouterSent) (part : RouterPart) (z found : SessionValue) (o : Option Errand) → RouterMoves s taken sent part w v
+    → part.places ≡ at (w.router s).places n (Live z o) → n ≡ p → z ≡ found → (v.router s).places p ≡ Live found o
+place_after setup w v s p n taken sent part z found o m places is same =
     ap (λ (f : ℕ → RouterPart). (f s).places p) m.router ∙ (ap (λ (x : RouterPart). x.places p) (at_here w.router s part) ∙ (ap (λ (g : ℕ → Place). g p) places
-    ∙ (ap (λ (x : ℕ). at (w.router s).places x (Live z None) p) is ∙ (at_here (w.router s).places p (Live z None) ∙ ap (λ (x : SessionValue). Live x None) same))))
+    ∙ (ap (λ (x : ℕ). at (w.router s).places x (Live z o) p) is ∙ (at_here (w.router s).places p (Live z o) ∙ ap (λ (x : SessionValue). Live x o) same))))
 
 back_parts : (j k n p : ℕ) (y z : SessionValue) (f g : Refusal) → Back j n y f ≡ Back k p z g → (n ≡ p) × (y ≡ z)
 back_parts j k n p y z f g e = (cc, cc)
 
-moved_parts : (j k n p : ℕ) (y z : SessionValue) → Moved j n y ≡ Moved k p z → (n ≡ p) × (y ≡ z)
-moved_parts j k n p y z e = (cc, cc)
+moved_parts : (j k n p : ℕ) (y z : SessionValue) → Moved j n y ≡ Moved k p z → (n ≡ p) × (y ≡ z) × (j ≡ k)
+moved_parts j k n p y z e = (cc, cc, cc)
 
 module _ (setup : Setup) (ok : IsSetup setup) (events : List Event) (r k p target s q : ℕ) (found session : SessionValue) where
   returned : (refusal : Refusal) (after : World) → FrozenBefore setup (first_world setup) events r k p target found s q (Return q) (Back k p session refusal) after → (s ≡ r) × ((after.router s).places p ≡ Live found None)
@@ -189,9 +183,10 @@ module _ (setup : Setup) (ok : IsSetup setup) (events : List Event) (r k p targe
       let row : Returns q (f.w₃.router s) f.step.taken f.step.sent f.step.part = f.step.row in
       let m : RouterMoves s f.step.taken f.step.sent f.step.part f.w₃ after = router_moves setup s (Return q) f.w₃ after f.step in
       let parts = back_parts row.graft k row.peering p row.session session row.refusal refusal (taken_is setup f.w₃ after s q f.step.taken f.step.sent f.step.part item (Back row.graft row.peering row.session row.refusal) f.items m row.takes f.comes) in
-      (away.0, place_after setup f.w₃ after s p row.peering f.step.taken f.step.sent f.step.part row.session found m (ap (λ (x : RouterPart). x.places) row.effect) parts.0 (parts.1 ∙ (e.1 ∙ away.3)))
+      (away.0, place_after setup f.w₃ after s p row.peering f.step.taken f.step.sent f.step.part row.session found None m (ap (λ (x : RouterPart). x.places) row.effect) parts.0 (parts.1 ∙ (e.1 ∙ away.3)))
 
-  landed : (after : World) → FrozenBefore setup (first_world setup) events r k p target found s q (Land q) (Moved k p session) after → (s ≡ target) × ((after.router s).places p ≡ Live found None)
+  landed : (after : World) → FrozenBefore setup (first_world setup) events r k p target found s q (Land q) (Moved k p session) after
+      → (s ≡ target) × ((after.router s).places p ≡ Live found (Some (Owing (record { graft = k; source = r }))))
   landed after f =
       let item : Mesh = Moved k p session in
       let held = (always_owned setup ok f.w₃ (reached₃ setup ok events r k p target s q found session (Land q) item after f)).peerings p (known setup ok events r k p target s q found session (Land q) item after f) in
@@ -199,8 +194,11 @@ module _ (setup : Setup) (ok : IsSetup setup) (events : List Event) (r k p targe
       let away = under_way setup ok events r k p target s q found session (Land q) item after f held.phase q s Moving held.session e.0 held.stands in
       let row : Lands setup s q (f.w₃.router s) f.step.taken f.step.sent f.step.part = f.step.row in
       let m : RouterMoves s f.step.taken f.step.sent f.step.part f.w₃ after = router_moves setup s (Land q) f.w₃ after f.step in
-      let parts = moved_parts row.comes.graft k row.comes.peering p row.comes.session session (taken_is setup f.w₃ after s q f.step.taken f.step.sent f.step.part item (Moved row.comes.graft row.comes.peering row.comes.session) f.items m row.comes.takes f.comes) in
-      (away.2, place_after setup f.w₃ after s p row.comes.peering f.step.taken f.step.sent f.step.part row.comes.session found m (ap (λ (x : RouterPart). x.places) row.effect) parts.0 (parts.1 ∙ (e.1 ∙ away.3)))
+      let parts = moved_parts row.comes.graft k row.comes.peering p row.comes.session session (taken_is setup f.w₃ after s q f.step.taken f.step.sent f.step.part item (Moved row.comes.graft row.comes.peering row.comes.session) f.items m row.comes.takes f.comes) in (
+        away.2,
+        place_after setup f.w₃ after s p row.comes.peering f.step.taken f.step.sent f.step.part row.comes.session found _ m (ap (λ (x : RouterPart). x.places) row.effect) parts.0 (parts.1 ∙ (e.1 ∙ away.3))
+            ∙ (ap (λ (x : ℕ). Live found (Some (Owing (record { graft = x; source = q })))) parts.2 ∙ ap (λ (x : ℕ). Live found (Some (Owing (record { graft = k; source = x })))) away.0),
+      )
 
 -- ---- a graft that the source refuses
 

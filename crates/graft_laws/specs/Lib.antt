@@ -12,3 +12,4 @@ pub mod Streams
 pub mod Said
 pub mod Tables
 pub mod Ranges
+pub mod Avoiding

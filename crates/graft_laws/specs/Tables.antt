@@ -8,11 +8,11 @@ use Rattle.route_policy.specs.Telling.{tell_in}
 use Rattle.session_value.specs.Sessions.{SessionValue, state}
 use Rattle.session_value.specs.Sets.{has}
 use Rattle.graft_model.specs.Decisions.{chosen, to_tell}
-use Rattle.graft_model.specs.Parts.{Order, Live, RouterPart, Mesh, Told, Moved, Back, Done, World}
+use Rattle.graft_model.specs.Parts.{Errand, Live, RouterPart, Mesh, Told, Moved, Back, Done, World}
 use Rattle.graft_model.specs.RouterRows.{BringsIn}
 use Rattle.graft_model.specs.Setups.{Setup, routers_in}
 use Rattle.graft_model.specs.TableRows.{holds_established}
-use Rattle.graft_laws.specs.Phases.{Landed, Cleared, Phase, Idle, Busy}
+use Rattle.graft_laws.specs.Phases.{Landed, Confirmed, Cleared, Phase, Idle, Busy}
 use Rattle.graft_laws.specs.Streams.{IsUnbroken}
 
 -- ---- entries
@@ -21,12 +21,14 @@ use Rattle.graft_laws.specs.Streams.{IsUnbroken}
 abbrev pub has_entries : Phase → ℕ → Bool
 has_entries (Idle q) r = r == q
 has_entries (Busy q k t Landed) r = r == t
+has_entries (Busy q k t Confirmed) r = r == t
 has_entries (Busy q k t Cleared) r = r == t
 has_entries (Busy q k t stage) r = r == q
 
 -- the router r is the old place of a session that has landed, and doesn't know yet
 abbrev pub is_late : Phase → ℕ → Bool
 is_late (Busy q k t Landed) r = r == q
+is_late (Busy q k t Confirmed) r = r == q
 is_late phase r = false
 
 -- A router's entries of a peering are what its session brings in, at the router that holds it or keeps its routes while it is away; all others
@@ -64,7 +66,7 @@ pub record Informed (setup : Setup) (a b : ℕ) (w : World) : Type 0 where
 
 -- Of each prefix that isn't due on a live established session, that was told on it which is to be told of the best route.
 pub record Answered (setup : Setup) (r : ℕ) (part : RouterPart) : Type 0 where
-  pub told : (p : ℕ) (session : SessionValue) (order : Option Order) → part.places p ≡ Live session order → state session ≡ Established
+  pub told : (p : ℕ) (session : SessionValue) (errand : Option Errand) → part.places p ≡ Live session errand → state session ≡ Established
       → (x : PrefixValue) → has (part.due_out p) x ≡ false → map.get session.told x ≡ to_tell setup r part session x
 
 -- What is due on a peering is due at a place where an established session is held, live or frozen.

@@ -8,11 +8,14 @@ ghost use Rattle.bgp_types.specs.Writable.{IsWritableAttrs};
 ghost use Rattle.session_value.specs.Sessions.{SessionValue};
 ghost use Rattle.graft_model.specs.Setups.{Setup, PeeringSetup, SayStep, MoveStep, IsSetup, peerings_in, graft_number};
 ghost use Rattle.graft_model.specs.Decisions.{to_tell};
-ghost use Rattle.graft_model.specs.Parts.{Order, Live, World};
+ghost use Rattle.graft_model.specs.Parts.{Errand, Live, World};
 ghost use Rattle.graft_model.specs.OperatorRows.{placement};
 ghost use Rattle.graft_model.specs.First.{first_world};
-ghost use Rattle.graft_model.specs.Steps.{Event, Run, RouterEvent, FarEvent, OperatorEvent, RouterStep, FarStep, OperatorStep};
-ghost use Rattle.graft_model.specs.Claims.{holders, sessions_at, sessions_of, Transparent, Unchanged, Solves};
+ghost use Rattle.graft_model.specs.declared.event.RouterEvent.{RouterEvent};
+ghost use Rattle.graft_model.specs.declared.event.FarEvent.{FarEvent};
+ghost use Rattle.graft_model.specs.declared.event.OperatorEvent.{OperatorEvent};
+ghost use Rattle.graft_model.specs.Steps.{Event, Run, RouterStep, FarStep, OperatorStep};
+ghost use Rattle.graft_model.specs.Claims.{holders, sessions_at, sessions_of, Transparent, Unchanged, MadeBeforeBroken, Solves};
 ghost use Rattle.graft_model.specs.Laws.{HasOnce};
 ghost use Rattle.graft_model.specs.Quiet.{Quiet};
 ghost use Rattle.graft_laws.specs.Phases.{Stage, Phase, Busy};
@@ -25,6 +28,7 @@ ghost use Rattle.graft_laws.specs.Streams.{IsUnbroken, ArePlaced};
 ghost use Rattle.graft_laws.specs.Said.{Said, IsSayOf};
 ghost use Rattle.graft_laws.specs.Pointing.{Points};
 ghost use Rattle.graft_laws.specs.Ranges.{IsInRange};
+ghost use Rattle.graft_laws.specs.Avoiding.{AvoidsRemote};
 ghost use Rattle.graft_laws.specs.Tables.{Decided, Informed, Answered, DueIsHeld, IsWhole};
 
 /// Each channel is a queue. What an event takes stands at the head of its channel, what it sends goes to the ends of channels in the order of
@@ -82,6 +86,12 @@ pub fn always_unchanged()
     ensures { (setup : Setup) (events : List Event) → IsSetup setup → Unchanged setup (first_world setup) events }
 {}
 
+/// A source clears its shadow of a session that has landed only with the target's routes at hand: what it has heard from the target is, for each prefix, what the target told of the
+/// best route that it chose with the session's routes. So no route that lives on is withdrawn because a session moved.
+pub fn always_made_before_broken()
+    ensures { (setup : Setup) (events : List Event) → IsSetup setup → MadeBeforeBroken setup (first_world setup) events }
+{}
+
 /// After every list of events, in whatever order its turns come and whatever a link loses, repeats or reorders, each peering is transparent: it has
 /// one session, with a legal story and the tables of that story; what the remote received are the first bytes of what the story put, and what it got are the
 /// first bytes of what the remote said (RFC 4271, sections 3.1, 6 and 8.2.2).
@@ -123,8 +133,14 @@ pub fn what_is_due_is_held()
 /// What is to be told on a live session can be written, with that session's own address for its next hop (RFC 4271, sections 4.3 and 5.1.3). It is said of a setup
 /// whose numbers are in the ranges of their types, as are those of every setup that a program reads.
 pub fn what_is_told_can_be_written()
-    ensures { (setup : Setup) (w : World) (r p : ℕ) (session : SessionValue) (order : Option Order) (x : PrefixValue) (attrs : Attrs) → IsSetup setup → IsInRange setup → Reached setup w
-        → (w.router r).places p ≡ Live session order → to_tell setup r (w.router r) session x ≡ Some attrs → IsWritableAttrs attrs }
+    ensures { (setup : Setup) (w : World) (r p : ℕ) (session : SessionValue) (errand : Option Errand) (x : PrefixValue) (attrs : Attrs) → IsSetup setup → IsInRange setup → Reached setup w
+        → (w.router r).places p ≡ Live session errand → to_tell setup r (w.router r) session x ≡ Some attrs → IsWritableAttrs attrs }
+{}
+
+/// Where a remote is in another AS than the home routers, no path that was told on its session has its AS, in a sequence or in a set, wherever the session
+/// is and whatever the export policies are: the remote would find itself in the path and leave the route out of its choice (RFC 4271, section 9.1.2).
+pub fn told_paths_avoid_the_remote_as()
+    ensures { (setup : Setup) (w : World) (p : ℕ) → IsSetup setup → Reached setup w → p < peerings_in setup → Has setup (AvoidsRemote setup) w p }
 {}
 
 /// Where nothing is left to do, the tables of all routers solve the decision equations (RFC 4271, section 9.1) for the placement by the operator's log:

@@ -3,10 +3,11 @@ use Rattle.std.proofs.Common.{◌≡◌, ℕ, Bool, List, [], ◌∷◌, ◌++�
 use Rattle.std.specs.Prelude.{max, nat_lt, if◌then◌else◌}
 use Rattle.tcp_seq.specs.Endpoint.{Endpoint, PlacedSegment, TakesSegment}
 use Rattle.tcp_seq.proofs.Arriving.{leaves_one}
+use Rattle.tcp_seq.specs.declared.segment.Way.{Way}
 use Rattle.session_value.specs.Cases.{sending}
 use Rattle.graft_model.specs.Setups.{Setup, SayStep}
 use Rattle.graft_model.specs.Parts.{FarPart, Seg, PointAt}
-use Rattle.graft_model.specs.FarRows.{FarTaken, OutwardIn, FarSent, Way, Says, Beats, SendsSegment, TakesIn, Passes, Reaches, Loses, TurnsLink, left_by}
+use Rattle.graft_model.specs.FarRows.{FarTaken, OutwardIn, FarSent, Says, Beats, SendsSegment, TakesIn, Passes, Reaches, Loses, TurnsLink, left_by}
 use Rattle.graft_model.specs.Steps.{FarEvent, Say, Send, Take, Pass, Reach, Lose, Point, Beat, far_row}
 use Rattle.graft_model.proofs.Same.{same_segment, same_end}
 

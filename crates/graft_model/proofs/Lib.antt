@@ -3,9 +3,10 @@ mod Dirties
 mod Dues
 mod Ends
 mod Items
-mod KindNumbers
 mod Same
 mod Needs
 mod OneOutcome
 mod FarOutcome
+pub mod Footprints
 pub mod Takes
+pub mod GoAlone

@@ -18,10 +18,10 @@ use Rattle.graft_steps.specs.Refusals.{freeze_refusal, admit_refusal, session_re
 use Rattle.session_value.specs.Sessions.{SessionValue, state, hold_time}
 use Rattle.session_value.specs.Sets.{has}
 use Rattle.graft_model.specs.Setups.{Setup, peerings_in, peering_numbers, routers_in, room_of, missing_policy}
-use Rattle.graft_model.specs.Parts.{Place, Vacant, Live, Frozen, Shadow, RouterPart, GraftOrder, Moved, Back}
+use Rattle.graft_model.specs.Parts.{Place, Vacant, Live, Frozen, Shadow, Leaving, Owing, RouterPart, GraftOrder, Moved, Back, Done}
 use Rattle.graft_model.specs.Decisions.{to_tell}
 use Rattle.graft_model.specs.RouterRows.{RouterTaken, OrderIn, MeshIn, RouterSent, MeshTo, ReportOut, IsToTell}
-use Rattle.graft_model.specs.GraftRows.{Admits, Refuses, Freezes, Leaves, Lands, TurnsBack, taken_in, is_taken}
+use Rattle.graft_model.specs.GraftRows.{Admits, Refuses, Freezes, Leaves, Lands, Confirms, TurnsBack, taken_in, is_taken}
 use Rattle.graft_model.specs.Steps.{Put, router_row}
 use Rattle.graft_model.specs.Conditions.{MayFreeze, IsWhyNotFrozen, is_vacant, vacant_in, HasRoom, IsWhyNot}
 use Rattle.graft_model.proofs.Items.{moved_is}
@@ -95,7 +95,7 @@ cause r t s h refusal e = by_test (t == r) refl e where
   by_test false is f = of_session r t s h refusal (grind (arith, nat_tests)) f
 
 pub refuses : (r k : ℕ) (before after : RouterPart) (taken : Option RouterTaken) (sent : List RouterSent) → Refuses r k before taken sent after
-    → (p : ℕ) × (session : SessionValue) × (target : ℕ) × (refusal : Refusal) × (before.places p ≡ Live session (Some (record { graft = k; target = target })))
+    → (p : ℕ) × (session : SessionValue) × (target : ℕ) × (refusal : Refusal) × (before.places p ≡ Live session (Some (Leaving (record { graft = k; target = target }))))
     × IsWhyNotFrozen r target session refusal × (sent ≡ ReportOut (record { graft = k; outcome = Refused refusal }) ∷ [])
 refuses r k before after taken sent row =
     (row.peering, row.session, row.target, row.refusal, row.live.is, cause r row.target (state row.session) (hold_time row.session) row.refusal row.cause, row.sends)
@@ -103,6 +103,10 @@ refuses r k before after taken sent row =
 pub leaves : (k : ℕ) (before after : RouterPart) (taken : Option RouterTaken) (sent : List RouterSent) → Leaves k before taken sent after
     → (p : ℕ) × (session : SessionValue) × (target : ℕ) × (before.places p ≡ Frozen session (record { graft = k; target = target })) × (sent ≡ MeshTo target (Moved k p session) ∷ [])
 leaves k before after taken sent row = (row.peering, row.session, row.target, row.frozen, row.sends)
+
+pub confirms : (r k : ℕ) (before after : RouterPart) (taken : Option RouterTaken) (sent : List RouterSent) → Confirms k before taken sent after
+    → (p : ℕ) × (session : SessionValue) × (source : ℕ) × (before.places p ≡ Live session (Some (Owing (record { graft = k; source = source })))) × (sent ≡ MeshTo source (Done k p) ∷ [])
+confirms r k before after taken sent row = (row.peering, row.session, row.source, row.live.is, row.sends)
 
 -- ---- landings
 

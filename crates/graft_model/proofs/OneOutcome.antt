@@ -14,12 +14,12 @@ use Rattle.session_value.specs.Sets.{Prefixes, Marks}
 use Rattle.graft_model.specs.Points.{at}
 use Rattle.graft_model.specs.Slices.{EmitsAt}
 use Rattle.graft_model.specs.Setups.{Setup}
-use Rattle.graft_model.specs.Parts.{Order, Place, Live, Frozen, Shadow, Vacant, RouterPart, Entries, Told, Moved, Back, Done, Seg, PointAt}
+use Rattle.graft_model.specs.Parts.{Errand, Place, Live, Frozen, Shadow, Leaving, Owing, Vacant, RouterPart, Entries, Told, Moved, Back, Done, Seg, PointAt}
 use Rattle.graft_model.specs.Decisions.{chosen}
 use Rattle.graft_model.specs.RouterRows.{RouterTaken, OrderIn, SegmentIn, MeshIn, RouterSent, MeshTo, OutwardTo, ReportOut, PutsNothing, Emits, Arrives, Strays, GetsNext, Ticks, Follows, FollowsHeard, BringsIn}
 use Rattle.graft_model.specs.TableRows.{Decides, Tells, Hears, DueEverywhere, with_telling}
-use Rattle.graft_model.specs.GraftRows.{Admits, Refuses, Freezes, Leaves, Lands, TurnsBack, Returns, Clears, DueAgain, refusal_of}
-use Rattle.graft_model.specs.Steps.{RouterEvent, Put, Emit, Arrive, Stray, Got, Decide, Tell, Hear, Admit, Refuse, Freeze, Leave, Land, TurnBack, Return, Clear, Tick, router_row}
+use Rattle.graft_model.specs.GraftRows.{Admits, Refuses, Freezes, Leaves, Lands, Confirms, TurnsBack, Returns, Clears, DueAgain, refusal_of}
+use Rattle.graft_model.specs.Steps.{RouterEvent, Put, Emit, Arrive, Stray, Got, Decide, Tell, Hear, Admit, Refuse, Freeze, Leave, Land, TurnBack, Return, Clear, Confirm, Tick, router_row}
 use Rattle.graft_model.specs.Laws.{HasGraft, HasOnce, HasOneOutcome}
 use Rattle.graft_model.proofs.Items.{told_is, moved_is, back_is, done_is}
 use Rattle.graft_model.proofs.Same.{same_table, same_set, same_marks, same_session, same_order, live_here, same_segment, same_end, same_next, same_round, same_due}
@@ -30,24 +30,24 @@ module _ (setup : Setup) (r : ℕ) (before a b : RouterPart) (taken : Option Rou
 
   one_nothing : (p : ℕ) → PutsNothing setup r p before taken sent a → PutsNothing setup r p before taken items b → Same
   one_nothing p x y =
-      let due : b.due_out p ≡ a.due_out p = same_set (b.due_out p) (a.due_out p) (λ q. y.due.members q ∙ sym (x.due.members q)) in
+      let due : b.due_out p ≡ a.due_out p = same_set (b.due_out p) (a.due_out p) (λ z. y.due.members z ∙ sym (x.due.members z)) in
       (y.alone.1 ∙ sym x.alone.1, y.effect ∙ (ap (λ (d : Prefixes). let v : RouterPart = record before { due_out = at before.due_out p d } in v) due ∙ sym x.effect))
 
-  abbrev with_end : ℕ → SessionValue → Option Order → Endpoint → RouterPart
+  abbrev with_end : ℕ → SessionValue → Option Errand → Endpoint → RouterPart
   with_end p s o e = record before { places = at before.places p (Live (record s { end = e }) o) }
 
-  same_end_part : (p : ℕ) (s t : SessionValue) (o u : Option Order) (e f : Endpoint) → Live s o ≡ Live t u → e ≡ f → with_end p s o e ≡ with_end p t u f
+  same_end_part : (p : ℕ) (s t : SessionValue) (o u : Option Errand) (e f : Endpoint) → Live s o ≡ Live t u → e ≡ f → with_end p s o e ≡ with_end p t u f
   same_end_part p s t o u e f l is =
       ap (λ (x : SessionValue). with_end p x o e) (same_session s t o u l)
-      ∙ (ap (λ (x : Option Order). with_end p t x e) (same_order s t o u l) ∙ ap (λ (x : Endpoint). with_end p t u x) is)
+      ∙ (ap (λ (x : Option Errand). with_end p t x e) (same_order s t o u l) ∙ ap (λ (x : Endpoint). with_end p t u x) is)
 
   one_emits : (p from len : ℕ) → Emits p from len before taken sent a → Emits p from len before taken items b → Same
   one_emits p from len x y =
-      let l = live_here before p y.session x.session y.order x.order y.live x.live in
-      let s : y.session ≡ x.session = same_session y.session x.session y.order x.order l in
+      let l = live_here before p y.session x.session y.errand x.errand y.live x.live in
+      let s : y.session ≡ x.session = same_session y.session x.session y.errand x.errand l in
       let e : EmitsAt from len x.session.end y.segment y.end = subst (λ (z : SessionValue). EmitsAt from len z.end y.segment y.end) s y.emits in (
         y.sends ∙ (ap (λ (g : PlacedSegment). OutwardTo p (Seg g) ∷ []) (same_segment from len x.session.end y.end x.end y.segment x.segment e x.emits) ∙ sym x.sends),
-        y.effect ∙ (same_end_part p y.session x.session y.order x.order y.end x.end l (same_end from len x.session.end y.end x.end y.segment x.segment e x.emits) ∙ sym x.effect),
+        y.effect ∙ (same_end_part p y.session x.session y.errand x.errand y.end x.end l (same_end from len x.session.end y.end x.end y.segment x.segment e x.emits) ∙ sym x.effect),
       )
 
   same_seg : (p : ℕ) (g h : PlacedSegment) → Some (SegmentIn p g) ≡ Some (SegmentIn p h) → g ≡ h
@@ -55,12 +55,12 @@ module _ (setup : Setup) (r : ℕ) (before a b : RouterPart) (taken : Option Rou
 
   one_arrives : (p : ℕ) → Arrives p before taken sent a → Arrives p before taken items b → Same
   one_arrives p x y =
-      let l = live_here before p y.session x.session y.order x.order y.live x.live in
-      let s : y.session ≡ x.session = same_session y.session x.session y.order x.order l in
+      let l = live_here before p y.session x.session y.errand x.errand y.live x.live in
+      let s : y.session ≡ x.session = same_session y.session x.session y.errand x.errand l in
       let g : y.segment ≡ x.segment = same_seg p y.segment x.segment (sym y.takes ∙ x.takes) in
       let t : TakesSegment x.session.end x.segment y.end = subst (λ (z : PlacedSegment). TakesSegment x.session.end z y.end) g (subst (λ (z : SessionValue). TakesSegment z.end y.segment y.end) s y.arrives) in (
         y.sends ∙ sym x.sends,
-        y.effect ∙ (same_end_part p y.session x.session y.order x.order y.end x.end l (leaves_one x.session.end y.end x.end x.segment t x.arrives) ∙ sym x.effect),
+        y.effect ∙ (same_end_part p y.session x.session y.errand x.errand y.end x.end l (leaves_one x.session.end y.end x.end x.segment t x.arrives) ∙ sym x.effect),
       )
 
   one_strays : (p : ℕ) → Strays p before taken sent a → Strays p before taken items b → Same
@@ -68,7 +68,7 @@ module _ (setup : Setup) (r : ℕ) (before a b : RouterPart) (taken : Option Rou
 
   -- ---- got, and rounds
 
-  abbrev followed : ℕ → SessionValue → Option Order → Entries → Prefixes → Prefixes → RouterPart
+  abbrev followed : ℕ → SessionValue → Option Errand → Entries → Prefixes → Prefixes → RouterPart
   followed p s o entries dirty due = record before { places = at before.places p (Live s o); entries = at before.entries p entries; dirty = dirty; due_out = at before.due_out p due }
 
   one_entry : (p : ℕ) (s n : SessionValue) (x : PrefixValue) → FollowsHeard setup r s n (before.entries p) (a.entries p) x → FollowsHeard setup r s n (before.entries p) (b.entries p) x → map.get (b.entries p) x ≡ map.get (a.entries p) x
@@ -77,32 +77,32 @@ module _ (setup : Setup) (r : ℕ) (before a b : RouterPart) (taken : Option Rou
   one_entry p s n x (inr y) (inl z) = absurd (y.0 z.0)
   one_entry p s n x (inr y) (inr z) = z.1 ∙ sym y.1
 
-  one_follows : (p : ℕ) (s n : SessionValue) (o : Option Order) → Follows setup r p before s n o a → Follows setup r p before s n o b → b ≡ a
+  one_follows : (p : ℕ) (s n : SessionValue) (o : Option Errand) → Follows setup r p before s n o a → Follows setup r p before s n o b → b ≡ a
   one_follows p s n o x y =
       let e : b.entries p ≡ a.entries p = same_table (b.entries p) (a.entries p) (λ q. one_entry p s n q (x.entries q) (y.entries q)) in
       let d : b.dirty ≡ a.dirty = same_marks before.dirty b.dirty a.dirty (before.entries p) (a.entries p) (subst (λ (z : Entries). Marks before.dirty (before.entries p) z b.dirty) e y.dirty) x.dirty in
       let u : b.due_out p ≡ a.due_out p = same_due (state s) (state n) before.best (before.due_out p) (b.due_out p) (a.due_out p) y.due x.due in
       y.effect ∙ (ap (λ (z : Entries). followed p n o z b.dirty (b.due_out p)) e ∙ (ap (λ (z : Prefixes). followed p n o (a.entries p) z (b.due_out p)) d ∙ (ap (λ (z : Prefixes). followed p n o (a.entries p) a.dirty z) u ∙ sym x.effect)))
 
-  moved_follows : (p : ℕ) (s t n m : SessionValue) (o u : Option Order) → s ≡ t → n ≡ m → o ≡ u → Follows setup r p before s n o b → Follows setup r p before t m u b
+  moved_follows : (p : ℕ) (s t n m : SessionValue) (o u : Option Errand) → s ≡ t → n ≡ m → o ≡ u → Follows setup r p before s n o b → Follows setup r p before t m u b
   moved_follows p s t n m o u e f g x =
       subst (λ (z : SessionValue). Follows setup r p before z m u b) e
       (subst (λ (z : SessionValue). Follows setup r p before s z u b) f
-      (subst (λ (z : Option Order). Follows setup r p before s n z b) g x))
+      (subst (λ (z : Option Errand). Follows setup r p before s n z b) g x))
 
   one_gets : (p : ℕ) → GetsNext setup r p before taken sent a → GetsNext setup r p before taken items b → Same
   one_gets p x y =
-      let l = live_here before p y.session x.session y.order x.order y.live x.live in
-      let s : y.session ≡ x.session = same_session y.session x.session y.order x.order l in
+      let l = live_here before p y.session x.session y.errand x.errand y.live x.live in
+      let s : y.session ≡ x.session = same_session y.session x.session y.errand x.errand l in
       let n : y.next ≡ x.next = same_next x.session y.next x.next y.bytes x.bytes (subst (λ (z : SessionValue). Rattle.session_value.specs.Cases.GetsFrame z y.bytes y.next) s y.gets) x.gets in
-      (y.alone.1 ∙ sym x.alone.1, one_follows p x.session x.next x.order x.follows (moved_follows p y.session x.session y.next x.next y.order x.order s n (same_order y.session x.session y.order x.order l) y.follows))
+      (y.alone.1 ∙ sym x.alone.1, one_follows p x.session x.next x.errand x.follows (moved_follows p y.session x.session y.next x.next y.errand x.errand s n (same_order y.session x.session y.errand x.errand l) y.follows))
 
   one_ticks : (p round : ℕ) → Ticks setup r p round before taken sent a → Ticks setup r p round before taken items b → Same
   one_ticks p round x y =
-      let l = live_here before p y.session x.session y.order x.order y.live x.live in
-      let s : y.session ≡ x.session = same_session y.session x.session y.order x.order l in
+      let l = live_here before p y.session x.session y.errand x.errand y.live x.live in
+      let s : y.session ≡ x.session = same_session y.session x.session y.errand x.errand l in
       let n : y.next ≡ x.next = same_round x.session y.next x.next round (subst (λ (z : SessionValue). Rattle.session_value.specs.Cases.PassesRound z round y.next) s y.passes) x.passes in
-      (y.alone.1 ∙ sym x.alone.1, one_follows p x.session x.next x.order x.follows (moved_follows p y.session x.session y.next x.next y.order x.order s n (same_order y.session x.session y.order x.order l) y.follows))
+      (y.alone.1 ∙ sym x.alone.1, one_follows p x.session x.next x.errand x.follows (moved_follows p y.session x.session y.next x.next y.errand x.errand s n (same_order y.session x.session y.errand x.errand l) y.follows))
 
   -- ---- tables
 
@@ -171,7 +171,7 @@ module _ (setup : Setup) (r : ℕ) (before a b : RouterPart) (taken : Option Rou
   same_ordered k p q s t e = (ap (λ (x : Option RouterTaken). peering_in x) e, ap (λ (x : Option RouterTaken). target_in x) e)
 
   abbrev with_order : ℕ → ℕ → ℕ → SessionValue → RouterPart
-  with_order k p t s = record before { places = at before.places p (Live s (Some (record { graft = k; target = t }))) }
+  with_order k p t s = record before { places = at before.places p (Live s (Some (Leaving (record { graft = k; target = t })))) }
 
   one_admits : (k : ℕ) → Admits setup k before taken sent a → Admits setup k before taken items b → Same
   one_admits k x y =
@@ -182,18 +182,19 @@ module _ (setup : Setup) (r : ℕ) (before a b : RouterPart) (taken : Option Rou
         y.effect ∙ (ap (λ (z : ℕ). with_order k z y.target y.session) t.0 ∙ (ap (λ (z : ℕ). with_order k x.peering z y.session) t.1 ∙ (ap (λ (z : SessionValue). with_order k x.peering x.target z) s ∙ sym x.effect))),
       )
 
-  has_live : (k p t : ℕ) (s : SessionValue) → before.places p ≡ Live s (Some (record { graft = k; target = t })) → HasGraft k (before.places p)
+  has_live : (k p t : ℕ) (s : SessionValue) → before.places p ≡ Live s (Some (Leaving (record { graft = k; target = t }))) → HasGraft k (before.places p)
   has_live k p t s e = subst (λ (z : Place). HasGraft k z) (sym e) refl
 
   has_frozen : (k p t : ℕ) (s : SessionValue) → before.places p ≡ Frozen s (record { graft = k; target = t }) → HasGraft k (before.places p)
   has_frozen k p t s e = subst (λ (z : Place). HasGraft k z) (sym e) refl
 
-  abbrev target_of : Option Order → ℕ
+  abbrev target_of : Option Errand → ℕ
   target_of None = 0
-  target_of (Some o) = o.target
+  target_of (Some (Leaving o)) = o.target
+  target_of (Some (Owing o)) = o.source
 
-  order_target : (k t u : ℕ) (s v : SessionValue) → Live s (Some (record { graft = k; target = t })) ≡ Live v (Some (record { graft = k; target = u })) → t ≡ u
-  order_target k t u s v e = ap (λ (x : Option Order). target_of x) (same_order s v (Some (record { graft = k; target = t })) (Some (record { graft = k; target = u })) e)
+  order_target : (k t u : ℕ) (s v : SessionValue) → Live s (Some (Leaving (record { graft = k; target = t }))) ≡ Live v (Some (Leaving (record { graft = k; target = u }))) → t ≡ u
+  order_target k t u s v e = ap (λ (x : Option Errand). target_of x) (same_order s v (Some (Leaving (record { graft = k; target = t }))) (Some (Leaving (record { graft = k; target = u }))) e)
 
   abbrev session_in : SessionValue → Place → SessionValue
   session_in s (Frozen z o) = z
@@ -218,8 +219,8 @@ module _ (setup : Setup) (r : ℕ) (before a b : RouterPart) (taken : Option Rou
   one_refuses : (k : ℕ) → HasOnce k before → Refuses r k before taken sent a → Refuses r k before taken items b → Same
   one_refuses k once x y =
       let p : y.peering ≡ x.peering = once y.peering x.peering (has_live k y.peering y.target y.session y.live.is) (has_live k x.peering x.target x.session x.live.is) in
-      let l = sym (subst (λ (z : ℕ). before.places z ≡ Live y.session (Some (record { graft = k; target = y.target }))) p y.live.is) ∙ x.live.is in
-      let s : y.session ≡ x.session = same_session y.session x.session (Some (record { graft = k; target = y.target })) (Some (record { graft = k; target = x.target })) l in
+      let l = sym (subst (λ (z : ℕ). before.places z ≡ Live y.session (Some (Leaving (record { graft = k; target = y.target })))) p y.live.is) ∙ x.live.is in
+      let s : y.session ≡ x.session = same_session y.session x.session (Some (Leaving (record { graft = k; target = y.target }))) (Some (Leaving (record { graft = k; target = x.target }))) l in
       let t : y.target ≡ x.target = order_target k y.target x.target y.session x.session l in
       let c = ap (λ (z : SessionValue). cause_of y.target z) s ∙ ap (λ (z : ℕ). cause_of z x.session) t in
       let f : y.refusal ≡ x.refusal = same_refusal y.refusal x.refusal (sym y.cause ∙ (c ∙ x.cause)) in (
@@ -233,8 +234,8 @@ module _ (setup : Setup) (r : ℕ) (before a b : RouterPart) (taken : Option Rou
   one_freezes : (k : ℕ) → HasOnce k before → Freezes r k before taken sent a → Freezes r k before taken items b → Same
   one_freezes k once x y =
       let p : y.peering ≡ x.peering = once y.peering x.peering (has_live k y.peering y.target y.session y.live.is) (has_live k x.peering x.target x.session x.live.is) in
-      let l = sym (subst (λ (z : ℕ). before.places z ≡ Live y.session (Some (record { graft = k; target = y.target }))) p y.live.is) ∙ x.live.is in
-      let s : y.session ≡ x.session = same_session y.session x.session (Some (record { graft = k; target = y.target })) (Some (record { graft = k; target = x.target })) l in
+      let l = sym (subst (λ (z : ℕ). before.places z ≡ Live y.session (Some (Leaving (record { graft = k; target = y.target })))) p y.live.is) ∙ x.live.is in
+      let s : y.session ≡ x.session = same_session y.session x.session (Some (Leaving (record { graft = k; target = y.target }))) (Some (Leaving (record { graft = k; target = x.target }))) l in
       let t : y.target ≡ x.target = order_target k y.target x.target y.session x.session l in (
         y.alone.1 ∙ sym x.alone.1,
         y.effect ∙ (ap (λ (z : ℕ). frozen_at k z y.session y.target) p ∙ (ap (λ (z : SessionValue). frozen_at k x.peering z y.target) s ∙ (ap (λ (z : ℕ). frozen_at k x.peering x.session z) t ∙ sym x.effect))),
@@ -248,33 +249,54 @@ module _ (setup : Setup) (r : ℕ) (before a b : RouterPart) (taken : Option Rou
         y.effect ∙ (ap (λ (z : ℕ). let v : RouterPart = record before { places = at before.places z (Shadow k); due_out = at before.due_out z map.empty } in v) p ∙ sym x.effect),
       )
 
-  abbrev landed_at : ℕ → SessionValue → Entries → Prefixes → Prefixes → RouterPart
-  landed_at p s entries dirty due = record before { places = at before.places p (Live s None); entries = at before.entries p entries; dirty = dirty; due_out = at before.due_out p due }
+  -- ---- word of a landing
+
+  has_word : (k p q : ℕ) (s : SessionValue) → before.places p ≡ Live s (Some (Owing (record { graft = k; source = q }))) → HasGraft k (before.places p)
+  has_word k p q s e = subst (λ (z : Place). HasGraft k z) (sym e) refl
+
+  word_source : (k q u : ℕ) (s v : SessionValue) → Live s (Some (Owing (record { graft = k; source = q }))) ≡ Live v (Some (Owing (record { graft = k; source = u }))) → q ≡ u
+  word_source k q u s v e = ap (λ (x : Option Errand). target_of x) (same_order s v (Some (Owing (record { graft = k; source = q }))) (Some (Owing (record { graft = k; source = u }))) e)
+
+  one_confirms : (k : ℕ) → HasOnce k before → Confirms k before taken sent a → Confirms k before taken items b → Same
+  one_confirms k once x y =
+      let p : y.peering ≡ x.peering = once y.peering x.peering (has_word k y.peering y.source y.session y.live.is) (has_word k x.peering x.source x.session x.live.is) in
+      let l = sym (subst (λ (z : ℕ). before.places z ≡ Live y.session (Some (Owing (record { graft = k; source = y.source })))) p y.live.is) ∙ x.live.is in
+      let s : y.session ≡ x.session = same_session y.session x.session (Some (Owing (record { graft = k; source = y.source }))) (Some (Owing (record { graft = k; source = x.source }))) l in
+      let q : y.source ≡ x.source = word_source k y.source x.source y.session x.session l in (
+        y.sends ∙ (ap (λ (z : ℕ). MeshTo y.source (Done k z) ∷ []) p ∙ (ap (λ (z : ℕ). MeshTo z (Done k x.peering) ∷ []) q ∙ sym x.sends)),
+        y.effect ∙ (ap (λ (z : ℕ). alone_at z y.session) p ∙ (ap (λ (z : SessionValue). alone_at x.peering z) s ∙ sym x.effect)),
+      )
+
+  -- ---- at the target
+
+  abbrev landed_at : ℕ → ℕ → ℕ → SessionValue → Entries → Prefixes → Prefixes → RouterPart
+  landed_at q k p s entries dirty due = record before { places = at before.places p (Live s (Some (Owing (record { graft = k; source = q })))); entries = at before.entries p entries; dirty = dirty; due_out = at before.due_out p due }
 
   -- what landing leaves, of the peering and the session that came
-  record Landed (p : ℕ) (s : SessionValue) (v : RouterPart) : Type 0 where
+  record Landed (q k p : ℕ) (s : SessionValue) (v : RouterPart) : Type 0 where
     entries : BringsIn setup r s (v.entries p)
     dirty : Marks before.dirty (before.entries p) (v.entries p) v.dirty
     due : DueAgain before s (v.due_out p)
-    effect : v ≡ landed_at p s (v.entries p) v.dirty (v.due_out p)
+    effect : v ≡ landed_at q k p s (v.entries p) v.dirty (v.due_out p)
 
-  one_landed : (p : ℕ) (s : SessionValue) → Landed p s a → Landed p s b → b ≡ a
-  one_landed p s x y =
-      let e : b.entries p ≡ a.entries p = same_table (b.entries p) (a.entries p) (λ q. y.entries q ∙ sym (x.entries q)) in
+  one_landed : (q k p : ℕ) (s : SessionValue) → Landed q k p s a → Landed q k p s b → b ≡ a
+  one_landed q k p s x y =
+      let e : b.entries p ≡ a.entries p = same_table (b.entries p) (a.entries p) (λ z. y.entries z ∙ sym (x.entries z)) in
       let d : b.dirty ≡ a.dirty = same_marks before.dirty b.dirty a.dirty (before.entries p) (a.entries p) (subst (λ (z : Entries). Marks before.dirty (before.entries p) z b.dirty) e y.dirty) x.dirty in
-      let u : b.due_out p ≡ a.due_out p = same_set (b.due_out p) (a.due_out p) (λ q. y.due.members q ∙ sym (x.due.members q)) in
-      y.effect ∙ (ap (λ (z : Entries). landed_at p s z b.dirty (b.due_out p)) e ∙ (ap (λ (z : Prefixes). landed_at p s (a.entries p) z (b.due_out p)) d ∙ (ap (λ (z : Prefixes). landed_at p s (a.entries p) a.dirty z) u ∙ sym x.effect)))
+      let u : b.due_out p ≡ a.due_out p = same_set (b.due_out p) (a.due_out p) (λ z. y.due.members z ∙ sym (x.due.members z)) in
+      y.effect ∙ (ap (λ (z : Entries). landed_at q k p s z b.dirty (b.due_out p)) e ∙ (ap (λ (z : Prefixes). landed_at q k p s (a.entries p) z (b.due_out p)) d ∙ (ap (λ (z : Prefixes). landed_at q k p s (a.entries p) a.dirty z) u ∙ sym x.effect)))
 
-  abbrev landing_items : ℕ → ℕ → ℕ → List RouterSent
-  landing_items q k p = OutwardTo p (PointAt k) ∷ MeshTo q (Done k p) ∷ []
+  abbrev landing_items : ℕ → ℕ → List RouterSent
+  landing_items k p = OutwardTo p (PointAt k) ∷ []
 
   one_lands : (q : ℕ) → Lands setup r q before taken sent a → Lands setup r q before taken items b → Same
   one_lands q x y =
       let t = moved_is q y.comes.graft x.comes.graft y.comes.peering x.comes.peering y.comes.session x.comes.session (sym y.comes.takes ∙ x.comes.takes) in
-      let here : Landed y.comes.peering y.comes.session b = record { entries = y.entries; dirty = y.dirty; due = y.due; effect = y.effect } in
-      let there : Landed x.comes.peering x.comes.session a = record { entries = x.entries; dirty = x.dirty; due = x.due; effect = x.effect } in (
-        y.sends ∙ (ap (λ (k : ℕ). landing_items q k y.comes.peering) t.0 ∙ (ap (λ (p : ℕ). landing_items q x.comes.graft p) t.1 ∙ sym x.sends)),
-        one_landed x.comes.peering x.comes.session there (subst (λ (z : SessionValue). Landed x.comes.peering z b) t.2 (subst (λ (z : ℕ). Landed z y.comes.session b) t.1 here)),
+      let here : Landed q y.comes.graft y.comes.peering y.comes.session b = record { entries = y.entries; dirty = y.dirty; due = y.due; effect = y.effect } in
+      let there : Landed q x.comes.graft x.comes.peering x.comes.session a = record { entries = x.entries; dirty = x.dirty; due = x.due; effect = x.effect } in (
+        y.sends ∙ (ap (λ (k : ℕ). landing_items k y.comes.peering) t.0 ∙ (ap (λ (p : ℕ). landing_items x.comes.graft p) t.1 ∙ sym x.sends)),
+        one_landed q x.comes.graft x.comes.peering x.comes.session there
+            (subst (λ (z : SessionValue). Landed q x.comes.graft x.comes.peering z b) t.2 (subst (λ (z : ℕ). Landed q x.comes.graft z y.comes.session b) t.1 (subst (λ (z : ℕ). Landed q z y.comes.peering y.comes.session b) t.0 here))),
       )
 
   one_turns_back : (q : ℕ) → TurnsBack setup r q before taken sent a → TurnsBack setup r q before taken items b → Same
@@ -327,4 +349,5 @@ one_router setup r (Land q) before a b taken sent items one x y = one_lands setu
 one_router setup r (TurnBack q) before a b taken sent items one x y = one_turns_back setup r before a b taken sent items q x y
 one_router setup r (Return q) before a b taken sent items one x y = one_returns setup r before a b taken sent items q x y
 one_router setup r (Clear q) before a b taken sent items one x y = one_clears setup r before a b taken sent items q x y
+one_router setup r (Confirm k) before a b taken sent items one x y = one_confirms setup r before a b taken sent items k one x y
 one_router setup r (Tick p round) before a b taken sent items one x y = one_ticks setup r before a b taken sent items p round x y

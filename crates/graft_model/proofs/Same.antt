@@ -20,7 +20,7 @@ use Rattle.session_value.specs.Sessions.{SessionValue, peering_of, state}
 use Rattle.session_value.specs.Cases.{GetsFrame, PassesRound, put_by, reading, sending}
 use Rattle.session_value.specs.Sets.{BestRoutes, Prefixes, has, Marks}
 use Rattle.graft_model.specs.Slices.{EmitsAt}
-use Rattle.graft_model.specs.Parts.{Order, Live, RouterPart}
+use Rattle.graft_model.specs.Parts.{Errand, Live, RouterPart}
 use Rattle.graft_model.specs.RouterRows.{IsLive, DueThen}
 
 -- ---- tables and sets
@@ -48,13 +48,13 @@ same_marks before after other old new m n = same_set after other (λ x. marked_a
 
 -- ---- places
 
-pub same_session : (s t : SessionValue) (o u : Option Order) → Live s o ≡ Live t u → s ≡ t
+pub same_session : (s t : SessionValue) (o u : Option Errand) → Live s o ≡ Live t u → s ≡ t
 same_session s t o u e = cc
 
-pub same_order : (s t : SessionValue) (o u : Option Order) → Live s o ≡ Live t u → o ≡ u
+pub same_order : (s t : SessionValue) (o u : Option Errand) → Live s o ≡ Live t u → o ≡ u
 same_order s t o u e = cc
 
-pub live_here : (part : RouterPart) (p : ℕ) (s t : SessionValue) (o u : Option Order) → IsLive part p s o → IsLive part p t u → Live s o ≡ Live t u
+pub live_here : (part : RouterPart) (p : ℕ) (s t : SessionValue) (o u : Option Errand) → IsLive part p s o → IsLive part p t u → Live s o ≡ Live t u
 live_here part p s t o u a b = sym a.is ∙ b.is
 
 -- ---- what is emitted

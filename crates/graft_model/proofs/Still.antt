@@ -9,11 +9,13 @@ use Rattle.session_value.specs.Sessions.{SessionValue}
 use Rattle.session_value.specs.Cases.{GetsFrame}
 use Rattle.session_value.specs.Sets.{Prefixes, has}
 use Rattle.graft_model.specs.Setups.{Setup, SayStep, MoveStep}
-use Rattle.graft_model.specs.Parts.{Order, Place, Live, World}
+use Rattle.graft_model.specs.Parts.{Errand, Place, Live, World}
 use Rattle.graft_model.specs.RouterRows.{RouterTaken, OrderIn, SegmentIn, MeshIn}
-use Rattle.graft_model.specs.FarRows.{FarTaken, OutwardIn, SayIn, Way, Homeward, Remoteward, link}
+use Rattle.tcp_seq.specs.declared.segment.Way.{Way}
+use Rattle.tcp_seq.specs.declared.segment.Way.TheVariants.{Home, Remote}
+use Rattle.graft_model.specs.FarRows.{FarTaken, OutwardIn, SayIn, link}
 use Rattle.graft_model.specs.OperatorRows.{OperatorTaken, ReportIn, OrdersSay, OrdersGraft}
-use Rattle.graft_model.specs.Steps.{RouterEvent, Put, Emit, Arrive, Stray, Got, Decide, Tell, Hear, Admit, Refuse, Freeze, Leave, Land, TurnBack, Return, Clear, Tick, FarEvent, Say, Send, Take, Pass, Reach, Lose, Point, Beat, OperatorEvent, Go, Note, Event, ByRouter, ByFar, ByOperator, RouterTook, FarTook, OperatorTook, RouterStep, FarStep, OperatorStep, Step}
+use Rattle.graft_model.specs.Steps.{RouterEvent, Put, Emit, Arrive, Stray, Got, Decide, Tell, Hear, Admit, Refuse, Freeze, Leave, Land, TurnBack, Return, Clear, Confirm, Tick, FarEvent, Say, Send, Take, Pass, Reach, Lose, Point, Beat, OperatorEvent, Go, Note, Event, ByRouter, ByFar, ByOperator, RouterTook, FarTook, OperatorTook, RouterStep, FarStep, OperatorStep, Step}
 use Rattle.graft_model.specs.Steps.{Order as OrderOf}
 use Rattle.graft_model.specs.Quiet.{Quiet, IsIdle}
 use Rattle.graft_model.specs.Laws.{MayStillHappen}
@@ -54,7 +56,7 @@ has_none prefixes prefix none there =
     let e : has prefixes prefix ≡ false = ap (λ (s : Prefixes). has s prefix) none ∙ ap is_some (map.get-empty prefix_cmp prefix) in
     absurd cc
 
-gets_none : (end : Endpoint) (session next : SessionValue) (order : Option Order) (bytes : List ℕ) → IsIdle end (Live session order) → GetsFrame session bytes next → ⊥
+gets_none : (end : Endpoint) (session next : SessionValue) (order : Option Errand) (bytes : List ℕ) → IsIdle end (Live session order) → GetsFrame session bytes next → ⊥
 gets_none end session next None bytes idle gets = elim idle.0 [ inl closed ↦ gets.unclosed closed | inr nothing ↦ nothing bytes gets.rest gets.front gets.got ]
 gets_none end session next (Some order) bytes idle gets = idle
 
@@ -89,11 +91,12 @@ by_router setup r (Land q) w v quiet step = router_had setup w step.without r st
 by_router setup r (TurnBack q) w v quiet step = router_had setup w step.without r step.taken _ quiet step.took step.row.comes.takes
 by_router setup r (Return q) w v quiet step = router_had setup w step.without r step.taken _ quiet step.took step.row.takes
 by_router setup r (Clear q) w v quiet step = router_had setup w step.without r step.taken _ quiet step.took step.row.takes
+by_router setup r (Confirm k) w v quiet step = idle_at setup w r _ _ quiet step.row.live.is
 by_router setup r (Tick p round) w v quiet step = tt
 
 loses_none : (setup : Setup) (w : World) (p : ℕ) (way : Way) (index : ℕ) → Quiet setup w → index < length (link (w.far p) way) → ⊥
-loses_none setup w p Homeward index quiet there = no_index _ index (quiet.homeward p) there
-loses_none setup w p Remoteward index quiet there = no_index _ index (quiet.remoteward p) there
+loses_none setup w p Home index quiet there = no_index _ index (quiet.homeward p) there
+loses_none setup w p Remote index quiet there = no_index _ index (quiet.remoteward p) there
 
 by_far : (setup : Setup) (p : ℕ) (event : FarEvent) (w v : World) → Quiet setup w → FarStep setup p event w v → MayStillHappen (ByFar p event)
 by_far setup p (Say step) w v quiet s = far_had setup w s.without p s.taken _ quiet s.took s.row.takes

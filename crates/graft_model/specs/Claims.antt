@@ -14,16 +14,16 @@ use Rattle.tcp_seq.specs.Endpoint.{received_bytes}
 use Rattle.session_value.specs.Sessions.{SessionValue, peering_of, state, while_established}
 use Rattle.session_value.specs.Fronts.{AreFirst, BeginsNothing}
 use Rattle.graft_model.specs.Setups.{Setup, routers_in, peerings_in, router_numbers, peering_numbers, identifier_of, cost_between, has_network, config_of}
-use Rattle.graft_model.specs.Parts.{Place, Vacant, Live, Frozen, Shadow, Mesh, Told, Moved, Back, Done, World}
-use Rattle.graft_model.specs.Decisions.{session_route, to_tell}
+use Rattle.graft_model.specs.Parts.{Place, Vacant, Live, Frozen, Shadow, Leaving, Owing, Mesh, Told, Moved, Back, Done, World}
+use Rattle.graft_model.specs.Decisions.{chosen, session_route, to_tell}
 use Rattle.graft_model.specs.OperatorRows.{placement}
-use Rattle.graft_model.specs.Steps.{RouterEvent, Refuse, Freeze, Land, Return, Event, ByRouter, Step, Run}
+use Rattle.graft_model.specs.Steps.{RouterEvent, Refuse, Freeze, Land, Return, Clear, Confirm, Event, ByRouter, Step, Run}
 
 -- ---- where a session is
 
 abbrev pub sessions_at : Place → List SessionValue
 sessions_at Vacant = []
-sessions_at (Live session order) = session ∷ []
+sessions_at (Live session errand) = session ∷ []
 sessions_at (Frozen session order) = session ∷ []
 sessions_at (Shadow graft) = []
 
@@ -70,14 +70,15 @@ pub record FrozenBefore (setup : Setup) (first : World) (events : List Event) (r
   pub w₂ : World
   pub w₃ : World
   pub before : Run setup first begun w₁
-  pub was : (w₁.router r).places p ≡ Live found (Some (record { graft = k; target = target }))
+  pub was : (w₁.router r).places p ≡ Live found (Some (Leaving (record { graft = k; target = target })))
   pub freezes : Step setup (ByRouter r (Freeze k)) w₁ w₂
   pub meanwhile : Run setup w₂ away w₃
   pub items : List Mesh
   pub comes : w₃.mesh q s ≡ item ∷ items
   pub step : Step setup (ByRouter s event) w₃ after
 
--- A graft that is turned back leaves the session at the router that froze it, as it was there; one that lands leaves it at its target, as it was.
+-- A graft that is turned back leaves the session at the router that froze it, as it was there; one that lands leaves it at its target, as it was, and
+-- the target owes word of that to the router that froze it.
 -- A graft that the source refuses leaves every session where and as it is.
 pub record Unchanged (setup : Setup) (first : World) (events : List Event) : Type 0 where
   pub returned : (r k p target s q : ℕ) (found session : SessionValue) (refusal : Refusal) (after : World)
@@ -85,11 +86,36 @@ pub record Unchanged (setup : Setup) (first : World) (events : List Event) : Typ
       → (s ≡ r) × ((after.router s).places p ≡ Live found None)
   pub landed : (r k p target s q : ℕ) (found session : SessionValue) (after : World)
       → FrozenBefore setup first events r k p target found s q (Land q) (Moved k p session) after
-      → (s ≡ target) × ((after.router s).places p ≡ Live found None)
+      → (s ≡ target) × ((after.router s).places p ≡ Live found (Some (Owing (record { graft = k; source = r }))))
   pub refused : (begun rest : List Event) (r k p : ℕ) (w₁ w₂ : World)
       → events ≡ begun ++ ByRouter r (Refuse k) ∷ rest
       → Run setup first begun w₁ → Step setup (ByRouter r (Refuse k)) w₁ w₂
       → (sessions_of setup w₂ p ≡ sessions_of setup w₁ p) × ((q : ℕ) → sessions_at ((w₂.router q).places p) ≡ sessions_at ((w₁.router q).places p))
+
+-- ---- made before broken
+
+-- Among the events that lead to the world `clearing` there is one by which the router t gave word that the session of graft k has landed there, in the
+-- world `giving`. Its best routes were then the choices between all that it had, with the routes of that session; and what the router s has heard from t in the
+-- world `clearing` is, for each prefix, what t tells of the best route that it had then.
+pub record IsMadeBefore (setup : Setup) (first : World) (events : List Event) (s t k : ℕ) (clearing : World) : Type 0 where
+  pub begun : List Event
+  pub since : List Event
+  pub among : events ≡ begun ++ ByRouter t (Confirm k) ∷ since
+  pub giving : World
+  pub given : World
+  pub before : Run setup first begun giving
+  pub gives : Step setup (ByRouter t (Confirm k)) giving given
+  pub meanwhile : Run setup given since clearing
+  pub decided : (x : PrefixValue) → map.get (giving.router t).best x ≡ chosen setup t (giving.router t) x
+  pub heard : (x : PrefixValue) → map.get ((clearing.router s).tellings t) x ≡ tell_in (map.get (giving.router t).best x)
+
+-- Wherever in the events a router s clears its shadow of graft k, as the router t said, it has the routes that t told when it gave word. So no route that
+-- lives on is withdrawn because a session moved.
+abbrev pub MadeBeforeBroken : Setup → World → List Event → Type 0
+MadeBeforeBroken setup first events = (begun rest : List Event) (s t k p : ℕ) (items : List Mesh) (before after : World)
+    → events ≡ begun ++ ByRouter s (Clear t) ∷ rest
+    → Run setup first begun before → Step setup (ByRouter s (Clear t)) before after → before.mesh t s ≡ Done k p ∷ items
+    → IsMadeBefore setup first begun s t k before
 
 -- ---- solves
 

@@ -5,19 +5,19 @@ use Rattle.graft_steps.specs.declared.refusal.Refusal.{Refusal}
 use Rattle.graft_steps.specs.declared.refusal.Refusal.TheVariants.{SameRouter, NotEstablished, HoldTooShort, RouterFull, PolicyMissing}
 use Rattle.session_value.specs.Sessions.{SessionValue, state, hold_time}
 use Rattle.graft_model.specs.Setups.{Setup, peering_numbers, peerings_in, room_of, missing_policy}
-use Rattle.graft_model.specs.Parts.{Place, Vacant, Live, Frozen, Shadow, RouterPart}
+use Rattle.graft_model.specs.Parts.{Place, Vacant, Live, Frozen, Shadow, Leaving, RouterPart}
 
 -- no session is live there: nothing is there, or a session that is frozen, or the shadow of one that left
 abbrev pub HasNoLive : Place → Type 0
 HasNoLive Vacant = Unit {0}
-HasNoLive (Live session order) = ⊥
+HasNoLive (Live session errand) = ⊥
 HasNoLive (Frozen session order) = Unit {0}
 HasNoLive (Shadow graft) = Unit {0}
 
 -- an established session is there, live or frozen
 abbrev pub HasEstablished : Place → Type 0
 HasEstablished Vacant = ⊥
-HasEstablished (Live session order) = state session ≡ Established
+HasEstablished (Live session errand) = state session ≡ Established
 HasEstablished (Frozen session order) = state session ≡ Established
 HasEstablished (Shadow graft) = ⊥
 
@@ -27,7 +27,7 @@ pub record MayFreeze (r k : ℕ) (part : RouterPart) : Type 0 where
   pub peering : ℕ
   pub target : ℕ
   pub session : SessionValue
-  pub live : part.places peering ≡ Live session (Some (record { graft = k; target = target }))
+  pub live : part.places peering ≡ Live session (Some (Leaving (record { graft = k; target = target })))
   pub established : state session ≡ Established
   pub elsewhere : target ≢ r
   pub long : (hold_time session ≡ 0) ⊎ (30 ≤ hold_time session)
@@ -42,7 +42,7 @@ IsWhyNotFrozen r target session refusal =
 
 abbrev pub is_vacant : Place → Bool
 is_vacant Vacant = true
-is_vacant (Live session order) = false
+is_vacant (Live session errand) = false
 is_vacant (Frozen session order) = false
 is_vacant (Shadow graft) = false
 

@@ -1,5 +1,5 @@
 -- What a router takes in, decides and tells (RFC 4271, section 9.1).
-use Rattle.std.specs.Prelude.{ℕ, ◌++◌, true, false, Option, option_map, unwrap_or}
+use Rattle.std.specs.Prelude.{ℕ, ◌++◌, false, Option, option_map, unwrap_or}
 use Rattle.std.specs.FinMap as map
 use Rattle.std.specs.List.{filter_map}
 use Rattle.bgp_types.specs.declared.attrs.Attrs.{Attrs}
@@ -57,7 +57,7 @@ chosen setup r part prefix = choice (
 -- ---- telling
 
 abbrev pub out_side : Setup → ℕ → SessionConfig → OutSide
-out_side setup r config = record { peering = config.peering; local_address = config.local_address; export_rules = rules_for setup r config.export }
+out_side setup r config = record { peering = config.peering; remote_as = config.remote_as; local_address = config.local_address; export_rules = rules_for setup r config.export }
 
 -- what is to be told on a session at a router for a prefix
 abbrev pub to_tell : Setup → ℕ → RouterPart → SessionValue → PrefixValue → Option Attrs

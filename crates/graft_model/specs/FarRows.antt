@@ -3,6 +3,8 @@ use Rattle.std.specs.Prelude.{◌≡◌, ℕ, ◌+◌, ◌%◌, ◌^◌, ◌<◌
 use Rattle.bgp_types.specs.declared.message.Message.TheVariants.{KeepaliveMsg}
 use Rattle.bgp_types.specs.Spelling.{spell}
 use Rattle.tcp_seq.specs.Endpoint.{Endpoint, PlacedSegment, TakesSegment}
+use Rattle.tcp_seq.specs.declared.segment.Way.{Way}
+use Rattle.tcp_seq.specs.declared.segment.Way.TheVariants.{Home, Remote}
 use Rattle.session_value.specs.Cases.{sending}
 use Rattle.graft_model.specs.Slices.{EmitsAt}
 use Rattle.graft_model.specs.Setups.{Setup, SayStep, beat_of, routers_in}
@@ -18,17 +20,13 @@ pub record FarSent : Type 0 where
   pub router : ℕ
   pub segment : PlacedSegment
 
-pub data Way : Type 0 where
-  Homeward : Way
-  Remoteward : Way
-
 abbrev pub link : FarPart → Way → List PlacedSegment
-link part Homeward = part.homeward
-link part Remoteward = part.remoteward
+link part Home = part.homeward
+link part Remote = part.remoteward
 
 abbrev pub with_link : FarPart → Way → List PlacedSegment → FarPart
-with_link part Homeward segments = record part { homeward = segments }
-with_link part Remoteward segments = record part { remoteward = segments }
+with_link part Home segments = record part { homeward = segments }
+with_link part Remote segments = record part { remoteward = segments }
 
 -- a list without its member at an index
 abbrev pub without : {A : Type 0} → ℕ → List A → List A

@@ -10,7 +10,7 @@ use Rattle.session_value.specs.Sessions.{SessionValue, state, hold_time}
 use Rattle.session_value.specs.Sets.{Prefixes, has, Marks}
 use Rattle.graft_model.specs.Points.{at}
 use Rattle.graft_model.specs.Setups.{Setup, routers_in, peerings_in, peering_numbers, room_of, missing_policy}
-use Rattle.graft_model.specs.Parts.{Place, Vacant, Live, Frozen, Shadow, RouterPart, Moved, Back, Done, PointAt}
+use Rattle.graft_model.specs.Parts.{Place, Vacant, Live, Frozen, Shadow, Leaving, Owing, RouterPart, Moved, Back, Done, PointAt}
 use Rattle.graft_model.specs.RouterRows.{RouterTaken, OrderIn, MeshIn, RouterSent, MeshTo, OutwardTo, ReportOut, Alone, IsLive, BringsIn}
 
 -- The order of a graft is stored with the live session that it is for.
@@ -22,14 +22,14 @@ pub record Admits (setup : Setup) (k : ℕ) (before : RouterPart) (taken : Optio
   pub known : target < routers_in setup
   pub session : SessionValue
   pub live : IsLive before peering session None
-  pub effect : after ≡ record before { places = at before.places peering (Live session (Some (record { graft = k; target = target }))) }
+  pub effect : after ≡ record before { places = at before.places peering (Live session (Some (Leaving (record { graft = k; target = target })))) }
 
 -- The source refuses the graft, and the session stays as it is.
 pub record Refuses (r k : ℕ) (before : RouterPart) (taken : Option RouterTaken) (sent : List RouterSent) (after : RouterPart) : Type 0 where
   pub peering : ℕ
   pub target : ℕ
   pub session : SessionValue
-  pub live : IsLive before peering session (Some (record { graft = k; target = target }))
+  pub live : IsLive before peering session (Some (Leaving (record { graft = k; target = target })))
   pub refusal : Refusal
   pub cause : freeze_refusal (record { 0 = r }) (record { 0 = target }) (state session) (hold_time session) ≡ Some refusal
   pub takes : taken ≡ None
@@ -42,7 +42,7 @@ pub record Freezes (r k : ℕ) (before : RouterPart) (taken : Option RouterTaken
   pub peering : ℕ
   pub target : ℕ
   pub session : SessionValue
-  pub live : IsLive before peering session (Some (record { graft = k; target = target }))
+  pub live : IsLive before peering session (Some (Leaving (record { graft = k; target = target })))
   pub no_cause : freeze_refusal (record { 0 = r }) (record { 0 = target }) (state session) (hold_time session) ≡ None
   pub effect : after ≡ record before { places = at before.places peering (Frozen session (record { graft = k; target = target })) }
 
@@ -61,7 +61,7 @@ pub record Leaves (k : ℕ) (before : RouterPart) (taken : Option RouterTaken) (
 -- a place that is taken, by a session or a shadow
 abbrev pub is_taken : Place → Bool
 is_taken Vacant = false
-is_taken (Live session order) = true
+is_taken (Live session errand) = true
 is_taken (Frozen session order) = true
 is_taken (Shadow graft) = true
 
@@ -86,21 +86,33 @@ pub record Comes (setup : Setup) (q : ℕ) (before : RouterPart) (taken : Option
 pub record DueAgain (part : RouterPart) (session : SessionValue) (due : Prefixes) : Type 0 where
   pub members : (x : PrefixValue) → has due x ≡ (is_some (map.get session.told x) || is_some (map.get part.best x))
 
--- The session lands: its routes are taken in by the target's own policies, the far side is told to point here, and the source that the
--- session is here.
+-- The session lands: its routes are taken in by the target's own policies, and the far side is told to point here. Word of it is owed to the source.
 pub record Lands (setup : Setup) (r q : ℕ) (before : RouterPart) (taken : Option RouterTaken) (sent : List RouterSent) (after : RouterPart) : Type 0 where
   pub comes : Comes setup q before taken
   pub admitted : refusal_of setup r before comes.session ≡ None
-  pub sends : sent ≡ OutwardTo comes.peering (PointAt comes.graft) ∷ MeshTo q (Done comes.graft comes.peering) ∷ []
+  pub sends : sent ≡ OutwardTo comes.peering (PointAt comes.graft) ∷ []
   pub entries : BringsIn setup r comes.session (after.entries comes.peering)
   pub dirty : Marks before.dirty (before.entries comes.peering) (after.entries comes.peering) after.dirty
   pub due : DueAgain before comes.session (after.due_out comes.peering)
   pub effect : after ≡ record before {
-    places = at before.places comes.peering (Live comes.session None);
+    places = at before.places comes.peering (Live comes.session (Some (Owing (record { graft = comes.graft; source = q }))));
     entries = at before.entries comes.peering (after.entries comes.peering);
     dirty = after.dirty;
     due_out = at before.due_out comes.peering (after.due_out comes.peering);
   }
+
+-- The source is told that its session has landed here. That is told once nothing is to be decided here and nothing is to be told to another router,
+-- so that it comes behind all routes that the source has of this router.
+pub record Confirms (k : ℕ) (before : RouterPart) (taken : Option RouterTaken) (sent : List RouterSent) (after : RouterPart) : Type 0 where
+  pub peering : ℕ
+  pub source : ℕ
+  pub session : SessionValue
+  pub live : IsLive before peering session (Some (Owing (record { graft = k; source = source })))
+  pub clean : (x : PrefixValue) → has before.dirty x ≡ false
+  pub told : (q : ℕ) (x : PrefixValue) → has (before.due_in q) x ≡ false
+  pub takes : taken ≡ None
+  pub sends : sent ≡ MeshTo source (Done k peering) ∷ []
+  pub effect : after ≡ record before { places = at before.places peering (Live session None) }
 
 -- The target doesn't take the session in, and sends it back.
 pub record TurnsBack (setup : Setup) (r q : ℕ) (before : RouterPart) (taken : Option RouterTaken) (sent : List RouterSent) (after : RouterPart) : Type 0 where
@@ -124,7 +136,7 @@ pub record Returns (q : ℕ) (before : RouterPart) (taken : Option RouterTaken) 
   pub due : DueAgain before session (after.due_out peering)
   pub effect : after ≡ record before { places = at before.places peering (Live session None); due_out = at before.due_out peering (after.due_out peering) }
 
--- The session is at its target: the shadow ends, with the entries of the peering.
+-- The session is at its target, and its routes were told from there: the shadow ends, with the entries of the peering.
 pub record Clears (q : ℕ) (before : RouterPart) (taken : Option RouterTaken) (sent : List RouterSent) (after : RouterPart) : Type 0 where
   pub graft : ℕ
   pub peering : ℕ

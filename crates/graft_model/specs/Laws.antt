@@ -1,10 +1,10 @@
 -- What a step leaves as it is, what may happen in a quiet world, and of which events the laws of rows speak.
 use Rattle.std.specs.Prelude.{ℕ, suc, ◌≡◌, ◌≢◌, List, [], Option, Some, None}
 use Rattle.session_value.specs.Sessions.{SessionValue}
-use Rattle.graft_model.specs.Parts.{Place, Vacant, Live, Frozen, Shadow, RouterPart, World}
+use Rattle.graft_model.specs.Parts.{Place, Vacant, Live, Frozen, Shadow, graft_of, RouterPart, World}
 use Rattle.graft_model.specs.RouterRows.{RouterTaken, OrderIn, SegmentIn, MeshIn, RouterSent, MeshTo, OutwardTo, ReportOut}
 use Rattle.graft_model.specs.Claims.{sessions_on}
-use Rattle.graft_model.specs.Steps.{RouterEvent, Put, Emit, Arrive, Got, Refuse, Freeze, Leave, Tick, Send, Beat, Go, Event, ByRouter, ByFar, ByOperator}
+use Rattle.graft_model.specs.Steps.{RouterEvent, Put, Emit, Arrive, Got, Refuse, Freeze, Leave, Confirm, Tick, Send, Beat, Go, Event, ByRouter, ByFar, ByOperator}
 
 -- A router's event changes that router's part, and channels from it or to it.
 pub record LeavesByRouter (r : ℕ) (before after : World) : Type 0 where
@@ -49,11 +49,11 @@ MayStillHappen event = ⊥
 
 -- ---- one outcome
 
--- a graft of this number is stored with the session of a place, or the session is frozen for it
+-- something is to be done for the graft of this number with the session of a place, or the session is frozen for it
 abbrev pub HasGraft : ℕ → Place → Type 0
 HasGraft k Vacant = ⊥
 HasGraft k (Live session None) = ⊥
-HasGraft k (Live session (Some order)) = order.graft ≡ k
+HasGraft k (Live session (Some errand)) = graft_of errand ≡ k
 HasGraft k (Frozen session order) = order.graft ≡ k
 HasGraft k (Shadow graft) = ⊥
 
@@ -68,6 +68,7 @@ HasOneOutcome (Put p (suc n)) part = ⊥
 HasOneOutcome (Refuse k) part = HasOnce k part
 HasOneOutcome (Freeze k) part = HasOnce k part
 HasOneOutcome (Leave k) part = HasOnce k part
+HasOneOutcome (Confirm k) part = HasOnce k part
 HasOneOutcome event part = Unit {0}
 
 -- ---- sessions on their way

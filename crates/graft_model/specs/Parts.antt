@@ -17,12 +17,28 @@ pub record Order : Type 0 where
   pub graft : ℕ
   pub target : ℕ
 
--- A router's place for a peering: nothing is there; the session is held, with the graft that is stored for it; the session is
+-- word of a landing that a router owes: the number of the graft, and its source
+pub record Word : Type 0 where
+  pub graft : ℕ
+  pub source : ℕ
+
+-- What a router still has to do for a graft whose session is live there: to send the session away, as it was ordered; or to tell the source
+-- that the session has landed.
+pub data Errand : Type 0 where
+  Leaving : Order → Errand
+  Owing : Word → Errand
+
+-- the graft that it is for
+abbrev pub graft_of : Errand → ℕ
+graft_of (Leaving order) = order.graft
+graft_of (Owing word) = word.graft
+
+-- A router's place for a peering: nothing is there; the session is held, with what is to be done for its graft; the session is
 -- held and frozen for a graft, so that nothing but its leaving can happen to it; or the session has left in a graft, and its routes
 -- stay as a shadow until the graft has ended.
 pub data Place : Type 0 where
   Vacant : Place
-  Live : SessionValue → Option Order → Place
+  Live : SessionValue → Option Errand → Place
   Frozen : SessionValue → Order → Place
   Shadow : (graft : ℕ) → Place
 
@@ -63,7 +79,7 @@ pub record OperatorPart : Type 0 where
 -- ---- items
 
 -- from a router to a router: a route that is told, or that there is none; a session that moves, or comes back refused; word that a
--- session has landed
+-- session has landed, and that its routes were told
 pub data Mesh : Type 0 where
   Told : PrefixValue → Option Route → Mesh
   Moved : (graft peering : ℕ) → SessionValue → Mesh

@@ -18,7 +18,7 @@ use Rattle.graft_model.specs.Points.{at}
 use Rattle.graft_model.specs.Slices.{EmitsAt}
 use Rattle.graft_model.specs.Sets.{Drops, Lists}
 use Rattle.graft_model.specs.Setups.{Setup}
-use Rattle.graft_model.specs.Parts.{Order, Live, RouterPart, Entries, Mesh, Outward, Seg, GraftOrder, Report}
+use Rattle.graft_model.specs.Parts.{Errand, Live, RouterPart, Entries, Mesh, Outward, Seg, GraftOrder, Report}
 use Rattle.graft_model.specs.Decisions.{entry_of, to_tell}
 
 -- what a router may take: the next item of the operator's channel, of a far side's, or of another router's
@@ -37,9 +37,9 @@ pub data RouterSent : Type 0 where
 abbrev pub Alone : Option RouterTaken → List RouterSent → Type 0
 Alone taken sent = (taken ≡ None) × (sent ≡ [])
 
--- the live session of a peering at a router, with the graft that is stored for it
-pub record IsLive (part : RouterPart) (p : ℕ) (session : SessionValue) (order : Option Order) : Type 0 where
-  pub is : part.places p ≡ Live session order
+-- the live session of a peering at a router, with what is to be done for its graft
+pub record IsLive (part : RouterPart) (p : ℕ) (session : SessionValue) (errand : Option Errand) : Type 0 where
+  pub is : part.places p ≡ Live session errand
 
 -- ---- what is put
 
@@ -55,8 +55,8 @@ IsToTell setup r part p session prefix = Waits part p prefix × (map.get session
 pub record PutsNothing (setup : Setup) (r p : ℕ) (before : RouterPart) (taken : Option RouterTaken) (sent : List RouterSent) (after : RouterPart) : Type 0 where
   pub alone : Alone taken sent
   pub session : SessionValue
-  pub order : Option Order
-  pub live : IsLive before p session order
+  pub errand : Option Errand
+  pub live : IsLive before p session errand
   pub established : state session ≡ Established
   pub prefix : PrefixValue
   pub waits : Waits before p prefix
@@ -68,8 +68,8 @@ pub record PutsNothing (setup : Setup) (r p : ℕ) (before : RouterPart) (taken 
 pub record PutsSome (setup : Setup) (r p n : ℕ) (before : RouterPart) (taken : Option RouterTaken) (sent : List RouterSent) (after : RouterPart) : Type 0 where
   pub alone : Alone taken sent
   pub session : SessionValue
-  pub order : Option Order
-  pub live : IsLive before p session order
+  pub errand : Option Errand
+  pub live : IsLive before p session errand
   pub first : PrefixValue
   pub is_to_tell : IsToTell setup r before p session first
   pub least : (x : PrefixValue) → IsToTell setup r before p session x → is_lt (prefix_cmp x first) ≡ false
@@ -82,37 +82,37 @@ pub record PutsSome (setup : Setup) (r p n : ℕ) (before : RouterPart) (taken :
   pub next : SessionValue
   pub puts : PutsUpdate session (update_for attrs prefixes) next
   pub due : Drops (before.due_out p) (λ x. list_any (same_prefix x) prefixes) (after.due_out p)
-  pub effect : after ≡ record before { places = at before.places p (Live next order); due_out = at before.due_out p (after.due_out p) }
+  pub effect : after ≡ record before { places = at before.places p (Live next errand); due_out = at before.due_out p (after.due_out p) }
 
 -- ---- what is emitted and what arrives
 
 -- A slice of what was put, or nothing at the place that is emitted next, goes to the far side with the received length of this moment.
 pub record Emits (p from len : ℕ) (before : RouterPart) (taken : Option RouterTaken) (sent : List RouterSent) (after : RouterPart) : Type 0 where
   pub session : SessionValue
-  pub order : Option Order
-  pub live : IsLive before p session order
+  pub errand : Option Errand
+  pub live : IsLive before p session errand
   pub segment : PlacedSegment
   pub end : Endpoint
   pub emits : EmitsAt from len session.end segment end
   pub takes : taken ≡ None
   pub sends : sent ≡ OutwardTo p (Seg segment) ∷ []
-  pub effect : after ≡ record before { places = at before.places p (Live (record session { end = end }) order) }
+  pub effect : after ≡ record before { places = at before.places p (Live (record session { end = end }) errand) }
 
 -- The next segment of the far side arrives at the live session.
 pub record Arrives (p : ℕ) (before : RouterPart) (taken : Option RouterTaken) (sent : List RouterSent) (after : RouterPart) : Type 0 where
   pub session : SessionValue
-  pub order : Option Order
-  pub live : IsLive before p session order
+  pub errand : Option Errand
+  pub live : IsLive before p session errand
   pub segment : PlacedSegment
   pub takes : taken ≡ Some (SegmentIn p segment)
   pub sends : sent ≡ []
   pub end : Endpoint
   pub arrives : TakesSegment session.end segment end
-  pub effect : after ≡ record before { places = at before.places p (Live (record session { end = end }) order) }
+  pub effect : after ≡ record before { places = at before.places p (Live (record session { end = end }) errand) }
 
 -- The next segment of the far side finds no live session here, and is dropped without an answer.
 pub record Strays (p : ℕ) (before : RouterPart) (taken : Option RouterTaken) (sent : List RouterSent) (after : RouterPart) : Type 0 where
-  pub absent : (session : SessionValue) (order : Option Order) → IsLive before p session order → ⊥
+  pub absent : (session : SessionValue) (errand : Option Errand) → IsLive before p session errand → ⊥
   pub segment : PlacedSegment
   pub takes : taken ≡ Some (SegmentIn p segment)
   pub sends : sent ≡ []
@@ -138,12 +138,12 @@ FollowsHeard setup r session next before after x =
     ⊎ ((map.get next.heard x ≢ map.get session.heard x) × (map.get after x ≡ entry_of setup r next x))
 
 -- a session changed by itself: its entries follow it, and the prefixes whose entries changed are dirty
-pub record Follows (setup : Setup) (r p : ℕ) (before : RouterPart) (session next : SessionValue) (order : Option Order) (after : RouterPart) : Type 0 where
+pub record Follows (setup : Setup) (r p : ℕ) (before : RouterPart) (session next : SessionValue) (errand : Option Errand) (after : RouterPart) : Type 0 where
   pub entries : (x : PrefixValue) → FollowsHeard setup r session next (before.entries p) (after.entries p) x
   pub dirty : Marks before.dirty (before.entries p) (after.entries p) after.dirty
   pub due : DueThen (state session) (state next) before.best (before.due_out p) (after.due_out p)
   pub effect : after ≡ record before {
-    places = at before.places p (Live next order);
+    places = at before.places p (Live next errand);
     entries = at before.entries p (after.entries p);
     dirty = after.dirty;
     due_out = at before.due_out p (after.due_out p);
@@ -153,19 +153,19 @@ pub record Follows (setup : Setup) (r p : ℕ) (before : RouterPart) (session ne
 pub record GetsNext (setup : Setup) (r p : ℕ) (before : RouterPart) (taken : Option RouterTaken) (sent : List RouterSent) (after : RouterPart) : Type 0 where
   pub alone : Alone taken sent
   pub session : SessionValue
-  pub order : Option Order
-  pub live : IsLive before p session order
+  pub errand : Option Errand
+  pub live : IsLive before p session errand
   pub bytes : List ℕ
   pub next : SessionValue
   pub gets : GetsFrame session bytes next
-  pub follows : Follows setup r p before session next order after
+  pub follows : Follows setup r p before session next errand after
 
 -- A round passes on a session whose hold time runs.
 pub record Ticks (setup : Setup) (r p round : ℕ) (before : RouterPart) (taken : Option RouterTaken) (sent : List RouterSent) (after : RouterPart) : Type 0 where
   pub alone : Alone taken sent
   pub session : SessionValue
-  pub order : Option Order
-  pub live : IsLive before p session order
+  pub errand : Option Errand
+  pub live : IsLive before p session errand
   pub next : SessionValue
   pub passes : PassesRound session round next
-  pub follows : Follows setup r p before session next order after
+  pub follows : Follows setup r p before session next errand after

@@ -1,51 +1,22 @@
 -- Events of the world: an actor's row, with what it takes from the heads of channels and sends to their ends; and runs of events.
-use Rattle.std.specs.Prelude.{ℕ, zero, suc, fold, ◌≡◌, ◌<◌, List, [], ◌∷◌, ◌++◌, Bool, Option, Some, None, ◌⊎◌}
-use Rattle.bgp_types.specs.Prefixes.{PrefixValue}
+use Rattle.std.specs.Prelude.{ℕ, zero, suc, fold, ◌≡◌, ◌<◌, List, [], ◌∷◌, ◌++◌, Option, Some, None, ◌⊎◌}
 use Rattle.graft_model.specs.Points.{at, at2}
 use Rattle.graft_model.specs.Setups.{Setup, routers_in, peerings_in}
 use Rattle.graft_model.specs.Parts.{RouterPart, FarPart, OperatorPart, World}
 use Rattle.graft_model.specs.RouterRows.{RouterTaken, OrderIn, SegmentIn, MeshIn, RouterSent, MeshTo, OutwardTo, ReportOut, PutsNothing, PutsSome, Emits, Arrives, Strays, GetsNext, Ticks}
 use Rattle.graft_model.specs.TableRows.{Decides, Tells, Hears}
-use Rattle.graft_model.specs.GraftRows.{Admits, Refuses, Freezes, Leaves, Lands, TurnsBack, Returns, Clears}
-use Rattle.graft_model.specs.FarRows.{FarTaken, OutwardIn, SayIn, FarSent, Way, Says, Beats, SendsSegment, TakesIn, Passes, Reaches, Loses, TurnsLink}
+pub use Rattle.graft_model.specs.declared.event.RouterEvent.{RouterEvent}
+pub use Rattle.graft_model.specs.declared.event.RouterEvent.TheVariants.{Put, Emit, Arrive, Stray, Got, Decide, Tell, Hear, Admit, Refuse, Freeze, Leave, Land, TurnBack, Return, Clear, Confirm, Tick}
+pub use Rattle.graft_model.specs.declared.event.FarEvent.{FarEvent}
+pub use Rattle.graft_model.specs.declared.event.FarEvent.TheVariants.{Say, Send, Take, Pass, Reach, Lose, Point, Beat}
+pub use Rattle.graft_model.specs.declared.event.OperatorEvent.{OperatorEvent}
+pub use Rattle.graft_model.specs.declared.event.OperatorEvent.TheVariants.{Order, Note, Go}
+use Rattle.graft_model.specs.GraftRows.{Admits, Refuses, Freezes, Leaves, Lands, Confirms, TurnsBack, Returns, Clears}
+use Rattle.graft_model.specs.FarRows.{FarTaken, OutwardIn, SayIn, FarSent, Says, Beats, SendsSegment, TakesIn, Passes, Reaches, Loses, TurnsLink}
 use Rattle.graft_model.specs.OperatorRows.{OperatorTaken, ReportIn, OperatorSent, OrderTo, SayTo, OrdersSay, OrdersGraft, Notes, BeginsGroup}
 use Rattle.graft_model.specs.Quiet.{Quiet}
 
--- ---- events, each with its arguments
-
-pub data RouterEvent : Type 0 where
-  Put : (peering count : ℕ) → RouterEvent
-  Emit : (peering from len : ℕ) → RouterEvent
-  Arrive : (peering : ℕ) → RouterEvent
-  Stray : (peering : ℕ) → RouterEvent
-  Got : (peering : ℕ) → RouterEvent
-  Decide : PrefixValue → RouterEvent
-  Tell : (router : ℕ) → PrefixValue → RouterEvent
-  Hear : (router : ℕ) → RouterEvent
-  Admit : (graft : ℕ) → RouterEvent
-  Refuse : (graft : ℕ) → RouterEvent
-  Freeze : (graft : ℕ) → RouterEvent
-  Leave : (graft : ℕ) → RouterEvent
-  Land : (router : ℕ) → RouterEvent
-  TurnBack : (router : ℕ) → RouterEvent
-  Return : (router : ℕ) → RouterEvent
-  Clear : (router : ℕ) → RouterEvent
-  Tick : (peering round : ℕ) → RouterEvent
-
-pub data FarEvent : Type 0 where
-  Say : (step : ℕ) → FarEvent
-  Send : (from len : ℕ) → FarEvent
-  Take : (router : ℕ) → FarEvent
-  Pass : (index : ℕ) → (keep : Bool) → (router : ℕ) → FarEvent
-  Reach : (index : ℕ) → (keep : Bool) → FarEvent
-  Lose : Way → (index : ℕ) → FarEvent
-  Point : (router : ℕ) → FarEvent
-  Beat : (round : ℕ) → FarEvent
-
-pub data OperatorEvent : Type 0 where
-  Order : (step : ℕ) → OperatorEvent
-  Note : (router : ℕ) → OperatorEvent
-  Go : OperatorEvent
+-- ---- events
 
 pub data Event : Type 0 where
   ByRouter : (router : ℕ) → RouterEvent → Event
@@ -75,6 +46,7 @@ router_row setup r (Land q) before taken sent after = Lands setup r q before tak
 router_row setup r (TurnBack q) before taken sent after = TurnsBack setup r q before taken sent after
 router_row setup r (Return q) before taken sent after = Returns q before taken sent after
 router_row setup r (Clear q) before taken sent after = Clears q before taken sent after
+router_row setup r (Confirm k) before taken sent after = Confirms k before taken sent after
 router_row setup r (Tick p round) before taken sent after = Ticks setup r p round before taken sent after
 
 abbrev pub far_row : Setup → ℕ → FarEvent → FarPart → Option FarTaken → List FarSent → FarPart → Type 0

@@ -10,12 +10,12 @@ ghost use Rattle.session_value.specs.declared.config.SessionConfig.{SessionConfi
 ghost use Rattle.session_value.specs.Sessions.{SessionValue, state, hold_time};
 ghost use Rattle.session_value.specs.Sets.{has};
 ghost use Rattle.graft_model.specs.Setups.{Setup, PeeringSetup, SayStep, MoveStep, peerings_in, routers_in, room_of, missing_policy, group_of, groups_in, graft_number, beat_of, rules_named};
-ghost use Rattle.graft_model.specs.Parts.{RouterPart, FarPart, OperatorPart, World, GraftOrder, Order, Vacant, Live, Frozen, Shadow, Moved, Back, Done, PointAt};
+ghost use Rattle.graft_model.specs.Parts.{RouterPart, FarPart, OperatorPart, World, GraftOrder, Errand, Vacant, Live, Frozen, Shadow, Leaving, Owing, Moved, Back, Done, PointAt};
 ghost use Rattle.graft_model.specs.RouterRows.{RouterTaken, OrderIn, MeshIn, RouterSent, MeshTo, ReportOut};
 ghost use Rattle.graft_model.specs.FarRows.{FarTaken, OutwardIn, FarSent};
 ghost use Rattle.graft_model.specs.OperatorRows.{OperatorTaken, OperatorSent, OrderTo, SayTo, placement};
 ghost use Rattle.graft_model.specs.Taking.{RouterMayTake, FarMayTake, OperatorMayTake};
-ghost use Rattle.graft_model.specs.Steps.{Step, RouterEvent, FarEvent, OperatorEvent, ByOperator, Go, Put, Emit, Arrive, Stray, Got, Tell, Admit, Refuse, Freeze, Leave, Land, TurnBack, Return, Clear, Tick, Point, Beat, router_row, far_row, operator_row};
+ghost use Rattle.graft_model.specs.Steps.{Step, RouterEvent, FarEvent, OperatorEvent, ByOperator, Go, Put, Emit, Arrive, Stray, Got, Tell, Admit, Refuse, Freeze, Leave, Land, TurnBack, Return, Clear, Confirm, Tick, Point, Beat, router_row, far_row, operator_row};
 ghost use Rattle.graft_model.specs.Steps.{Order as OrderOf};
 ghost use Rattle.graft_model.specs.Quiet.{Quiet};
 ghost use Rattle.graft_model.specs.Claims.{sessions_at};
@@ -34,18 +34,18 @@ pub fn live_sessions_alone_act()
         → HasNoLive (before.places p) → ¬ router_row setup r (Got p) before taken sent after }
     ensures tick { (setup : Setup) (r p round : ℕ) (before after : RouterPart) (taken : Option RouterTaken) (sent : List RouterSent)
         → HasNoLive (before.places p) → ¬ router_row setup r (Tick p round) before taken sent after }
-    ensures stray { (setup : Setup) (r p : ℕ) (session : SessionValue) (order : Option Order) (before after : RouterPart) (taken : Option RouterTaken) (sent : List RouterSent)
-        → before.places p ≡ Live session order → ¬ router_row setup r (Stray p) before taken sent after }
+    ensures stray { (setup : Setup) (r p : ℕ) (session : SessionValue) (errand : Option Errand) (before after : RouterPart) (taken : Option RouterTaken) (sent : List RouterSent)
+        → before.places p ≡ Live session errand → ¬ router_row setup r (Stray p) before taken sent after }
 {}
 
 /// What a session that acts has to be: established where it puts an UPDATE, not closed where it gets, with a hold time that runs where a round passes.
 pub fn sessions_act_in_their_states()
-    ensures put { (setup : Setup) (r p n : ℕ) (session : SessionValue) (order : Option Order) (before after : RouterPart) (taken : Option RouterTaken) (sent : List RouterSent)
-        → before.places p ≡ Live session order → router_row setup r (Put p n) before taken sent after → state session ≡ Established }
-    ensures got { (setup : Setup) (r p : ℕ) (session : SessionValue) (order : Option Order) (before after : RouterPart) (taken : Option RouterTaken) (sent : List RouterSent)
-        → before.places p ≡ Live session order → router_row setup r (Got p) before taken sent after → state session ≢ Closed }
-    ensures tick { (setup : Setup) (r p round : ℕ) (session : SessionValue) (order : Option Order) (before after : RouterPart) (taken : Option RouterTaken) (sent : List RouterSent)
-        → before.places p ≡ Live session order → router_row setup r (Tick p round) before taken sent after → (0 < hold_time session) × (state session ≢ Closed) }
+    ensures put { (setup : Setup) (r p n : ℕ) (session : SessionValue) (errand : Option Errand) (before after : RouterPart) (taken : Option RouterTaken) (sent : List RouterSent)
+        → before.places p ≡ Live session errand → router_row setup r (Put p n) before taken sent after → state session ≡ Established }
+    ensures got { (setup : Setup) (r p : ℕ) (session : SessionValue) (errand : Option Errand) (before after : RouterPart) (taken : Option RouterTaken) (sent : List RouterSent)
+        → before.places p ≡ Live session errand → router_row setup r (Got p) before taken sent after → state session ≢ Closed }
+    ensures tick { (setup : Setup) (r p round : ℕ) (session : SessionValue) (errand : Option Errand) (before after : RouterPart) (taken : Option RouterTaken) (sent : List RouterSent)
+        → before.places p ≡ Live session errand → router_row setup r (Tick p round) before taken sent after → (0 < hold_time session) × (state session ≢ Closed) }
 {}
 
 /// What is to be decided again is neither told nor put.
@@ -60,8 +60,9 @@ pub fn dirty_prefixes_wait()
         → has (before.due_in q) prefix ≡ false → ¬ router_row setup r (Tell q prefix) before taken sent after }
 {}
 
-/// A graft goes on only where it stands: its order is taken by a live session with no graft stored, to one of the routers; the session is frozen only as
-/// `MayFreeze` says, and refused only with a reason why not; it leaves only where it is frozen; and its shadow alone is cleared, or made live again.
+/// A graft goes on only where it stands: its order is taken by a live session for which nothing is to be done, to one of the routers; the session is frozen only as
+/// `MayFreeze` says, and refused only with a reason why not; it leaves only where it is frozen; and its shadow alone is cleared, or made live again. Its source is told
+/// of the landing only where the session is live and word of that is owed.
 pub fn grafts_go_on_where_they_stand()
     ensures admit { (setup : Setup) (r k : ℕ) (order : GraftOrder) (before after : RouterPart) (sent : List RouterSent)
         → router_row setup r (Admit k) before (Some (OrderIn order)) sent after
@@ -70,15 +71,26 @@ pub fn grafts_go_on_where_they_stand()
         → router_row setup r (Freeze k) before taken sent after → MayFreeze r k before }
     ensures refuse { (setup : Setup) (r k : ℕ) (before after : RouterPart) (taken : Option RouterTaken) (sent : List RouterSent)
         → router_row setup r (Refuse k) before taken sent after
-        → (p : ℕ) × (session : SessionValue) × (target : ℕ) × (refusal : Refusal) × (before.places p ≡ Live session (Some (record { graft = k; target = target })))
+        → (p : ℕ) × (session : SessionValue) × (target : ℕ) × (refusal : Refusal) × (before.places p ≡ Live session (Some (Leaving (record { graft = k; target = target }))))
         × IsWhyNotFrozen r target session refusal × (sent ≡ ReportOut (record { graft = k; outcome = Refused refusal }) ∷ []) }
     ensures leave { (setup : Setup) (r k : ℕ) (before after : RouterPart) (taken : Option RouterTaken) (sent : List RouterSent)
         → router_row setup r (Leave k) before taken sent after
         → (p : ℕ) × (session : SessionValue) × (target : ℕ) × (before.places p ≡ Frozen session (record { graft = k; target = target })) × (sent ≡ MeshTo target (Moved k p session) ∷ []) }
+    ensures confirm { (setup : Setup) (r k : ℕ) (before after : RouterPart) (taken : Option RouterTaken) (sent : List RouterSent)
+        → router_row setup r (Confirm k) before taken sent after
+        → (p : ℕ) × (session : SessionValue) × (source : ℕ) × (before.places p ≡ Live session (Some (Owing (record { graft = k; source = source })))) × (sent ≡ MeshTo source (Done k p) ∷ []) }
     ensures comes_back { (setup : Setup) (r q k p : ℕ) (session : SessionValue) (refusal : Refusal) (before after : RouterPart) (sent : List RouterSent)
         → router_row setup r (Return q) before (Some (MeshIn q (Back k p session refusal))) sent after → before.places p ≡ Shadow k }
     ensures clear { (setup : Setup) (r q k p : ℕ) (before after : RouterPart) (sent : List RouterSent)
         → router_row setup r (Clear q) before (Some (MeshIn q (Done k p))) sent after → before.places p ≡ Shadow k }
+{}
+
+/// A source is told of a landing only where nothing is to be decided and nothing is to be told to another router.
+pub fn word_waits_for_what_is_told()
+    ensures decided { (setup : Setup) (r k : ℕ) (x : PrefixValue) (before after : RouterPart) (taken : Option RouterTaken) (sent : List RouterSent)
+        → has before.dirty x ≡ true → ¬ router_row setup r (Confirm k) before taken sent after }
+    ensures told { (setup : Setup) (r k q : ℕ) (x : PrefixValue) (before after : RouterPart) (taken : Option RouterTaken) (sent : List RouterSent)
+        → has (before.due_in q) x ≡ true → ¬ router_row setup r (Confirm k) before taken sent after }
 {}
 
 /// A session lands only at a vacant place of a known peering, where there is room beside every session and shadow and where its policies are; and is
@@ -130,14 +142,14 @@ pub fn beats_are_few_and_later()
         → (0 < beat_of peering) × (round % beat_of peering ≡ 0) × (before.last_beat < round) × (before.beats + 1 ≤ 27594) × (after.beats ≡ before.beats + 1) }
 {}
 
-/// In a quiet world each session that a router holds is live with no graft stored, and it and its remote received and acknowledged all that the other
+/// In a quiet world each session that a router holds is live and nothing is to be done for a graft of it, and it and its remote received and acknowledged all that the other
 /// put or said.
 pub fn quiet_sessions_are_settled()
     ensures live { (setup : Setup) (w : World) (r p : ℕ) → Quiet setup w → sessions_at ((w.router r).places p) ≢ [] → ¬ HasNoLive ((w.router r).places p) }
-    ensures unordered { (setup : Setup) (w : World) (r p : ℕ) (session : SessionValue) (order : Option Order) → Quiet setup w → (w.router r).places p ≡ Live session order → order ≡ None }
-    ensures received { (setup : Setup) (w : World) (r p : ℕ) (session : SessionValue) (order : Option Order) → Quiet setup w → (w.router r).places p ≡ Live session order
+    ensures unordered { (setup : Setup) (w : World) (r p : ℕ) (session : SessionValue) (errand : Option Errand) → Quiet setup w → (w.router r).places p ≡ Live session errand → errand ≡ None }
+    ensures received { (setup : Setup) (w : World) (r p : ℕ) (session : SessionValue) (errand : Option Errand) → Quiet setup w → (w.router r).places p ≡ Live session errand
         → (received session.end ≡ length (w.far p).end.stream) × (received (w.far p).end ≡ length session.end.stream) }
-    ensures acknowledged { (setup : Setup) (w : World) (r p : ℕ) (session : SessionValue) (order : Option Order) → Quiet setup w → (w.router r).places p ≡ Live session order
+    ensures acknowledged { (setup : Setup) (w : World) (r p : ℕ) (session : SessionValue) (errand : Option Errand) → Quiet setup w → (w.router r).places p ≡ Live session errand
         → ((w.far p).end.acked ≡ length (w.far p).end.stream) × (session.end.acked ≡ length session.end.stream) }
 {}
 

@@ -10,7 +10,7 @@ ghost use Rattle.tcp_seq.specs.Endpoint.{PlacedSegment};
 ghost use Rattle.session_value.specs.Sessions.{SessionValue, state};
 ghost use Rattle.session_value.specs.Sets.{has};
 ghost use Rattle.graft_model.specs.Setups.{Setup, RouterSetup, SayStep, routers_in, cost_between};
-ghost use Rattle.graft_model.specs.Parts.{RouterPart, FarPart, Order, Live, Told, Seg, Moved, Back, Done};
+ghost use Rattle.graft_model.specs.Parts.{RouterPart, FarPart, Errand, Live, Told, Seg, Moved, Back, Done};
 ghost use Rattle.graft_model.specs.RouterRows.{RouterTaken, MeshIn, RouterSent, OutwardTo};
 ghost use Rattle.graft_model.specs.FarRows.{FarTaken, FarSent};
 ghost use Rattle.graft_model.specs.Steps.{Put, Emit, Decide, Got, Hear, Tick, Leave, Land, Return, Clear, Say, Send, Pass, router_row, far_row};
@@ -72,8 +72,8 @@ pub fn leaving_keeps_the_entries()
 
 /// A segment without bytes has the place that is emitted next. Whatever is emitted begins at the place that the event names, and has so many bytes.
 pub fn segments_are_what_events_name()
-    ensures empty_out { (setup : Setup) (r p from : ℕ) (session : SessionValue) (order : Option Order) (before after : RouterPart) (taken : Option RouterTaken) (sent : List RouterSent)
-        → router_row setup r (Emit p from 0) before taken sent after → before.places p ≡ Live session order → from ≡ session.end.emitted }
+    ensures empty_out { (setup : Setup) (r p from : ℕ) (session : SessionValue) (errand : Option Errand) (before after : RouterPart) (taken : Option RouterTaken) (sent : List RouterSent)
+        → router_row setup r (Emit p from 0) before taken sent after → before.places p ≡ Live session errand → from ≡ session.end.emitted }
     ensures empty_home { (setup : Setup) (p from : ℕ) (before after : FarPart) (taken : Option FarTaken) (sent : List FarSent)
         → far_row setup p (Send from 0) before taken sent after → from ≡ before.end.emitted }
     ensures out { (setup : Setup) (r p from len : ℕ) (segment : PlacedSegment) (before after : RouterPart) (taken : Option RouterTaken)
@@ -85,8 +85,8 @@ pub fn segments_are_what_events_name()
 
 /// A session that puts an UPDATE has put 1,044,480 bytes at most then, so that a NOTIFICATION still has room.
 pub fn what_is_put_has_room()
-    ensures { (setup : Setup) (r p n : ℕ) (next : SessionValue) (order : Option Order) (before after : RouterPart) (taken : Option RouterTaken) (sent : List RouterSent)
-        → router_row setup r (Put p (suc n)) before taken sent after → after.places p ≡ Live next order → length next.end.stream ≤ 1044480 }
+    ensures { (setup : Setup) (r p n : ℕ) (next : SessionValue) (errand : Option Errand) (before after : RouterPart) (taken : Option RouterTaken) (sent : List RouterSent)
+        → router_row setup r (Put p (suc n)) before taken sent after → after.places p ≡ Live next errand → length next.end.stream ≤ 1044480 }
 {}
 
 /// What a remote is to say stands at the end of its stream, which then has 1 MiB at most; and nothing else of it changes.
@@ -96,11 +96,11 @@ pub fn sayings_join_the_stream()
         → (after.end.stream ≡ before.end.stream ++ bytes) × (length after.end.stream ≤ 2 ^ 20) × (after.end.emitted ≡ before.end.emitted) × (after.homeward ≡ before.homeward) }
 {}
 
-/// What is told on a session depends on its own address and on its export policy here, and not on its import policy. What a router has of another costs what
+/// What is told on a session depends on the AS of its remote, on its own address and on its export policy here, and not on its import policy. What a router has of another costs what
 /// the way from the one to the other costs.
 pub fn policies_and_costs_are_the_routers_own()
     ensures export { (setup : Setup) (r : ℕ) (part : RouterPart) (one other : SessionValue) (prefix : PrefixValue)
-        → one.config.peering ≡ other.config.peering → one.config.local_address ≡ other.config.local_address → one.config.export ≡ other.config.export
+        → one.config.peering ≡ other.config.peering → one.config.remote_as ≡ other.config.remote_as → one.config.local_address ≡ other.config.local_address → one.config.export ≡ other.config.export
         → to_tell setup r part one prefix ≡ to_tell setup r part other prefix }
     ensures cost { (setup : Setup) (r q : ℕ) (router : RouterSetup) → slice_get setup.routers r ≡ Some router → cost_between setup r q ≡ unwrap_or (slice_get router.costs q) 1 }
 {}
@@ -127,11 +127,11 @@ pub fn what_changed_is_dirty()
 
 /// Nothing is due on the peering of a session that has closed, and all best routes are due where one has been established.
 pub fn states_say_what_is_due()
-    ensures closed { (setup : Setup) (r p : ℕ) (next : SessionValue) (order : Option Order) (x : PrefixValue) (before after : RouterPart) (taken : Option RouterTaken) (sent : List RouterSent)
-        → router_row setup r (Got p) before taken sent after → after.places p ≡ Live next order → state next ≡ Closed → has (after.due_out p) x ≡ false }
-    ensures expired { (setup : Setup) (r p round : ℕ) (next : SessionValue) (order : Option Order) (x : PrefixValue) (before after : RouterPart) (taken : Option RouterTaken) (sent : List RouterSent)
-        → router_row setup r (Tick p round) before taken sent after → after.places p ≡ Live next order → state next ≡ Closed → has (after.due_out p) x ≡ false }
-    ensures established { (setup : Setup) (r p : ℕ) (session next : SessionValue) (order other : Option Order) (x : PrefixValue) (before after : RouterPart) (taken : Option RouterTaken) (sent : List RouterSent)
-        → router_row setup r (Got p) before taken sent after → before.places p ≡ Live session order → state session ≡ OpenConfirm
+    ensures closed { (setup : Setup) (r p : ℕ) (next : SessionValue) (errand : Option Errand) (x : PrefixValue) (before after : RouterPart) (taken : Option RouterTaken) (sent : List RouterSent)
+        → router_row setup r (Got p) before taken sent after → after.places p ≡ Live next errand → state next ≡ Closed → has (after.due_out p) x ≡ false }
+    ensures expired { (setup : Setup) (r p round : ℕ) (next : SessionValue) (errand : Option Errand) (x : PrefixValue) (before after : RouterPart) (taken : Option RouterTaken) (sent : List RouterSent)
+        → router_row setup r (Tick p round) before taken sent after → after.places p ≡ Live next errand → state next ≡ Closed → has (after.due_out p) x ≡ false }
+    ensures established { (setup : Setup) (r p : ℕ) (session next : SessionValue) (errand other : Option Errand) (x : PrefixValue) (before after : RouterPart) (taken : Option RouterTaken) (sent : List RouterSent)
+        → router_row setup r (Got p) before taken sent after → before.places p ≡ Live session errand → state session ≡ OpenConfirm
         → after.places p ≡ Live next other → state next ≡ Established → has (after.due_out p) x ≡ is_some (map.get before.best x) }
 {}

@@ -1,21 +1,21 @@
 //! What holds of every event and every step of the world.
 
-ghost use Rattle.std.specs.Prelude.{◌≡◌, ◌≢◌, ℕ, List, [], ◌∷◌, ◌++◌, Option, Some, None};
+ghost use Rattle.std.specs.Prelude.{◌≡◌, ◌≢◌, ◌<◌, ℕ, List, [], ◌∷◌, ◌++◌, Option, Some, None};
 ghost use Rattle.std.specs.List.{flat_map};
 ghost use Rattle.std.specs.FinMap as map;
 ghost use Rattle.graft_steps.specs.declared.refusal.Refusal.{Refusal};
 ghost use Rattle.graft_steps.specs.declared.refusal.Outcome.TheVariants.{Accepted, Refused};
 ghost use Rattle.session_value.specs.Sessions.{SessionValue};
-ghost use Rattle.graft_model.specs.declared.kind.EventKind.{EventKind};
+ghost use Rattle.graft_model.specs.declared.event.ActorEvent.{ActorEvent};
 ghost use Rattle.graft_model.specs.Setups.{Setup};
-ghost use Rattle.graft_model.specs.Parts.{RouterPart, FarPart, OperatorPart, World, Order, Vacant, Live, Frozen, Shadow, Moved, Back, Done, PointAt};
+ghost use Rattle.graft_model.specs.Parts.{RouterPart, FarPart, OperatorPart, World, Order, Word, Vacant, Live, Frozen, Shadow, Owing, Moved, Back, Done, PointAt};
 ghost use Rattle.graft_model.specs.RouterRows.{RouterTaken, MeshIn, RouterSent, MeshTo, OutwardTo, ReportOut};
 ghost use Rattle.graft_model.specs.FarRows.{FarTaken, FarSent};
 ghost use Rattle.graft_model.specs.OperatorRows.{OperatorTaken, OperatorSent};
-ghost use Rattle.graft_model.specs.Steps.{Event, Step, RouterEvent, Stray, Leave, Land, TurnBack, Return, Clear, FarEvent, OperatorEvent, RouterStep, FarStep, OperatorStep, router_row, far_row, operator_row};
+ghost use Rattle.graft_model.specs.Steps.{Event, Step, RouterEvent, Stray, Leave, Land, TurnBack, Return, Clear, Confirm, FarEvent, OperatorEvent, RouterStep, FarStep, OperatorStep, router_row, far_row, operator_row};
 ghost use Rattle.graft_model.specs.Quiet.{Quiet};
 ghost use Rattle.graft_model.specs.Claims.{sessions_at};
-ghost use Rattle.graft_model.specs.Codes.{number_of, router_code, far_code, operator_code};
+ghost use Rattle.graft_model.specs.Codes.{router_code, far_code, operator_code, actor_code};
 ghost use Rattle.graft_model.specs.Laws.{LeavesByRouter, LeavesByFar, LeavesByOperator, MayStillHappen, HasOnce, HasOneOutcome, taken_on, sent_on, KeepsSessions};
 
 /// An event leaves the parts of all other actors as they are, and every channel that its actor has no end of.
@@ -25,11 +25,13 @@ pub fn steps_leave_the_rest()
     ensures operator { (setup : Setup) (event : OperatorEvent) (before after : World) → OperatorStep setup event before after → LeavesByOperator before after }
 {}
 
-/// The kind and the arguments of an event tell it apart from every other event of its actor.
+/// The kind and the arguments of an event tell it apart from every other event, of its actor and of others.
 pub fn codes_are_exact()
     ensures router { (one other : RouterEvent) → router_code one ≡ router_code other → one ≡ other }
     ensures far { (one other : FarEvent) → far_code one ≡ far_code other → one ≡ other }
     ensures operator { (one other : OperatorEvent) → operator_code one ≡ operator_code other → one ≡ other }
+    ensures any { (one other : ActorEvent) → actor_code one ≡ actor_code other → one ≡ other }
+    ensures above { (event : ActorEvent) → 0 < (actor_code event).kind }
 {}
 
 /// In a quiet world no item is taken and nothing is put, said, delivered, decided or moved, and no session is away from its router.
@@ -37,11 +39,6 @@ pub fn nothing_moves_at_quiet()
     ensures still { (setup : Setup) (event : Event) (before after : World) → Quiet setup before → Step setup event before after → MayStillHappen event }
     ensures no_shadow { (setup : Setup) (w : World) (r p k : ℕ) → Quiet setup w → (w.router r).places p ≢ Shadow k }
     ensures no_link { (setup : Setup) (w : World) (p : ℕ) → Quiet setup w → ((w.far p).homeward ≡ []) × ((w.far p).remoteward ≡ []) }
-{}
-
-/// The number of a kind tells it apart from every other kind.
-pub fn kinds_are_exact()
-    ensures { (one other : EventKind) → number_of one ≡ number_of other → one ≡ other }
 {}
 
 /// What an actor sends and its part after an event are determined by the event, its part before and what it takes.
@@ -63,15 +60,18 @@ pub fn grafts_keep_sessions()
 {}
 
 /// Where a session is after an event of its graft. It leaves for the target of the order for which it was frozen, and its shadow stays. It is live where
-/// it lands and where it comes back; at its source nothing of it is left when the graft ends. Word of a landing goes to the far side and to the
-/// source, and word of the outcome to the operator.
+/// it lands and where it comes back; at its source nothing of it is left when the graft ends. Word of a landing goes to the far side, and is owed to the
+/// source, to which it goes later; and word of the outcome goes to the operator.
 pub fn grafts_move_sessions()
     ensures left { (setup : Setup) (r k p : ℕ) (session : SessionValue) (order : Order) (before after : RouterPart) (taken : Option RouterTaken) (sent : List RouterSent)
         → HasOnce k before → before.places p ≡ Frozen session order → order.graft ≡ k → router_row setup r (Leave k) before taken sent after
         → (sent ≡ MeshTo order.target (Moved k p session) ∷ []) × (after.places p ≡ Shadow k) }
     ensures landed { (setup : Setup) (r q k p : ℕ) (session : SessionValue) (before after : RouterPart) (sent : List RouterSent)
         → router_row setup r (Land q) before (Some (MeshIn q (Moved k p session))) sent after
-        → (after.places p ≡ Live session None) × (sent ≡ OutwardTo p (PointAt k) ∷ MeshTo q (Done k p) ∷ []) }
+        → (after.places p ≡ Live session (Some (Owing (record { graft = k; source = q })))) × (sent ≡ OutwardTo p (PointAt k) ∷ []) }
+    ensures confirmed { (setup : Setup) (r k p : ℕ) (session : SessionValue) (word : Word) (before after : RouterPart) (taken : Option RouterTaken) (sent : List RouterSent)
+        → HasOnce k before → before.places p ≡ Live session (Some (Owing word)) → word.graft ≡ k → router_row setup r (Confirm k) before taken sent after
+        → (sent ≡ MeshTo word.source (Done k p) ∷ []) × (after.places p ≡ Live session None) }
     ensures back { (setup : Setup) (r q k p : ℕ) (session : SessionValue) (refusal : Refusal) (before after : RouterPart) (sent : List RouterSent)
         → router_row setup r (Return q) before (Some (MeshIn q (Back k p session refusal))) sent after
         → (after.places p ≡ Live session None) × (sent ≡ ReportOut (record { graft = k; outcome = Refused refusal }) ∷ []) }

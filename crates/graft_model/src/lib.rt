@@ -2,24 +2,27 @@
 //! (RFC 4271, sections 6, 8 and 9.1; RFC 9293, section 3.4).
 #![tactic(auto)]
 
+mod code;
 mod conditions;
 mod effects;
-mod kind;
+mod event;
 mod laws;
 
+pub use code::{Code, event_of};
 pub use conditions::{
     beats_are_few_and_later, dirty_prefixes_wait, grafts_go_on_where_they_stand,
     groups_begin_in_quiet_worlds, items_are_taken_where_they_may_be, landings_have_room,
     later_grafts_alone_turn_links, live_sessions_alone_act, missing_policies_are_named,
     quiet_sessions_are_settled, sessions_act_in_their_states, steps_wait_for_earlier_ones,
+    word_waits_for_what_is_told,
 };
 pub use effects::{
     another_best_route_is_due, leaving_keeps_the_entries, moved_sessions_are_told_again,
     policies_and_costs_are_the_routers_own, sayings_join_the_stream, segments_are_what_events_name,
     states_say_what_is_due, what_changed_is_dirty, what_is_put_has_room,
 };
-pub use kind::{EventKind, args_prefix, kind_of, prefix_args};
+pub use event::{ActorEvent, FarEvent, OperatorEvent, RouterEvent};
 pub use laws::{
-    codes_are_exact, grafts_keep_sessions, grafts_move_sessions, kinds_are_exact,
-    nothing_moves_at_quiet, refused_items_change_nothing, rows_are_exact, steps_leave_the_rest,
+    codes_are_exact, grafts_keep_sessions, grafts_move_sessions, nothing_moves_at_quiet,
+    refused_items_change_nothing, rows_are_exact, steps_leave_the_rest,
 };

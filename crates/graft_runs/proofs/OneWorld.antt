@@ -3,11 +3,14 @@ use Rattle.std.proofs.Common.{◌≡◌, ℕ, ◌<◌, Bool, true, false, nat_lt
 use Rattle.std.specs.Prelude.{◌⊎◌}
 use Rattle.std.proofs.lemmas.Bool.Decides.{nat_tests}
 use Rattle.ring_net.specs.declared.entry.JournalEntry.{JournalEntry}
-use Rattle.graft_model.specs.declared.kind.EventKind.{EventKind}
+use Rattle.graft_model.specs.declared.code.Code.{Code}
 use Rattle.graft_model.specs.Setups.{Setup, routers_in, peerings_in}
 use Rattle.graft_model.specs.Parts.{RouterPart, FarPart, OperatorPart, World}
-use Rattle.graft_model.specs.Codes.{Code, number_of, router_code, far_code, operator_code}
-use Rattle.graft_model.specs.Steps.{RouterEvent, FarEvent, OperatorEvent, Event, ByRouter, ByFar, ByOperator}
+use Rattle.graft_model.specs.Codes.{router_code, far_code, operator_code}
+use Rattle.graft_model.specs.declared.event.RouterEvent.{RouterEvent}
+use Rattle.graft_model.specs.declared.event.FarEvent.{FarEvent}
+use Rattle.graft_model.specs.declared.event.OperatorEvent.{OperatorEvent}
+use Rattle.graft_model.specs.Steps.{Event, ByRouter, ByFar, ByOperator}
 use Rattle.graft_runs.specs.Actors.{RouterIs, FarIs, OperatorIs, Thing, MeshItem, OutwardItem, SegmentItem, OrderItem, ReportItem, StepItem, ActorName, Router, FarSide, Operator, number_in, IsActor, actor_at}
 use Rattle.graft_runs.specs.Makes.{HasCode}
 use Rattle.graft_runs.specs.Seen.{Net, part_of, channel_of, Sees}
@@ -85,10 +88,10 @@ module _ (setup : Setup) (net : Net) (w v : World) (one : Sees setup net w) (oth
 
 -- ---- entries
 
-module _ (kinds : (one other : EventKind) → number_of one ≡ number_of other → one ≡ other) (routers_code : (one other : RouterEvent) → router_code one ≡ router_code other → one ≡ other)
+module _ (routers_code : (one other : RouterEvent) → router_code one ≡ router_code other → one ≡ other)
     (fars_code : (one other : FarEvent) → far_code one ≡ far_code other → one ≡ other) (operators_code : (one other : OperatorEvent) → operator_code one ≡ operator_code other → one ≡ other) where
   same_code : (c d : Code) (entry : JournalEntry) → HasCode c entry → HasCode d entry → c ≡ d
-  same_code c d entry h k = λ i. record { kind = kinds c.kind d.kind (sym h.kind ∙ k.kind) i; a = (sym h.a ∙ k.a) i; b = (sym h.b ∙ k.b) i; c = (sym h.c ∙ k.c) i }
+  same_code c d entry h k = λ i. record { kind = (sym h.kind ∙ k.kind) i; a = (sym h.a ∙ k.a) i; b = (sym h.b ∙ k.b) i; c = (sym h.c ∙ k.c) i }
 
   same_actor : (setup : Setup) (x y : ActorName) → IsActor setup x → IsActor setup y → number_in setup x ≡ number_in setup y → x ≡ y
   same_actor setup x y h k e = same (sym (there setup x h) ∙ ap (actor_at setup) e ∙ there setup y k)

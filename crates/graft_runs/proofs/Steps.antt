@@ -9,7 +9,9 @@ use Rattle.graft_model.specs.Setups.{Setup}
 use Rattle.graft_model.specs.Parts.{RouterPart, FarPart, OperatorPart, World}
 use Rattle.graft_model.specs.Quiet.{Quiet}
 use Rattle.graft_model.specs.Codes.{router_code, far_code, operator_code}
-use Rattle.graft_model.specs.Steps.{OperatorEvent, Order, Note, Go, MayMake, ByRouter, ByFar, ByOperator, RouterTook, FarTook, OperatorTook, router_row, far_row, operator_row, router_sends, far_sends, operator_sends}
+use Rattle.graft_model.specs.declared.event.OperatorEvent.{OperatorEvent}
+use Rattle.graft_model.specs.declared.event.OperatorEvent.TheVariants.{Order, Note, Go}
+use Rattle.graft_model.specs.Steps.{MayMake, ByRouter, ByFar, ByOperator, RouterTook, FarTook, OperatorTook, router_row, far_row, operator_row, router_sends, far_sends, operator_sends}
 use Rattle.graft_runs.specs.Actors.{ActorPart, RouterIs, FarIs, OperatorIs, Thing, ActorName, Router, FarSide, Operator, IsActor, actor_at}
 use Rattle.graft_runs.specs.Makes.{HasCode, MakesRow, makes, makes_as, numbered, taken_by_router, sent_by_router, taken_by_far, sent_by_far, taken_by_operator, sent_by_operator}
 use Rattle.graft_runs.specs.Seen.{Net, part_of, channel_of, Sees}

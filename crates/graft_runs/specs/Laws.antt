@@ -6,15 +6,19 @@ use Rattle.ring_net.specs.Deeds.{Deed, Noted}
 use Rattle.ring_net.specs.Phases.{View}
 use Rattle.journal_merge.specs.Worlds as worlds
 use Rattle.journal_merge.specs.Growth.{RunsTo}
-use Rattle.graft_model.specs.declared.kind.EventKind.TheVariants as kinds
 use Rattle.graft_model.specs.Setups.{Setup, routers_in, peerings_in}
 use Rattle.graft_model.specs.Parts.{RouterPart, FarPart, OperatorPart, World}
 use Rattle.graft_model.specs.RouterRows.{RouterTaken, RouterSent}
 use Rattle.graft_model.specs.FarRows.{FarTaken, FarSent}
 use Rattle.graft_model.specs.OperatorRows.{OperatorTaken, OperatorSent}
 use Rattle.graft_model.specs.Quiet.{Quiet}
-use Rattle.graft_model.specs.Codes.{Code, number_of, router_code, far_code, operator_code}
-use Rattle.graft_model.specs.Steps.{RouterEvent, FarEvent, OperatorEvent, Event, ByRouter, ByFar, ByOperator, router_row, far_row, operator_row, Step, Run}
+use Rattle.graft_model.specs.declared.code.Code.{Code}
+use Rattle.graft_model.specs.Codes.{router_code, far_code, operator_code}
+use Rattle.graft_model.specs.declared.event.OperatorEvent.TheVariants.{Go}
+use Rattle.graft_model.specs.declared.event.RouterEvent.{RouterEvent}
+use Rattle.graft_model.specs.declared.event.FarEvent.{FarEvent}
+use Rattle.graft_model.specs.declared.event.OperatorEvent.{OperatorEvent}
+use Rattle.graft_model.specs.Steps.{Event, ByRouter, ByFar, ByOperator, router_row, far_row, operator_row, Step, Run}
 use Rattle.graft_runs.specs.Actors.{ActorPart, RouterIs, FarIs, OperatorIs, Thing, ActorName, Router, FarSide, Operator, number_in, IsActor, actor_at}
 use Rattle.graft_runs.specs.Makes.{HasCode, makes, PartWithSetup, makes_in_its_setup, numbered, taken_by_router, sent_by_router, taken_by_far, sent_by_far, taken_by_operator, sent_by_operator}
 use Rattle.graft_runs.specs.Seen.{Net, Sees, SeesView}
@@ -42,7 +46,7 @@ AreEntriesOf setup (event ∷ events) (entry ∷ entries) = IsEntryOf setup even
 AreEntriesOf setup events entries = ⊥
 
 abbrev pub IsGo : JournalEntry → Type 0
-IsGo entry = entry.kind ≡ number_of kinds.Go
+IsGo entry = entry.kind ≡ (operator_code Go).kind
 
 -- ---- one event
 

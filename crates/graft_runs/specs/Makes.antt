@@ -8,7 +8,8 @@ use Rattle.graft_model.specs.RouterRows.{RouterTaken, OrderIn, SegmentIn, MeshIn
 use Rattle.graft_model.specs.FarRows.{FarTaken, OutwardIn, SayIn, FarSent}
 use Rattle.graft_model.specs.OperatorRows.{OperatorTaken, ReportIn, OperatorSent, OrderTo, SayTo}
 use Rattle.graft_model.specs.Steps.{router_row, far_row, operator_row}
-use Rattle.graft_model.specs.Codes.{Code, number_of, router_code, far_code, operator_code}
+use Rattle.graft_model.specs.declared.code.Code.{Code}
+use Rattle.graft_model.specs.Codes.{router_code, far_code, operator_code}
 use Rattle.graft_runs.specs.Actors.{ActorPart, RouterIs, FarIs, OperatorIs, Thing, MeshItem, OutwardItem, SegmentItem, OrderItem, ReportItem, StepItem, ActorName, Router, FarSide, Operator, number_in, IsActor, actor_at}
 
 -- ---- whose item is taken, and to whom one is sent
@@ -43,9 +44,9 @@ numbered setup x = (number_in setup x.0, x.1)
 
 -- ---- events
 
--- the entry has the kind's number and the arguments; its clock and its actor are the journal's
+-- the entry has the kind and the arguments; its clock and its actor are the journal's
 pub record HasCode (code : Code) (entry : JournalEntry) : Type 0 where
-  pub kind : entry.kind ≡ number_of code.kind
+  pub kind : entry.kind ≡ code.kind
   pub a : entry.a ≡ code.a
   pub b : entry.b ≡ code.b
   pub c : entry.c ≡ code.c

@@ -3,13 +3,14 @@
 ghost use Rattle.std.specs.Prelude.{ℕ, ◌<◌};
 ghost use Rattle.graft_model.specs.First.{first_world};
 ghost use Rattle.graft_model.specs.Setups.{Setup, routers_in};
-ghost use Rattle.graft_model.specs.Steps.{Emit, ByRouter};
+ghost use Rattle.graft_model.specs.declared.event.RouterEvent.TheVariants.{Emit};
+ghost use Rattle.graft_model.specs.Steps.{ByRouter};
 ghost use Rattle.graft_runs.specs.Actors.{ActorPart};
 ghost use Rattle.graft_runs.specs.Laws.{AnEventIsAStep, ANetRunIsARun, AJournalIsARun, AGroupIsARun, RouterRowsAreMade, FarRowsAreMade, OperatorRowsAreMade, OneWorldIsSeen, OneEventHasTheEntry, OneListHasTheEntries, IsEntryOf, SetupsAreKept, JournalsOfParts, ActorsHaveNumbers, NumbersAreOfActors};
 ghost use Rattle.graft_runs.specs.Makes.{PartWithSetup};
 ghost use Rattle.graft_runs.specs.Seen.{Net, Sees, IsFirst};
 
-use graft_model::{codes_are_exact, kinds_are_exact};
+use graft_model::codes_are_exact;
 
 /// An event that an actor of a net makes by its row, taking the head of a channel and sending to the ends of others, is a step of the world
 /// that the net is seen as, and the net is seen as the world after it. A Go needs a quiet world.
@@ -64,5 +65,4 @@ pub fn an_entry_is_of_one_event()
     ensures worked { (setup : Setup) (clock r : ℕ) → r < routers_in setup → IsEntryOf setup (ByRouter r (Emit 5 10 20)) (record { clock = clock; actor = r; kind = 2; a = 5; b = 10; c = 20 }) }
 {
     codes_are_exact();
-    kinds_are_exact();
 }

@@ -31,7 +31,7 @@ pub enum Item<C> {
         capsule: C,
         refusal: Refusal,
     },
-    /// From the target to the source: it holds the session now.
+    /// From the target to the source: it holds the session now, and has told the source the routes that it has with it.
     Done {
         graft: u32,
         peering: PeeringId,

@@ -1,6 +1,6 @@
 //! The steps of a graft: the move of a live BGP session from the home router that holds it, the
 //! source, to another one, the target. The operator orders it, the source refuses it or freezes the
-//! session and sends it away, the target takes it or sends it back, and the source reports how it
+//! session and sends it away, the target sends it back, or takes it and says so once its routes are told, and the source reports how it
 //! ended. Here are these steps with their refusals, the items that routers, far sides and the
 //! operator send one another, the operator's log, and what an actor still has to do.
 //!
@@ -19,6 +19,6 @@ pub use admission::admit;
 pub use item::Item;
 pub use laws::{source_refusals, target_refusals};
 pub use log::{GraftEntry, GraftLog, GraftStage};
-pub use order::{Away, Frozen, GraftIds, Ordered};
+pub use order::{Away, Frozen, GraftIds, Landed, Ordered};
 pub use refusal::{Outcome, Refusal};
 pub use rest::{FarRest, OperatorRest, Pending, RouterRest, pending_order};

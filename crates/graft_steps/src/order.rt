@@ -1,4 +1,4 @@
-//! A graft at its source, step by step: ordered, frozen, away. Each step is a type of its own, which
+//! A graft at its source, step by step: ordered, frozen, away; and at its target: landed. Each step is a type of its own, which
 //! only the step before it makes and the next one uses up, so no step is skipped and none is made twice.
 
 ghost use Rattle.std.specs.Prelude.{◌≡◌, IfOk};
@@ -39,6 +39,12 @@ pub struct Away {
     ids: GraftIds,
 }
 
+/// A graft whose session has landed at its target, where the source isn't told of that yet.
+#[derive(Debug, Drop)]
+pub struct Landed {
+    ids: GraftIds,
+}
+
 impl Model for Ordered {
     ghost use Rattle.graft_steps.specs.declared.order.GraftIds.{GraftIds};
 
@@ -56,6 +62,14 @@ impl Model for Frozen {
 }
 
 impl Model for Away {
+    ghost use Rattle.graft_steps.specs.declared.order.GraftIds.{GraftIds};
+
+    ghost Value = { GraftIds };
+
+    ghost view = { λ step. step.ids };
+}
+
+impl Model for Landed {
     ghost use Rattle.graft_steps.specs.declared.order.GraftIds.{GraftIds};
 
     ghost Value = { GraftIds };
@@ -140,5 +154,33 @@ impl Away {
         ensures { result ≡ Outcome.Refused refusal }
     {
         Outcome::Refused(refusal)
+    }
+}
+
+impl Landed {
+    pub fn new(graft: u32, peering: PeeringId, source: RouterId, target: RouterId) -> Landed
+        ensures { result ≡ record { graft = graft; peering = peering; source = source; target = target } }
+    {
+        Landed {
+            ids: GraftIds {
+                graft,
+                peering,
+                source,
+                target,
+            },
+        }
+    }
+
+    pub fn ids(&self) -> GraftIds
+        ensures { result ≡ self.now }
+    {
+        self.ids
+    }
+
+    /// The source is told, by which the graft has ended here.
+    pub fn confirmed(self) -> GraftIds
+        ensures { result ≡ self }
+    {
+        self.ids
     }
 }

@@ -42,7 +42,7 @@ pub struct RouterRest {
     /// A peering on whose session a prefix is to be told.
     pub due_out: Option<PeeringId>,
     /// A graft that is ordered here, or whose session is frozen here, or was sent away from here and
-    /// hasn't ended.
+    /// hasn't ended, or has landed here and whose source isn't told yet.
     pub graft: Option<u32>,
     /// A peering whose session is held here and has put bytes that aren't acknowledged, or isn't
     /// closed and has unread bytes that begin with a whole message or a faulty header.

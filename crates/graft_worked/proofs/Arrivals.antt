@@ -96,7 +96,7 @@ ack_arrives = inr (record {
 pub all_arrives : Arrives 0 a_first (Some (SegmentIn 0 said_segment)) [] (a_with session_arrived)
 all_arrives = record {
   session = session_first;
-  order = None;
+  errand = None;
   live = record { is = refl };
   segment = said_segment;
   takes = refl;
@@ -112,7 +112,7 @@ all_reaches = record { segment = put_segment; there = refl; end = far_reached.en
 pub acknowledged : Arrives 0 (a_got session_emitted) (Some (SegmentIn 0 ack_segment)) [] (a_got session)
 acknowledged = record {
   session = session_emitted;
-  order = None;
+  errand = None;
   live = record { is = refl };
   segment = ack_segment;
   takes = refl;

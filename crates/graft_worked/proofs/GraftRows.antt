@@ -25,16 +25,16 @@ use Rattle.session_value.specs.Sessions.{SessionValue, state, hold_time}
 use Rattle.session_value.specs.Sets.{has}
 use Rattle.graft_model.specs.Points.{at}
 use Rattle.graft_model.specs.Setups.{Setup, ScriptStep, SayStep, MoveStep, SettleStep, graft_number, routers_in}
-use Rattle.graft_model.specs.Parts.{Place, Vacant, Live, Frozen, Shadow, Entry, RouterPart, Told, Moved, Done, PointAt}
+use Rattle.graft_model.specs.Parts.{Place, Vacant, Live, Frozen, Shadow, Entry, RouterPart, Told, Moved, Done, PointAt, Leaving, Owing}
 use Rattle.graft_model.specs.Decisions.{entry_candidate, telling_candidate, session_route, chosen, to_tell, out_side, remote_identifier}
 use Rattle.graft_model.specs.RouterRows.{OrderIn, MeshIn, MeshTo, OutwardTo, ReportOut, BringsIn, PutsNothing}
 use Rattle.graft_model.specs.TableRows.{Decides, Tells, Hears, DueEverywhere, holds_established}
-use Rattle.graft_model.specs.GraftRows.{Admits, Freezes, Leaves, Lands, Clears}
+use Rattle.graft_model.specs.GraftRows.{Admits, Freezes, Leaves, Lands, Confirms, Clears}
 use Rattle.graft_model.specs.FarRows.{OutwardIn, TurnsLink}
 use Rattle.graft_model.specs.OperatorRows.{ReportIn, OrderTo, OrdersGraft, Notes, BeginsGroup}
 use Rattle.graft_worked.specs.Base.{base, config}
 use Rattle.graft_worked.specs.Places.{holding}
-use Rattle.graft_worked.specs.Graft.{at_ten, ten_alone, heard_attrs, route, entry, over_peering, over_router, session, b_before, far_before, operator_before, to_b, a_left, a_cleared, a_told, a_decided, a_after, b_landed, b_decided, b_put, b_told, b_heard, b_after, far_after, operator_begun, operator_ordered, operator_after}
+use Rattle.graft_worked.specs.Graft.{at_ten, ten_alone, heard_attrs, route, entry, over_peering, over_router, session, b_before, far_before, operator_before, to_b, a_left, a_cleared, a_decided, a_after, b_landed, b_decided, b_put, b_told, b_heard, b_after, far_after, operator_begun, operator_ordered, operator_after, a_heard, a_kept, to_a, b_confirmed}
 use Rattle.graft_worked.proofs.Points.{at-at, at-back, other_of_0, other_of_1}
 use Rattle.graft_worked.proofs.Setup.{below_two}
 use Rattle.graft_worked.proofs.Tens.{empty, is_ten, got_none, got_ten, got_it, again, gone, some_at_ten, some_in_none, adds_ten, keeps_ten, keeps_none, drops_ten, marks_new, marks_old}
@@ -89,7 +89,7 @@ abbrev vacant : ℕ → Place
 vacant = λ p. Vacant
 
 pub admits : (setup : Setup) → 1 < routers_in setup → (part : RouterPart) (s : SessionValue)
-    → Admits setup 1 (holding part (Live s None)) (Some (OrderIn (record { graft = 1; peering = 0; target = 1 }))) [] (holding part (Live s (Some to_b)))
+    → Admits setup 1 (holding part (Live s None)) (Some (OrderIn (record { graft = 1; peering = 0; target = 1 }))) [] (holding part (Live s (Some (Leaving to_b))))
 admits setup known part s = record {
   peering = 0;
   target = 1;
@@ -98,10 +98,10 @@ admits setup known part s = record {
   known = known;
   session = s;
   live = record { is = refl };
-  effect = λ i. record part { places = sym (at-at vacant 0 (Live s None) (Live s (Some to_b))) i };
+  effect = λ i. record part { places = sym (at-at vacant 0 (Live s None) (Live s (Some (Leaving to_b)))) i };
 }
 
-pub freezes : (part : RouterPart) (s : SessionValue) → freeze_refusal (record { 0 = 0 }) (record { 0 = 1 }) (state s) (hold_time s) ≡ None → Freezes 0 1 (holding part (Live s (Some to_b))) None [] (holding part (Frozen s to_b))
+pub freezes : (part : RouterPart) (s : SessionValue) → freeze_refusal (record { 0 = 0 }) (record { 0 = 1 }) (state s) (hold_time s) ≡ None → Freezes 0 1 (holding part (Live s (Some (Leaving to_b)))) None [] (holding part (Frozen s to_b))
 freezes part s no_cause = record {
   alone = (refl, refl);
   peering = 0;
@@ -109,7 +109,7 @@ freezes part s no_cause = record {
   session = s;
   live = record { is = refl };
   no_cause = no_cause;
-  effect = λ i. record part { places = sym (at-at vacant 0 (Live s (Some to_b)) (Frozen s to_b)) i };
+  effect = λ i. record part { places = sym (at-at vacant 0 (Live s (Some (Leaving to_b))) (Frozen s to_b)) i };
 }
 
 pub leaves : (part : RouterPart) (s : SessionValue) → at part.due_out 0 map.empty ≡ part.due_out → Leaves 1 (holding part (Frozen s to_b)) None (MeshTo 1 (Moved 1 0 s) ∷ []) (holding part (Shadow 1))
@@ -141,7 +141,7 @@ brings x = got_ten entry x ∙ sym (ap (brought 1 x) (got_ten heard_attrs x) ∙
 due_again : (x : PrefixValue) → has ten_alone x ≡ (is_some (map.get session.told x) || is_some (map.get b_before.best x))
 due_again x = some_at_ten tt x ∙ (sym (some_at_ten (over_router 0) x) ∙ ap (λ told. told || is_some (map.get b_before.best x)) (sym (some_in_none _ x)))
 
-pub lands : Lands base 1 0 b_before (Some (MeshIn 0 (Moved 1 0 session))) (OutwardTo 0 (PointAt 1) ∷ MeshTo 0 (Done 1 0) ∷ []) b_landed
+pub lands : Lands base 1 0 b_before (Some (MeshIn 0 (Moved 1 0 session))) (OutwardTo 0 (PointAt 1) ∷ []) b_landed
 lands = record {
   comes = record { graft = 1; peering = 0; session = session; takes = refl; known = lit< tt; vacant = refl };
   admitted = refl;
@@ -152,10 +152,23 @@ lands = record {
   effect = refl;
 }
 
+pub confirms : Confirms 1 b_told None (MeshTo 0 (Done 1 0) ∷ []) b_confirmed
+confirms = record {
+  peering = 0;
+  source = 0;
+  session = session;
+  live = record { is = refl };
+  clean = some_in_none _;
+  told = λ q. some_in_none _;
+  takes = refl;
+  sends = refl;
+  effect = λ i. record b_confirmed { places = sym (at-at vacant 0 (Live session (Some (Owing to_a))) (Live session None)) i };
+}
+
 pub points : TurnsLink 1 far_before (Some (OutwardIn 1 (PointAt 1))) [] far_after
 points = record { graft = 1; takes = refl; sends = refl; effect = refl }
 
-pub clears : Clears 1 a_left (Some (MeshIn 1 (Done 1 0))) (ReportOut (record { graft = 1; outcome = Accepted }) ∷ []) a_cleared
+pub clears : Clears 1 a_kept (Some (MeshIn 1 (Done 1 0))) (ReportOut (record { graft = 1; outcome = Accepted }) ∷ []) a_cleared
 clears = record {
   graft = 1;
   peering = 0;
@@ -193,6 +206,10 @@ entry_alone : chosen_from 1 (Some entry) None None ≡ Some over_peering
 unfolding chosen_from choice left_of keep
 entry_alone = refl
 
+entry_over_route : chosen_from 0 (Some entry) None (Some route) ≡ Some over_peering
+unfolding chosen_from choice left_of keep
+entry_over_route = refl
+
 route_alone : chosen_from 0 None None (Some route) ≡ Some (over_router 1)
 unfolding chosen_from choice left_of keep
 route_alone = refl
@@ -200,8 +217,11 @@ route_alone = refl
 pub b_landed_chooses : chosen base 1 b_landed ten ≡ Some over_peering
 b_landed_chooses = at_b b_landed ∙ (by_parts 1 (got_it entry) (got_it route) (got_none ten) ∙ entry_or_route)
 
-pub a_told_chooses : chosen base 0 a_told ten ≡ Some (over_router 1)
-a_told_chooses = at_a a_told ∙ (by_parts 0 (got_none ten) (got_none ten) (got_it route) ∙ route_alone)
+pub a_heard_chooses : chosen base 0 a_heard ten ≡ Some over_peering
+a_heard_chooses = at_a a_heard ∙ (by_parts 0 (got_it entry) (got_none ten) (got_it route) ∙ entry_over_route)
+
+pub a_cleared_chooses : chosen base 0 a_cleared ten ≡ Some (over_router 1)
+a_cleared_chooses = at_a a_cleared ∙ (by_parts 0 (got_none ten) (got_none ten) (got_it route) ∙ route_alone)
 
 pub b_heard_chooses : chosen base 1 b_heard ten ≡ Some over_peering
 b_heard_chooses = at_b b_heard ∙ (by_parts 1 (got_it entry) (got_none ten) (got_none ten) ∙ entry_alone)
@@ -218,7 +238,7 @@ from_peering (Some best) = is_peering best.from
 differs : {a b : Option Best} → from_peering a ≡ true → from_peering b ≡ false → a ≢ b
 differs p q e = let apart : ◌≡◌ {A = Bool} true false = sym p ∙ (ap from_peering e ∙ q) in cc
 
-held_at_b : (t : Bool) (x : PrefixValue) → has (cond t ten_alone empty) x ≡ (has (cond t ten_alone empty) x || (same_prefix ten x && holds_established (cond t (Live session None) Vacant)))
+held_at_b : (t : Bool) (x : PrefixValue) → has (cond t ten_alone empty) x ≡ (has (cond t ten_alone empty) x || (same_prefix ten x && holds_established (cond t (Live session (Some (Owing to_a))) Vacant)))
 unfolding header_fault
 held_at_b true x = keeps_ten x
 held_at_b false x = keeps_none x
@@ -237,18 +257,27 @@ b_decides = record {
   effect = λ i. record b_decided { best = sym (ap (with_best b_landed.best ten) b_landed_chooses ∙ again (over_router 0) over_peering) i; dirty = sym (gone tt) i };
 }
 
-due_at_a : DueEverywhere base 0 ten a_told a_decided
+-- the entry of the shadow is best still
+pub a_keeps : Decides base 0 ten a_heard None [] a_kept
+a_keeps = record {
+  alone = (refl, refl);
+  dirty = ap is_some (got_it tt);
+  due = inl (a_heard_chooses ∙ sym (got_it over_peering), refl, refl);
+  effect = λ i. record a_kept { best = sym (ap (with_best a_heard.best ten) a_heard_chooses ∙ again over_peering over_peering) i; dirty = sym (gone tt) i };
+}
+
+due_at_a : DueEverywhere base 0 ten a_cleared a_decided
 due_at_a = record {
   routers = λ q. record { members = λ x. adds_ten (q == 1) x ∙ ap (λ t. has empty x || (same_prefix ten x && t)) (sym (other_of_0 q)) };
   peerings = λ p. record { members = keeps_none };
 }
 
-pub a_decides : Decides base 0 ten a_told None [] a_decided
+pub a_decides : Decides base 0 ten a_cleared None [] a_decided
 a_decides = record {
   alone = (refl, refl);
   dirty = ap is_some (got_it tt);
-  due = inr ((λ e. differs (ap from_peering (got_it over_peering)) (ap from_peering a_told_chooses) (sym e)), due_at_a);
-  effect = λ i. record a_decided { best = sym (ap (with_best a_told.best ten) a_told_chooses ∙ again over_peering (over_router 1)) i; dirty = sym (gone tt) i };
+  due = inr ((λ e. differs (ap from_peering (got_it over_peering)) (ap from_peering a_cleared_chooses) (sym e)), due_at_a);
+  effect = λ i. record a_decided { best = sym (ap (with_best a_cleared.best ten) a_cleared_chooses ∙ again over_peering (over_router 1)) i; dirty = sym (gone tt) i };
 }
 
 pub b_decides_again : Decides base 1 ten b_heard None [] b_after
@@ -259,13 +288,13 @@ b_decides_again = record {
   effect = λ i. record b_after { best = sym (ap (with_best b_heard.best ten) b_heard_chooses ∙ again over_peering over_peering) i; dirty = sym (gone tt) i };
 }
 
-pub b_tells : Tells 0 ten b_put None (MeshTo 0 (Told ten (Some route)) ∷ []) b_told
+pub b_tells : Tells 0 ten b_decided None (MeshTo 0 (Told ten (Some route)) ∷ []) b_told
 b_tells = record {
   due = ap is_some (got_it tt);
   clean = some_in_none _ ten;
   takes = refl;
   sends = λ i. MeshTo 0 (Told ten (sym (ap tell_in (got_it over_peering)) i)) ∷ [];
-  effect = λ i. record b_told { due_in = sym (ap (at b_put.due_in 0) (gone tt) ∙ at-back empty ten_alone 0) i };
+  effect = λ i. record b_told { due_in = sym (ap (at b_decided.due_in 0) (gone tt) ∙ at-back empty ten_alone 0) i };
 }
 
 pub a_tells : Tells 1 ten a_decided None (MeshTo 1 (Told ten None) ∷ []) a_after
@@ -277,24 +306,24 @@ a_tells = record {
   effect = λ i. record a_after { due_in = sym (ap (at a_decided.due_in 1) (gone tt) ∙ at-back empty ten_alone 1) i };
 }
 
-pub a_hears : Hears 1 a_cleared (Some (MeshIn 1 (Told ten (Some route)))) [] a_told
+pub a_hears : Hears 1 a_left (Some (MeshIn 1 (Told ten (Some route)))) [] a_heard
 a_hears = record {
   prefix = ten;
   route = Some route;
   takes = refl;
   sends = refl;
-  dirty = inr ((λ e. let apart : ◌≡◌ {A = Bool} true false = ap is_some (e ∙ got_none ten) in cc), sym (again tt tt));
+  dirty = inr ((λ e. let apart : ◌≡◌ {A = Bool} true false = ap is_some (e ∙ got_none ten) in cc), refl);
   effect = refl;
 }
 
-pub b_hears : Hears 0 b_told (Some (MeshIn 0 (Told ten None))) [] b_heard
+pub b_hears : Hears 0 b_put (Some (MeshIn 0 (Told ten None))) [] b_heard
 b_hears = record {
   prefix = ten;
   route = None;
   takes = refl;
   sends = refl;
   dirty = inr ((λ e. let apart : ◌≡◌ {A = Bool} false true = ap is_some (e ∙ got_it route) in cc), refl);
-  effect = λ i. record b_heard { tellings = sym (ap (at b_told.tellings 0) (gone route) ∙ at-back empty (at_ten route) 0) i };
+  effect = λ i. record b_heard { tellings = sym (ap (at b_put.tellings 0) (gone route) ∙ at-back empty (at_ten route) 0) i };
 }
 
 -- ---- what b tells on the session: nothing, since the best route came from it
@@ -303,14 +332,14 @@ tell_cond : (x : PrefixValue) (t : Bool) → tell_out 65000 (out_side base 1 con
 tell_cond x true = refl
 tell_cond x false = refl
 
-pub tells_none : (x : PrefixValue) → to_tell base 1 b_decided session x ≡ None
+pub tells_none : (x : PrefixValue) → to_tell base 1 b_confirmed session x ≡ None
 tells_none x = ap (tell_out 65000 (out_side base 1 config) x) (got_ten over_peering x) ∙ tell_cond x (is_ten x)
 
-pub b_puts_nothing : PutsNothing base 1 0 b_decided None [] b_put
+pub b_puts_nothing : PutsNothing base 1 0 b_confirmed None [] b_put
 b_puts_nothing = record {
   alone = (refl, refl);
   session = session;
-  order = None;
+  errand = None;
   live = record { is = refl };
   established = state_is;
   prefix = ten;

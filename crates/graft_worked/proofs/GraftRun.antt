@@ -5,13 +5,23 @@ use Rattle.bgp_story.specs.WorkedSessions.{ten}
 use Rattle.graft_steps.specs.declared.refusal.Outcome.TheVariants.{Accepted}
 use Rattle.graft_model.specs.Parts.{Told, Moved, Done, PointAt}
 use Rattle.graft_model.specs.Quiet.{Quiet}
-use Rattle.graft_model.specs.Steps.{Go, Order, Admit, Freeze, Leave, Land, Point, Clear, Note, Decide, Put, Tell, Hear, Run}
+use Rattle.graft_model.specs.declared.event.RouterEvent.TheVariants.{Admit, Freeze, Leave, Land, Confirm, Clear, Decide, Put, Tell, Hear}
+use Rattle.graft_model.specs.declared.event.FarEvent.TheVariants.{Point}
+use Rattle.graft_model.specs.declared.event.OperatorEvent.TheVariants.{Go, Order, Note}
+use Rattle.graft_model.specs.Steps.{Run}
 use Rattle.graft_worked.specs.Base.{base}
-use Rattle.graft_worked.specs.Places.{nothing}
-use Rattle.graft_worked.specs.Graft.{route, session, a_before, b_before, far_before, operator_before, a_ordered, a_frozen, a_left, a_cleared, a_told, a_decided, a_after, b_landed, b_decided, b_put, b_told, b_heard, b_after, far_after, operator_begun, operator_ordered, operator_after, before_graft, after_graft, graft_events}
+use Rattle.graft_worked.specs.Places.{OnTheWay, nothing}
+use Rattle.graft_worked.specs.Graft.{route, session, a_before, b_before, far_before, operator_before, a_ordered, a_frozen, a_left, a_heard, a_kept, a_cleared, a_decided, a_after, b_landed, b_decided, b_told, b_confirmed, b_put, b_heard, b_after, far_after, operator_begun, operator_ordered, operator_after, before_graft, after_graft, graft_events}
 use Rattle.graft_worked.proofs.Points.{at-same}
 use Rattle.graft_worked.proofs.Moves.{base_small, a_alone, a_to_b, a_ordered_by, a_from_b, a_ends, b_alone, b_to_a, b_from_a, b_takes_in, far_from_b, operator_alone, operator_orders, operator_notes}
-use Rattle.graft_worked.proofs.GraftRows.{goes, orders, notes, admits, freezes, may_freeze, leaves, lands, points, clears, b_decides, a_decides, b_decides_again, b_tells, a_tells, a_hears, b_hears, b_puts_nothing}
+use Rattle.graft_worked.proofs.GraftRows.{goes, orders, notes, admits, freezes, may_freeze, leaves, lands, confirms, points, clears, b_decides, a_keeps, a_decides, b_decides_again, b_tells, a_tells, a_hears, b_hears, b_puts_nothing}
+
+-- what is on its way once b has told a, and once it has given word
+abbrev told : OnTheWay
+told = record nothing { to_a = Told ten (Some route) ∷ [] }
+
+abbrev confirmed : OnTheWay
+confirmed = record nothing { to_a = Told ten (Some route) ∷ Done 1 0 ∷ [] }
 
 pub graft_runs : Quiet base before_graft → Run base before_graft graft_events after_graft
 graft_runs quiet = (
@@ -31,41 +41,49 @@ graft_runs quiet = (
           a_to_b base base_small a_frozen b_before far_before operator_ordered nothing (Leave 1) a_left (Moved 1 0 session) (leaves a_before session (at-same map.empty 0)),
           (
             _,
-            b_takes_in base base_small a_left b_before far_before operator_ordered nothing (Land 0) b_landed (Moved 1 0 session) (Done 1 0) [] (PointAt 1) lands,
+            b_takes_in base base_small a_left b_before far_before operator_ordered nothing (Land 0) b_landed (Moved 1 0 session) [] (PointAt 1) lands,
             (
               _,
-              far_from_b base base_small a_left b_landed far_before operator_ordered (record nothing { to_a = Done 1 0 ∷ [] }) (Point 1) far_after (PointAt 1) [] points,
+              far_from_b base base_small a_left b_landed far_before operator_ordered nothing (Point 1) far_after (PointAt 1) [] points,
               (
                 _,
-                a_ends base base_small a_left b_landed far_after operator_ordered nothing (Clear 1) a_cleared (Done 1 0) [] (record { graft = 1; outcome = Accepted }) clears,
+                b_alone base base_small a_left b_landed far_after operator_ordered nothing (Decide ten) b_decided b_decides,
                 (
                   _,
-                  operator_notes base base_small a_cleared b_landed far_after operator_ordered nothing (Note 0) operator_after (record { graft = 1; outcome = Accepted }) [] tt notes,
+                  b_to_a base base_small a_left b_decided far_after operator_ordered nothing (Tell 0 ten) b_told (Told ten (Some route)) b_tells,
                   (
                     _,
-                    b_alone base base_small a_cleared b_landed far_after operator_after nothing (Decide ten) b_decided b_decides,
+                    b_to_a base base_small a_left b_told far_after operator_ordered told (Confirm 1) b_confirmed (Done 1 0) confirms,
                     (
                       _,
-                      b_alone base base_small a_cleared b_decided far_after operator_after nothing (Put 0 0) b_put b_puts_nothing,
+                      b_alone base base_small a_left b_confirmed far_after operator_ordered confirmed (Put 0 0) b_put b_puts_nothing,
                       (
                         _,
-                        b_to_a base base_small a_cleared b_put far_after operator_after nothing (Tell 0 ten) b_told (Told ten (Some route)) b_tells,
+                        a_from_b base base_small a_left b_put far_after operator_ordered nothing (Hear 1) a_heard (Told ten (Some route)) (Done 1 0 ∷ []) a_hears,
                         (
                           _,
-                          a_from_b base base_small a_cleared b_told far_after operator_after nothing (Hear 1) a_told (Told ten (Some route)) [] a_hears,
+                          a_alone base base_small a_heard b_put far_after operator_ordered (record nothing { to_a = Done 1 0 ∷ [] }) (Decide ten) a_kept a_keeps,
                           (
                             _,
-                            a_alone base base_small a_told b_told far_after operator_after nothing (Decide ten) a_decided a_decides,
+                            a_ends base base_small a_kept b_put far_after operator_ordered nothing (Clear 1) a_cleared (Done 1 0) [] (record { graft = 1; outcome = Accepted }) clears,
                             (
                               _,
-                              a_to_b base base_small a_decided b_told far_after operator_after nothing (Tell 1 ten) a_after (Told ten None) a_tells,
+                              operator_notes base base_small a_cleared b_put far_after operator_ordered nothing (Note 0) operator_after (record { graft = 1; outcome = Accepted }) [] tt notes,
                               (
                                 _,
-                                b_from_a base base_small a_after b_told far_after operator_after nothing (Hear 0) b_heard (Told ten None) [] b_hears,
+                                a_alone base base_small a_cleared b_put far_after operator_after nothing (Decide ten) a_decided a_decides,
                                 (
                                   _,
-                                  b_alone base base_small a_after b_heard far_after operator_after nothing (Decide ten) b_after b_decides_again,
-                                  refl,
+                                  a_to_b base base_small a_decided b_put far_after operator_after nothing (Tell 1 ten) a_after (Told ten None) a_tells,
+                                  (
+                                    _,
+                                    b_from_a base base_small a_after b_put far_after operator_after nothing (Hear 0) b_heard (Told ten None) [] b_hears,
+                                    (
+                                      _,
+                                      b_alone base base_small a_after b_heard far_after operator_after nothing (Decide ten) b_after b_decides_again,
+                                      refl,
+                                    ),
+                                  ),
                                 ),
                               ),
                             ),

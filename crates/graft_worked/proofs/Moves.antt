@@ -6,7 +6,10 @@ use Rattle.graft_model.specs.RouterRows.{OrderIn, SegmentIn, MeshIn, MeshTo, Out
 use Rattle.graft_model.specs.FarRows.{OutwardIn, SayIn}
 use Rattle.graft_model.specs.OperatorRows.{ReportIn, OrderTo, SayTo}
 use Rattle.graft_model.specs.Setups.{Setup, routers_in, peerings_in}
-use Rattle.graft_model.specs.Steps.{RouterEvent, FarEvent, OperatorEvent, ByRouter, ByFar, ByOperator, router_row, far_row, operator_row, MayMake, Step}
+use Rattle.graft_model.specs.declared.event.RouterEvent.{RouterEvent}
+use Rattle.graft_model.specs.declared.event.FarEvent.{FarEvent}
+use Rattle.graft_model.specs.declared.event.OperatorEvent.{OperatorEvent}
+use Rattle.graft_model.specs.Steps.{ByRouter, ByFar, ByOperator, router_row, far_row, operator_row, MayMake, Step}
 use Rattle.graft_worked.specs.Base.{base}
 use Rattle.graft_worked.specs.Places.{idle_router, idle_far, OnTheWay, world_of}
 use Rattle.graft_worked.proofs.Points.{at-at, two-0, two-1, two2-0, two2-1, one2}
@@ -127,12 +130,12 @@ module _ (setup : Setup) (small : IsSmall setup) (a b : RouterPart) (far : FarPa
     is = λ i. record (world_of a b far o (record way { to_b = rest })) { router = sym (two-1 idle_router a b b') i };
   }
 
-  pub b_takes_in : (event : RouterEvent) (b' : RouterPart) (item back : Mesh) (rest : List Mesh) (out : Outward) → router_row setup 1 event b (Some (MeshIn 0 item)) (OutwardTo 0 out ∷ MeshTo 0 back ∷ []) b'
-      → Step setup (ByRouter 1 event) (world_of a b far o (record way { to_b = item ∷ rest })) (world_of a b' far o (record way { to_b = rest; out_b = way.out_b ++ out ∷ []; to_a = way.to_a ++ back ∷ [] }))
-  b_takes_in event b' item back rest out row = record {
+  pub b_takes_in : (event : RouterEvent) (b' : RouterPart) (item : Mesh) (rest : List Mesh) (out : Outward) → router_row setup 1 event b (Some (MeshIn 0 item)) (OutwardTo 0 out ∷ []) b'
+      → Step setup (ByRouter 1 event) (world_of a b far o (record way { to_b = item ∷ rest })) (world_of a b' far o (record way { to_b = rest; out_b = way.out_b ++ out ∷ [] }))
+  b_takes_in event b' item rest out row = record {
     known = small.b;
     taken = Some (MeshIn 0 item);
-    sent = OutwardTo 0 out ∷ MeshTo 0 back ∷ [];
+    sent = OutwardTo 0 out ∷ [];
     part = b';
     row = row;
     without = world_of a b far o (record way { to_b = rest });
@@ -140,7 +143,6 @@ module _ (setup : Setup) (small : IsSmall setup) (a b : RouterPart) (far : FarPa
     is = λ i. record (world_of a b far o (record way { to_b = rest })) {
       router = sym (two-1 idle_router a b b') i;
       outward = sym (two2-1 [] 0 0 way.out_a way.out_b (way.out_b ++ out ∷ [])) i;
-      mesh = sym (two2-1 [] 1 0 rest way.to_a (way.to_a ++ back ∷ [])) i;
     };
   }
 

@@ -5,7 +5,8 @@ use Rattle.bgp_story.specs.WorkedSessions.{keepalive_bytes, joined_lines}
 use Rattle.graft_model.specs.Parts.{Place, Vacant, Live, Frozen, Shadow, World}
 use Rattle.graft_model.specs.RouterRows.{SegmentIn, Strays, Ticks}
 use Rattle.graft_model.specs.GraftRows.{is_taken}
-use Rattle.graft_model.specs.FarRows.{Homeward, Loses, Beats}
+use Rattle.tcp_seq.specs.declared.segment.Way.TheVariants.{Home}
+use Rattle.graft_model.specs.FarRows.{Loses, Beats}
 use Rattle.graft_model.specs.Laws.{MayStillHappen}
 use Rattle.graft_model.proofs.Still.{still}
 use Rattle.graft_worked.proofs.GraftRows.{hold_is}
@@ -20,7 +21,10 @@ use Rattle.bgp_types.specs.Header.{header_fault, frame_at}
 use Rattle.bgp_types.specs.Many.{many, many_within}
 use Rattle.bgp_types.specs.OpenBody.{cap_at, caps_of, params_of, open_of}
 use Rattle.graft_worked.proofs.StartRows.{marks_none}
-use Rattle.graft_model.specs.Steps.{Event, Tick, Stray, Lose, Go, Beat, ByRouter, ByFar, ByOperator, Step}
+use Rattle.graft_model.specs.declared.event.RouterEvent.TheVariants.{Tick, Stray}
+use Rattle.graft_model.specs.declared.event.FarEvent.TheVariants.{Lose, Beat}
+use Rattle.graft_model.specs.declared.event.OperatorEvent.TheVariants.{Go}
+use Rattle.graft_model.specs.Steps.{Event, ByRouter, ByFar, ByOperator, Step}
 use Rattle.graft_worked.specs.Base.{base}
 use Rattle.graft_worked.specs.Places.{nothing, idle_router}
 use Rattle.graft_worked.specs.First.{a_first}
@@ -43,11 +47,11 @@ strays = record {
 pub may_stray : Step base (ByRouter 0 (Stray 0)) with_stray without_stray
 may_stray = a_from_far base base_small a_after b_after far_after operator_after nothing (Stray 0) a_after ack_segment [] strays
 
-loses : Loses Homeward 0 far_sent None [] far_emitted
+loses : Loses Home 0 far_sent None [] far_emitted
 loses = record { there = lit< tt; takes = refl; sends = refl; effect = refl }
 
-pub may_lose : Step base (ByFar 0 (Lose Homeward 0)) with_segment without_segment
-may_lose = far_alone base base_small a_first idle_router far_sent operator_before nothing (Lose Homeward 0) far_emitted loses
+pub may_lose : Step base (ByFar 0 (Lose Home 0)) with_segment without_segment
+may_lose = far_alone base base_small a_first idle_router far_sent operator_before nothing (Lose Home 0) far_emitted loses
 
 -- ---- at the end no group is left, and the remote doesn't beat
 
@@ -107,7 +111,7 @@ unfolding header_fault
 ticks = record {
   alone = (refl, refl);
   session = session_timed;
-  order = None;
+  errand = None;
   live = record { is = refl };
   next = session_ticked;
   passes = round_passes;

@@ -28,7 +28,8 @@ use Rattle.session_value.specs.Sets.{has}
 use Rattle.graft_model.specs.Parts.{Vacant, Live}
 use Rattle.graft_model.specs.Decisions.{to_tell, out_side}
 use Rattle.graft_model.specs.RouterRows.{IsToTell, PutsSome}
-use Rattle.graft_model.specs.Steps.{Put, ByRouter, Step}
+use Rattle.graft_model.specs.declared.event.RouterEvent.TheVariants.{Put}
+use Rattle.graft_model.specs.Steps.{ByRouter, Step}
 use Rattle.graft_worked.specs.Base.{base, config}
 use Rattle.graft_worked.specs.Places.{idle_router, nothing}
 use Rattle.graft_worked.specs.Graft.{ten_alone, at_ten, far_before, operator_before}
@@ -119,7 +120,7 @@ puts_some : PutsSome base 0 0 1 a_to_put None [] a_has_put
 puts_some = record {
   alone = (refl, refl);
   session = session_joined;
-  order = None;
+  errand = None;
   live = record { is = refl };
   first = ten;
   is_to_tell = ten_waits;

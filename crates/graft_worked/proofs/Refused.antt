@@ -17,11 +17,13 @@ use Rattle.session_value.specs.Sets.{has}
 use Rattle.graft_model.specs.Setups.{MoveStep, PeeringSetup, IsPeeringSetup, IsSetup, IsStep, starting_at, room_of}
 use Rattle.graft_model.specs.First.{first_router, first_world}
 use Rattle.graft_model.specs.Points.{at}
-use Rattle.graft_model.specs.Parts.{Vacant, Live, Frozen, Shadow, OperatorPart, Moved, Back, World}
+use Rattle.graft_model.specs.Parts.{Vacant, Live, Frozen, Shadow, OperatorPart, Moved, Back, World, Leaving}
 use Rattle.graft_model.specs.RouterRows.{MeshIn, MeshTo, ReportOut}
 use Rattle.graft_model.specs.GraftRows.{Refuses, TurnsBack, Returns}
 use Rattle.graft_model.specs.OperatorRows.{OrderTo, OrdersGraft}
-use Rattle.graft_model.specs.Steps.{Order, Admit, Refuse, Freeze, Leave, TurnBack, Return, Run}
+use Rattle.graft_model.specs.declared.event.RouterEvent.TheVariants.{Admit, Refuse, Freeze, Leave, TurnBack, Return}
+use Rattle.graft_model.specs.declared.event.OperatorEvent.TheVariants.{Order}
+use Rattle.graft_model.specs.Steps.{Run}
 use Rattle.graft_worked.specs.Base.{peering_c, base}
 use Rattle.graft_worked.specs.Places.{idle_router, holding, nothing}
 use Rattle.graft_worked.specs.First.{session_first, a_first, far_first, first}
@@ -101,7 +103,7 @@ not_up : freeze_refusal (record { 0 = 0 }) (record { 0 = 1 }) (state session_fir
 unfolding message_of header_fault frame_at body_of open_of many many_within cap_at caps_of params_of
 not_up = refl
 
-refuses : Refuses 0 1 (holding idle_router (Live session_first (Some to_b))) None (ReportOut (refusal_report (NotEstablished OpenSent)) ∷ []) a_first
+refuses : Refuses 0 1 (holding idle_router (Live session_first (Some (Leaving to_b)))) None (ReportOut (refusal_report (NotEstablished OpenSent)) ∷ []) a_first
 refuses = record {
   peering = 0;
   target = 1;
@@ -111,7 +113,7 @@ refuses = record {
   cause = not_up;
   takes = refl;
   sends = refl;
-  effect = λ i. record a_first { places = sym (at-at (λ p. Vacant) 0 (Live session_first (Some to_b)) (Live session_first None)) i };
+  effect = λ i. record a_first { places = sym (at-at (λ p. Vacant) 0 (Live session_first (Some (Leaving to_b))) (Live session_first None)) i };
 }
 
 refused : Run refusing first refused_events with_refusal
@@ -120,10 +122,10 @@ refused = (
   operator_orders refusing small a_first idle_router far_first (record { group = 0; issued = λ n. false; source = λ k. None; outcome = λ k. None }) nothing (Order 1) (operator_moved (λ n. false)) (record { graft = 1; peering = 0; target = 1 }) tt (inr (orders (λ n. false) refl)),
   (
     _,
-    a_ordered_by refusing small a_first idle_router far_first (operator_moved (λ n. false)) nothing (Admit 1) (holding idle_router (Live session_first (Some to_b))) (record { graft = 1; peering = 0; target = 1 }) [] (admits refusing (lit< tt) idle_router session_first),
+    a_ordered_by refusing small a_first idle_router far_first (operator_moved (λ n. false)) nothing (Admit 1) (holding idle_router (Live session_first (Some (Leaving to_b)))) (record { graft = 1; peering = 0; target = 1 }) [] (admits refusing (lit< tt) idle_router session_first),
     (
       _,
-      a_reports refusing small (holding idle_router (Live session_first (Some to_b))) idle_router far_first (operator_moved (λ n. false)) nothing (Refuse 1) a_first (refusal_report (NotEstablished OpenSent)) refuses,
+      a_reports refusing small (holding idle_router (Live session_first (Some (Leaving to_b)))) idle_router far_first (operator_moved (λ n. false)) nothing (Refuse 1) a_first (refusal_report (NotEstablished OpenSent)) refuses,
       refl,
     ),
   ),
@@ -173,10 +175,10 @@ comes_back = (
   operator_orders refusing small (a_with session_joined) idle_router far_emitted (record { group = 0; issued = at (λ n. false) 0 true; source = λ k. None; outcome = λ k. None }) nothing (Order 1) moved (record { graft = 1; peering = 0; target = 1 }) tt (inr (orders (at (λ n. false) 0 true) refl)),
   (
     _,
-    a_ordered_by refusing small (a_with session_joined) idle_router far_emitted moved nothing (Admit 1) (holding idle_router (Live session_joined (Some to_b))) (record { graft = 1; peering = 0; target = 1 }) [] (admits refusing (lit< tt) idle_router session_joined),
+    a_ordered_by refusing small (a_with session_joined) idle_router far_emitted moved nothing (Admit 1) (holding idle_router (Live session_joined (Some (Leaving to_b)))) (record { graft = 1; peering = 0; target = 1 }) [] (admits refusing (lit< tt) idle_router session_joined),
     (
       _,
-      a_alone refusing small (holding idle_router (Live session_joined (Some to_b))) idle_router far_emitted moved nothing (Freeze 1) (holding idle_router (Frozen session_joined to_b)) (freezes idle_router session_joined may_freeze),
+      a_alone refusing small (holding idle_router (Live session_joined (Some (Leaving to_b)))) idle_router far_emitted moved nothing (Freeze 1) (holding idle_router (Frozen session_joined to_b)) (freezes idle_router session_joined may_freeze),
       (
         _,
         a_to_b refusing small (holding idle_router (Frozen session_joined to_b)) idle_router far_emitted moved nothing (Leave 1) (holding idle_router (Shadow 1)) (Moved 1 0 session_joined) (leaves idle_router session_joined (at-same empty 0)),

@@ -3,8 +3,10 @@ use Rattle.std.proofs.Common.{◌≡◌, ◌≢◌, ℕ, suc, length, Option, No
 use Rattle.tcp_seq.specs.Endpoint.{Endpoint, PlacedSegment}
 use Rattle.session_value.specs.Sessions.{SessionValue}
 use Rattle.graft_model.specs.Slices.{EmitsAt}
-use Rattle.graft_model.specs.Parts.{Order, Live, World}
-use Rattle.graft_model.specs.Steps.{Emit, Send, ByRouter, ByFar, Step}
+use Rattle.graft_model.specs.Parts.{Errand, Live, World}
+use Rattle.graft_model.specs.declared.event.RouterEvent.TheVariants.{Emit}
+use Rattle.graft_model.specs.declared.event.FarEvent.TheVariants.{Send}
+use Rattle.graft_model.specs.Steps.{ByRouter, ByFar, Step}
 use Rattle.graft_worked.specs.Base.{base}
 use Rattle.graft_worked.specs.Graft.{session, home_end, remote_end, after_graft}
 
@@ -26,12 +28,12 @@ home_acked = refl
 remote_acked : remote_end.acked ≡ length remote_end.stream
 remote_acked = refl
 
-same_session : (s t : SessionValue) (o u : Option Order) → Live s o ≡ Live t u → s ≡ t
+same_session : (s t : SessionValue) (o u : Option Errand) → Live s o ≡ Live t u → s ≡ t
 same_session s t o u e = cc
 
 pub no_emit : (from n : ℕ) (after : World) → Step base (ByRouter 1 (Emit 0 from (suc n))) after_graft after → ⊥
 no_emit from n after step =
-    let same : session ≡ step.row.session = same_session session step.row.session None step.row.order step.row.live.is in
+    let same : session ≡ step.row.session = same_session session step.row.session None step.row.errand step.row.live.is in
     no_bytes session.end step.row.end from n step.row.segment home_acked (subst (λ (s : SessionValue). EmitsAt from (suc n) s.end step.row.segment step.row.end) (sym same) step.row.emits)
 
 pub no_send : (from n : ℕ) (after : World) → Step base (ByFar 0 (Send from (suc n))) after_graft after → ⊥

@@ -115,7 +115,7 @@ takes_put = record { segment = put_segment; takes = refl; sends = refl; effect =
 pub emits_all : Emits 0 0 48 (a_got session_heard) None (OutwardTo 0 (Seg put_segment) ∷ []) (a_got session_emitted)
 emits_all = record {
   session = session_heard;
-  order = None;
+  errand = None;
   live = record { is = refl };
   segment = put_segment;
   end = session_emitted.end;
@@ -187,7 +187,7 @@ unfolding header_fault
 got_open_row setup = record {
   alone = (refl, refl);
   session = session_arrived;
-  order = None;
+  errand = None;
   live = record { is = refl };
   bytes = open_bytes;
   next = session_confirmed;
@@ -205,7 +205,7 @@ unfolding header_fault
 got_keepalive_row setup = record {
   alone = (refl, refl);
   session = session_confirmed;
-  order = None;
+  errand = None;
   live = record { is = refl };
   bytes = keepalive_bytes;
   next = session_joined;
@@ -238,7 +238,7 @@ unfolding header_fault
 got_update_row = record {
   alone = (refl, refl);
   session = session_joined;
-  order = None;
+  errand = None;
   live = record { is = refl };
   bytes = update_bytes;
   next = session_heard;

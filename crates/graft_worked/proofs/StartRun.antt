@@ -5,7 +5,10 @@ use Rattle.bgp_story.specs.WorkedSessions.{ten, update_bytes}
 use Rattle.graft_model.specs.First.{first_world}
 use Rattle.graft_model.specs.Setups.{Setup, SayStep}
 use Rattle.graft_model.specs.Parts.{Told, Seg, World}
-use Rattle.graft_model.specs.Steps.{Order, Say, Send, Pass, Arrive, Got, Emit, Take, Reach, Decide, Put, Tell, Hear, Event, Run}
+use Rattle.graft_model.specs.declared.event.RouterEvent.TheVariants.{Arrive, Got, Emit, Decide, Put, Tell, Hear}
+use Rattle.graft_model.specs.declared.event.FarEvent.TheVariants.{Say, Send, Pass, Take, Reach}
+use Rattle.graft_model.specs.declared.event.OperatorEvent.TheVariants.{Order}
+use Rattle.graft_model.specs.Steps.{Event, Run}
 use Rattle.graft_worked.specs.Base.{base}
 use Rattle.graft_worked.specs.Places.{idle_router, nothing}
 use Rattle.graft_worked.specs.First.{a_first, far_first, operator_first, first}

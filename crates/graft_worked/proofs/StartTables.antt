@@ -67,7 +67,7 @@ pub a_puts_nothing : PutsNothing base 0 0 a_chosen None [] a_put
 a_puts_nothing = record {
   alone = (refl, refl);
   session = session;
-  order = None;
+  errand = None;
   live = record { is = refl };
   established = state_is;
   prefix = ten;

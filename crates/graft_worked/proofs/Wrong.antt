@@ -10,7 +10,7 @@ use Rattle.session_value.specs.Sessions.{SessionValue, peering_of}
 use Rattle.graft_model.specs.Claims.{Transparent, Solves}
 use Rattle.graft_worked.specs.Base.{base, config}
 use Rattle.graft_worked.specs.First.{session_first}
-use Rattle.graft_worked.specs.Graft.{route, over_router, a_after, b_told, remote_end}
+use Rattle.graft_worked.specs.Graft.{route, over_router, a_after, b_put, remote_end}
 use Rattle.graft_worked.specs.Wrong.{with_session_kept, with_session_begun_again, with_telling_on_its_way}
 use Rattle.graft_worked.proofs.Tens.{got_it}
 use Rattle.graft_worked.proofs.GraftEnds.{remote_received}
@@ -36,5 +36,5 @@ begun_again t =
 
 pub told_later : Solves base with_telling_on_its_way → ⊥
 told_later s =
-    let told : map.get (b_told.tellings 0) ten ≡ tell_in (map.get a_after.best ten) = s.tellings 0 1 ten (lit< tt) (lit< tt) (λ e. cc) in
+    let told : map.get (b_put.tellings 0) ten ≡ tell_in (map.get a_after.best ten) = s.tellings 0 1 ten (lit< tt) (lit< tt) (λ e. cc) in
     let apart : ◌≡◌ {A = Bool} true false = ap is_some (sym (got_it route) ∙ (told ∙ ap tell_in (got_it (over_router 1)))) in cc

@@ -20,6 +20,7 @@ config = record {
   identifier = 0x0AFF0001;
   remote_as = 65001;
   offered = false;
+  unicast = false;
   home_hold = 0;
   remote_address = 0xC0000201;
   local_address = 0xC0000202;

@@ -16,8 +16,11 @@ use Rattle.bgp_story.specs.WorkedSessions.{ten, open_bytes, keepalive_bytes, upd
 use Rattle.session_value.specs.Sessions.{SessionValue}
 use Rattle.session_value.specs.Sets.{Prefixes}
 use Rattle.graft_model.specs.Points.{at}
-use Rattle.graft_model.specs.Parts.{Order as StoredOrder, Vacant, Live, Frozen, Shadow, Entry, RouterPart, FarPart, OperatorPart, World}
-use Rattle.graft_model.specs.Steps.{Event, ByRouter, ByFar, ByOperator, Go, Order, Admit, Freeze, Leave, Land, Point, Clear, Note, Decide, Put, Tell, Hear}
+use Rattle.graft_model.specs.Parts.{Order as StoredOrder, Vacant, Live, Frozen, Shadow, Entry, RouterPart, FarPart, OperatorPart, World, Word, Leaving, Owing}
+use Rattle.graft_model.specs.declared.event.RouterEvent.TheVariants.{Admit, Freeze, Leave, Land, Confirm, Clear, Decide, Put, Tell, Hear}
+use Rattle.graft_model.specs.declared.event.FarEvent.TheVariants.{Point}
+use Rattle.graft_model.specs.declared.event.OperatorEvent.TheVariants.{Go, Order, Note}
+use Rattle.graft_model.specs.Steps.{Event, ByRouter, ByFar, ByOperator}
 use Rattle.graft_worked.specs.Base.{config}
 use Rattle.graft_worked.specs.Places.{holding, nothing, world_of}
 
@@ -111,7 +114,7 @@ abbrev pub to_b : StoredOrder
 to_b = record { graft = 1; target = 1 }
 
 abbrev pub a_ordered : RouterPart
-a_ordered = holding a_before (Live session (Some to_b))
+a_ordered = holding a_before (Live session (Some (Leaving to_b)))
 
 abbrev pub a_frozen : RouterPart
 a_frozen = holding a_before (Frozen session to_b)
@@ -119,21 +122,29 @@ a_frozen = holding a_before (Frozen session to_b)
 abbrev pub a_left : RouterPart
 a_left = holding a_before (Shadow 1)
 
-abbrev pub a_cleared : RouterPart
-a_cleared = record a_before { places = λ p. Vacant; entries = λ p. map.empty; dirty = ten_alone }
+-- router a has heard from b before the shadow goes, and keeps its own best route until then
+abbrev pub a_heard : RouterPart
+a_heard = record a_left { tellings = at (λ q. map.empty) 1 (at_ten route); dirty = ten_alone }
 
-abbrev pub a_told : RouterPart
-a_told = record a_cleared { tellings = at (λ q. map.empty) 1 (at_ten route) }
+abbrev pub a_kept : RouterPart
+a_kept = record a_heard { dirty = map.empty }
+
+abbrev pub a_cleared : RouterPart
+a_cleared = record a_kept { places = λ p. Vacant; entries = λ p. map.empty; dirty = ten_alone }
 
 abbrev pub a_decided : RouterPart
-a_decided = record a_told { best = at_ten (over_router 1); dirty = map.empty; due_in = at (λ q. map.empty) 1 ten_alone }
+a_decided = record a_cleared { best = at_ten (over_router 1); dirty = map.empty; due_in = at (λ q. map.empty) 1 ten_alone }
 
 abbrev pub a_after : RouterPart
 a_after = record a_decided { due_in = λ q. map.empty }
 
+-- what b owes to a
+abbrev pub to_a : Word
+to_a = record { graft = 1; source = 0 }
+
 abbrev pub b_landed : RouterPart
 b_landed = record b_before {
-  places = at (λ p. Vacant) 0 (Live session None);
+  places = at (λ p. Vacant) 0 (Live session (Some (Owing to_a)));
   entries = at (λ p. map.empty) 0 (at_ten entry);
   dirty = ten_alone;
   due_out = at (λ p. map.empty) 0 ten_alone;
@@ -142,17 +153,20 @@ b_landed = record b_before {
 abbrev pub b_decided : RouterPart
 b_decided = record b_landed { best = at_ten over_peering; dirty = map.empty; due_in = at (λ q. map.empty) 0 ten_alone }
 
-abbrev pub b_put : RouterPart
-b_put = record b_decided { due_out = λ p. map.empty }
-
 abbrev pub b_told : RouterPart
-b_told = record b_put { due_in = λ q. map.empty }
+b_told = record b_decided { due_in = λ q. map.empty }
+
+abbrev pub b_confirmed : RouterPart
+b_confirmed = holding b_told (Live session None)
+
+abbrev pub b_put : RouterPart
+b_put = record b_confirmed { due_out = λ p. map.empty }
 
 abbrev pub b_heard : RouterPart
-b_heard = record b_told { tellings = λ q. map.empty; dirty = ten_alone }
+b_heard = record b_put { tellings = λ q. map.empty; dirty = ten_alone }
 
 abbrev pub b_after : RouterPart
-b_after = record b_told { tellings = λ q. map.empty }
+b_after = record b_put { tellings = λ q. map.empty }
 
 abbrev pub far_after : FarPart
 far_after = record far_before { pointer = 1; followed = 1 }
@@ -180,12 +194,14 @@ graft_events =
     ∷ ByRouter 0 (Leave 1)
     ∷ ByRouter 1 (Land 0)
     ∷ ByFar 0 (Point 1)
+    ∷ ByRouter 1 (Decide ten)
+    ∷ ByRouter 1 (Tell 0 ten)
+    ∷ ByRouter 1 (Confirm 1)
+    ∷ ByRouter 1 (Put 0 0)
+    ∷ ByRouter 0 (Hear 1)
+    ∷ ByRouter 0 (Decide ten)
     ∷ ByRouter 0 (Clear 1)
     ∷ ByOperator (Note 0)
-    ∷ ByRouter 1 (Decide ten)
-    ∷ ByRouter 1 (Put 0 0)
-    ∷ ByRouter 1 (Tell 0 ten)
-    ∷ ByRouter 0 (Hear 1)
     ∷ ByRouter 0 (Decide ten)
     ∷ ByRouter 0 (Tell 1 ten)
     ∷ ByRouter 1 (Hear 0)

@@ -9,7 +9,9 @@ use Rattle.graft_steps.specs.declared.refusal.Outcome.TheVariants.{Refused}
 use Rattle.graft_model.specs.Points.{at}
 use Rattle.graft_model.specs.Setups.{Setup, SayStep, MoveStep, SettleStep}
 use Rattle.graft_model.specs.Parts.{OperatorPart, Report, World}
-use Rattle.graft_model.specs.Steps.{Event, ByRouter, ByOperator, Order, Admit, Refuse, Freeze, Leave, TurnBack, Return}
+use Rattle.graft_model.specs.declared.event.RouterEvent.TheVariants.{Admit, Refuse, Freeze, Leave, TurnBack, Return}
+use Rattle.graft_model.specs.declared.event.OperatorEvent.TheVariants.{Order}
+use Rattle.graft_model.specs.Steps.{Event, ByRouter, ByOperator}
 use Rattle.graft_worked.specs.Base.{router_a, router_b, base}
 use Rattle.graft_worked.specs.Places.{idle_router, nothing, world_of}
 use Rattle.graft_worked.specs.First.{a_first, far_first}

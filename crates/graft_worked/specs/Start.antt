@@ -6,7 +6,10 @@ use Rattle.bgp_story.specs.WorkedSessions.{ten, confirmed_lines, joined_lines}
 use Rattle.session_value.specs.Sessions.{SessionValue}
 use Rattle.graft_model.specs.Points.{at}
 use Rattle.graft_model.specs.Parts.{Live, RouterPart, FarPart, World}
-use Rattle.graft_model.specs.Steps.{Event, ByRouter, ByFar, ByOperator, Order, Say, Send, Pass, Arrive, Got, Emit, Take, Reach, Decide, Put, Tell, Hear}
+use Rattle.graft_model.specs.declared.event.RouterEvent.TheVariants.{Arrive, Got, Emit, Decide, Put, Tell, Hear}
+use Rattle.graft_model.specs.declared.event.FarEvent.TheVariants.{Say, Send, Pass, Take, Reach}
+use Rattle.graft_model.specs.declared.event.OperatorEvent.TheVariants.{Order}
+use Rattle.graft_model.specs.Steps.{Event, ByRouter, ByFar, ByOperator}
 use Rattle.graft_worked.specs.Places.{idle_router, holding, idle_far, nothing, world_of}
 use Rattle.graft_worked.specs.First.{home_open_bytes, session_first}
 use Rattle.graft_worked.specs.Graft.{put_all, said_all, from_zero, at_ten, ten_alone, entry, route, session, home_end, remote_end, a_before, b_before, far_before, operator_before}

@@ -1,9 +1,9 @@
-//! What holds of the worked worlds. Each of the 28 kinds of events has among them a world in which it can happen, and one in which it can't:
+//! What holds of the worked worlds. Each of the 29 kinds of events has among them a world in which it can happen, and one in which it can't:
 //!
 //! | Kinds | Can happen | Can't happen, of router a, router b, the far side or the operator |
 //! |---|---|---|
 //! | Order, Say, Send, Pass, Arrive, Got, Emit, Take, Reach, Decide, Put of none, Tell, Hear | on the way from the first world (`base_runs_to_its_end`) | at its end (`some_events_never_happen`; of Emit and Send `nothing_is_sent_at_the_end`) |
-//! | Go, Admit, Freeze, Leave, Land, Point, Clear, Note | in the graft (`a_graft_runs_to_its_end`) | at its end |
+//! | Go, Admit, Freeze, Leave, Land, Point, Confirm, Clear, Note | in the graft (`a_graft_runs_to_its_end`) | at its end |
 //! | Put of one | `an_update_may_be_put` | at its end |
 //! | Refuse, TurnBack, Return | in grafts that are refused (`refused_grafts_run_to_their_end`) | at its end |
 //! | Stray, Lose, Beat, Tick | `other_events_may_happen` | at its end |
@@ -14,8 +14,11 @@ ghost use Rattle.graft_model.specs.First.{first_world};
 ghost use Rattle.graft_model.specs.Laws.{MayStillHappen};
 ghost use Rattle.graft_model.specs.Quiet.{Quiet};
 ghost use Rattle.graft_model.specs.Setups.{IsSetup};
-ghost use Rattle.graft_model.specs.Steps.{Run, Step, Event, Put, Emit, Send, Tick, ByRouter, ByFar, ByOperator, Stray, Lose, Beat, Go};
-ghost use Rattle.graft_model.specs.FarRows.{Homeward};
+ghost use Rattle.graft_model.specs.declared.event.RouterEvent.TheVariants.{Put, Emit, Tick, Stray};
+ghost use Rattle.graft_model.specs.declared.event.FarEvent.TheVariants.{Send, Lose, Beat};
+ghost use Rattle.graft_model.specs.declared.event.OperatorEvent.TheVariants.{Go};
+ghost use Rattle.graft_model.specs.Steps.{Run, Step, Event, ByRouter, ByFar, ByOperator};
+ghost use Rattle.tcp_seq.specs.declared.segment.Way.TheVariants.{Home};
 ghost use Rattle.graft_model.specs.Parts.{World};
 ghost use Rattle.graft_worked.specs.Others as others;
 ghost use Rattle.graft_worked.specs.Puts.{with_route_due, with_route_put, with_link_at_source};
@@ -63,7 +66,7 @@ pub fn refused_grafts_run_to_their_end()
 /// Events that don't occur in the worked runs, each from a world in which it may happen.
 pub fn other_events_may_happen()
     ensures stray { Step base (ByRouter 0 (Stray 0)) others.with_stray others.without_stray }
-    ensures lose { Step base (ByFar 0 (Lose Homeward 0)) others.with_segment others.without_segment }
+    ensures lose { Step base (ByFar 0 (Lose Home 0)) others.with_segment others.without_segment }
     ensures beat { Step others.beating (ByFar 0 (Beat 30)) before_graft others.with_beat }
     ensures tick { Step others.beating (ByRouter 0 (Tick 0 1)) others.with_round_due others.with_round }
 {}

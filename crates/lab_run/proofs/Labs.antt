@@ -4,7 +4,7 @@ use Rattle.graft_model.specs.Setups.{Setup, IsSetup}
 use Rattle.graft_model.specs.Parts.{World}
 use Rattle.graft_model.specs.First.{first_world}
 use Rattle.graft_model.specs.Steps.{Event, Run}
-use Rattle.graft_model.specs.Claims.{Unchanged, Solves}
+use Rattle.graft_model.specs.Claims.{Unchanged, MadeBeforeBroken, Solves}
 use Rattle.graft_model.specs.Quiet.{Quiet}
 use Rattle.graft_laws.specs.Keeps.{Reached}
 use Rattle.router_core.specs.Parts.{carried}
@@ -26,11 +26,14 @@ use Rattle.lab_run.proofs.Stories.{WayRan, marks_of_run, run_whole, run_ran, set
 abbrev pub AlwaysUnchanged : Type 0
 AlwaysUnchanged = (setup : Setup) (events : List Event) → IsSetup setup → Unchanged setup (first_world setup) events
 
+abbrev pub AlwaysMadeBefore : Type 0
+AlwaysMadeBefore = (setup : Setup) (events : List Event) → IsSetup setup → MadeBeforeBroken setup (first_world setup) events
+
 abbrev pub QuietSolves : Type 0
 QuietSolves = (setup : Setup) (events : List Event) (w : World) → IsSetup setup → Run setup (first_world setup) events w → Quiet setup w → Solves setup w
 
-pub labs_tell : WayRan → RunsAreTransparent → AlwaysUnchanged → QuietSolves → RoundsAreReal → LabsTellOfRuns
-labs_tell way_ran transparent unchanged solves rounds lab a z sound as_many tells = record {
+pub labs_tell : WayRan → RunsAreTransparent → AlwaysUnchanged → AlwaysMadeBefore → QuietSolves → RoundsAreReal → LabsTellOfRuns
+labs_tell way_ran transparent unchanged made solves rounds lab a z sound as_many tells = record {
   events = ran.events;
   entries_of = ran.entries_of;
   world = ran.world;
@@ -38,6 +41,7 @@ labs_tell way_ran transparent unchanged solves rounds lab a z sound as_many tell
   observed = tells.observed ran.world (record { world = (ran.seen, reached); all = whole.size; channels = whole.edges });
   transparent = transparent (setup_of lab.input) ran.events ran.world sound ran.run;
   unchanged = unchanged (setup_of lab.input) ran.events sound;
+  made = made (setup_of lab.input) ran.events sound;
   marks = subst (λ (ms : List (List ℕ)). HasMarks (setup_of lab.input) lab.journal (budgets_in lab.input) ms lab.rounds lab.end) (sym tells.marks)
       (marks_of_run way_ran (setup_of lab.input) sound a tells.begins z lab.journal tells.merged (budgets_in lab.input) lab.rounds lab.end as_many tells.goes);
   real = subst (λ (ms : List (List ℕ)). RealRounds (setup_of lab.input) lab.input.faults lab.journal ms) (sym (same_marks way_ran (setup_of lab.input) sound a tells.begins z lab.journal tells.merged (budgets_in lab.input) lab.rounds lab.end tells.goes) ∙ sym tells.marks) real;

@@ -7,7 +7,7 @@ use Rattle.graft_model.specs.Setups.{Setup, IsSetup, groups_in}
 use Rattle.graft_model.specs.Parts.{World}
 use Rattle.graft_model.specs.First.{first_world}
 use Rattle.graft_model.specs.Steps.{Event, Run}
-use Rattle.graft_model.specs.Claims.{Unchanged, Solves}
+use Rattle.graft_model.specs.Claims.{Unchanged, MadeBeforeBroken, Solves}
 use Rattle.graft_model.specs.Quiet.{Quiet}
 use Rattle.graft_runs.specs.Laws.{AreEntriesOf}
 use Rattle.world_runs.specs.Labs.{actors_in}
@@ -25,10 +25,11 @@ use Rattle.lab_seen.specs.Seen.{Observed}
 use Rattle.lab_run.specs.Ends.{HasMarks}
 use Rattle.lab_run.specs.Stories.{RunGoes}
 
--- The journal is that of a run of the input's laboratory from its first world, and the lab is what is seen of the world that the run leads to. At every moment of the run each
--- peering is transparent, and a refused graft returned its session unchanged. The marks say how the run went on and how it ended, and from each mark to the next one each actor did
--- what a round asks of it. Where it is settled, nothing is left to do in the last world, and
--- the tables solve the decision equations (RFC 4271, section 9.1) for the placement after the accepted grafts.
+-- The journal is that of a run of the input's laboratory from its first world, and the lab is what is seen of the world that the run leads to. At every moment
+-- of the run each peering is transparent; a refused graft returned its session unchanged; and a source cleared the routes of a session that had left only with
+-- its target's routes at hand. The marks say how the run went on and how it ended, and from each mark to the next one each actor did what a round asks of it.
+-- Where it is settled, nothing is left to do in the last world, and the tables solve the decision equations (RFC 4271, section 9.1) for the placement after the
+-- accepted grafts.
 pub record RanLab (lab : Lab) : Type 0 where
   pub events : List Event
   pub entries_of : AreEntriesOf (setup_of lab.input) events lab.journal
@@ -37,6 +38,7 @@ pub record RanLab (lab : Lab) : Type 0 where
   pub observed : Observed (setup_of lab.input) world lab
   pub transparent : TransparentThroughout (setup_of lab.input) events
   pub unchanged : Unchanged (setup_of lab.input) (first_world (setup_of lab.input)) events
+  pub made : MadeBeforeBroken (setup_of lab.input) (first_world (setup_of lab.input)) events
   pub marks : HasMarks (setup_of lab.input) lab.journal (budgets_in lab.input) lab.marks lab.rounds lab.end
   pub real : RealRounds (setup_of lab.input) lab.input.faults lab.journal lab.marks
   pub quiet : lab.end ≡ Settled → Quiet (setup_of lab.input) world

@@ -5,10 +5,10 @@ use Rattle.std.specs.List.{AllByRecursion}
 use Rattle.std.proofs.lemmas.Bool.Decides.{eqb_tells, nat_tests}
 use Rattle.session_value.specs.Sessions.{SessionValue}
 use Rattle.graft_model.specs.Setups.{Setup, routers_in}
-use Rattle.graft_model.specs.Parts.{Place, Vacant, Live, Frozen, Shadow, Order, Mesh, Told, Moved, Back, Done}
+use Rattle.graft_model.specs.Parts.{Place, Vacant, Live, Frozen, Shadow, Order, Errand, Mesh, Told, Moved, Back, Done, Leaving, Owing}
 use Rattle.graft_model.specs.Claims.{sessions_at}
 use Rattle.graft_laws.specs.Owned.{mesh_of}
-use Rattle.graft_laws.specs.Phases.{Ordered, Stored, Halted, Moving, Landed, Returning, Declined, Cleared, Phase, Idle, Busy, place_by, placed_at, mesh_by, only2, InBounds}
+use Rattle.graft_laws.specs.Phases.{Ordered, Stored, Halted, Moving, Landed, Confirmed, Returning, Declined, Cleared, Phase, Idle, Busy, place_by, placed_at, mesh_by, only2, InBounds}
 use Rattle.lab_report.specs.declared.lab.Place.{Place as LabPlace}
 use Rattle.lab_report.specs.declared.lab.Place.TheVariants as labs
 use Rattle.lab_seen.specs.Seen.{view_of}
@@ -20,6 +20,7 @@ place_in (Idle q) = labs.Held (record { 0 = q })
 place_in (Busy q k t Moving) = labs.Moving
 place_in (Busy q k t (Returning refusal)) = labs.Moving
 place_in (Busy q k t Landed) = labs.Held (record { 0 = t })
+place_in (Busy q k t Confirmed) = labs.Held (record { 0 = t })
 place_in (Busy q k t Cleared) = labs.Held (record { 0 = t })
 place_in (Busy q k t stage) = labs.Held (record { 0 = q })
 
@@ -40,38 +41,39 @@ pub record IsSessionOf (phase : Phase) (s : SessionValue) (r : ℕ) (x : Session
   pub same : x ≡ s
   pub place : held_at r ≡ place_in phase
 
-live_is : (q r : ℕ) (s x : SessionValue) (o o' : Option Order) → placed_at q (Live s o) r ≡ Live x o' → (x ≡ s) × (held_at r ≡ held_at q)
+live_is : (q r : ℕ) (s x : SessionValue) (o o' : Option Errand) → placed_at q (Live s o) r ≡ Live x o' → (x ≡ s) × (held_at r ≡ held_at q)
 live_is q r s x o o' e = elim (eqb_tells r q) [
   | inl same ↦ (let f : Live s o ≡ Live x o' = sym (rw (same.0) refl) ∙ e in (cc, ap held_at same.1))
   | inr apart ↦ absurd (let f : Vacant ≡ Live x o' = sym (rw (apart.0) refl) ∙ e in cc)
 ]
 
-no_live : (q r : ℕ) (place : Place) (x : SessionValue) (o : Option Order) → (place ≡ Live x o → ⊥) → placed_at q place r ≡ Live x o → ⊥
+no_live : (q r : ℕ) (place : Place) (x : SessionValue) (o : Option Errand) → (place ≡ Live x o → ⊥) → placed_at q place r ≡ Live x o → ⊥
 no_live q r place x o none e = elim (eqb_tells r q) [
   | inl same ↦ none (sym (rw (same.0) refl) ∙ e)
   | inr apart ↦ absurd (let f : Vacant ≡ Live x o = sym (rw (apart.0) refl) ∙ e in cc)
 ]
 
-no_shadow : (k : ℕ) (x : SessionValue) (o : Option Order) → Shadow k ≡ Live x o → ⊥
+no_shadow : (k : ℕ) (x : SessionValue) (o : Option Errand) → Shadow k ≡ Live x o → ⊥
 no_shadow k x o e = cc
 
-no_frozen : (s : SessionValue) (order : Order) (x : SessionValue) (o : Option Order) → Frozen s order ≡ Live x o → ⊥
+no_frozen : (s : SessionValue) (order : Order) (x : SessionValue) (o : Option Errand) → Frozen s order ≡ Live x o → ⊥
 no_frozen s order x o e = cc
 
-landed_is : (q r t k : ℕ) (s x : SessionValue) (o : Option Order) → place_by (Busy q k t Landed) s r ≡ Live x o → (x ≡ s) × (held_at r ≡ held_at t)
-landed_is q r t k s x o e = elim (eqb_tells r t) [
-  | inl same ↦ (let f : Live s None ≡ Live x o = sym (rw (same.0) refl) ∙ e in (cc, ap held_at same.1))
+landed_is : (q r t k : ℕ) (s x : SessionValue) (o o' : Option Errand) → cond (r == t) (Live s o') (placed_at q (Shadow k) r) ≡ Live x o → (x ≡ s) × (held_at r ≡ held_at t)
+landed_is q r t k s x o o' e = elim (eqb_tells r t) [
+  | inl same ↦ (let f : Live s o' ≡ Live x o = sym (rw (same.0) refl) ∙ e in (cc, ap held_at same.1))
   | inr apart ↦ absurd (no_live q r (Shadow k) x o (no_shadow k x o) (sym (rw (apart.0) refl) ∙ e))
 ]
 
 -- a session that is live at a router is the peering's, which is held there
-pub live_by : (phase : Phase) (s : SessionValue) (r : ℕ) (x : SessionValue) (o : Option Order) → place_by phase s r ≡ Live x o → IsSessionOf phase s r x
+pub live_by : (phase : Phase) (s : SessionValue) (r : ℕ) (x : SessionValue) (o : Option Errand) → place_by phase s r ≡ Live x o → IsSessionOf phase s r x
 live_by (Idle q) s r x o e = let h = live_is q r s x None o e in record { same = h.0; place = h.1 }
 live_by (Busy q k t Ordered) s r x o e = let h = live_is q r s x None o e in record { same = h.0; place = h.1 }
-live_by (Busy q k t Stored) s r x o e = let h = live_is q r s x (Some (record { graft = k; target = t })) o e in record { same = h.0; place = h.1 }
+live_by (Busy q k t Stored) s r x o e = let h = live_is q r s x (Some (Leaving (record { graft = k; target = t }))) o e in record { same = h.0; place = h.1 }
 live_by (Busy q k t Halted) s r x o e = absurd (no_live q r (Frozen s (record { graft = k; target = t })) x o (no_frozen s (record { graft = k; target = t }) x o) e)
 live_by (Busy q k t Moving) s r x o e = absurd (no_live q r (Shadow k) x o (no_shadow k x o) e)
-live_by (Busy q k t Landed) s r x o e = let h = landed_is q r t k s x o e in record { same = h.0; place = h.1 }
+live_by (Busy q k t Landed) s r x o e = let h = landed_is q r t k s x o _ e in record { same = h.0; place = h.1 }
+live_by (Busy q k t Confirmed) s r x o e = let h = landed_is q r t k s x o _ e in record { same = h.0; place = h.1 }
 live_by (Busy q k t (Returning refusal)) s r x o e = absurd (no_live q r (Shadow k) x o (no_shadow k x o) e)
 live_by (Busy q k t (Declined refusal)) s r x o e = let h = live_is q r s x None o e in record { same = h.0; place = h.1 }
 live_by (Busy q k t Cleared) s r x o e = let h = live_is t r s x None o e in record { same = h.0; place = h.1 }
@@ -112,7 +114,8 @@ moved_by p (Busy q k t Ordered) s a b = tt
 moved_by p (Busy q k t Stored) s a b = tt
 moved_by p (Busy q k t Halted) s a b = tt
 moved_by p (Busy q k t Moving) s a b = only_item (CarriesOnly p (Busy q k t Moving) s) q t a b (Moved k p s) (λ same. (refl, refl))
-moved_by p (Busy q k t Landed) s a b = only_item (CarriesOnly p (Busy q k t Landed) s) t q a b (Done k p) tt
+moved_by p (Busy q k t Landed) s a b = tt
+moved_by p (Busy q k t Confirmed) s a b = only_item (CarriesOnly p (Busy q k t Confirmed) s) t q a b (Done k p) tt
 moved_by p (Busy q k t (Returning refusal)) s a b = only_item (CarriesOnly p (Busy q k t (Returning refusal)) s) t q a b (Back k p s refusal) (λ same. (refl, refl))
 moved_by p (Busy q k t (Declined refusal)) s a b = tt
 moved_by p (Busy q k t Cleared) s a b = tt
@@ -144,7 +147,7 @@ moved_only p phase s a b items is = carries_all p phase s items (subst (λ (xs :
 
 -- The session is live at a router, or frozen there; or an item that carries it is on its way between two routers, and no router has it.
 pub data Whereabouts (setup : Setup) (p : ℕ) (phase : Phase) (s : SessionValue) : Type 0 where
-  AtRouter : (r : ℕ) (order : Option Order) → r < routers_in setup → place_by phase s r ≡ Live s order → place_in phase ≡ held_at r → Whereabouts setup p phase s
+  AtRouter : (r : ℕ) (order : Option Errand) → r < routers_in setup → place_by phase s r ≡ Live s order → place_in phase ≡ held_at r → Whereabouts setup p phase s
   Halts : (r : ℕ) (order : Order) → r < routers_in setup → place_by phase s r ≡ Frozen s order → place_in phase ≡ held_at r → Whereabouts setup p phase s
   OnWay : (a b : ℕ) (item : Mesh) → a < routers_in setup → b < routers_in setup → a ≢ b → mesh_by phase p s a b ≡ item ∷ [] → (OnMesh (IsNotOn p) item → s.config.peering.0 ≡ p → ⊥)
       → place_in phase ≡ labs.Moving → ((r : ℕ) → sessions_at (place_by phase s r) ≡ []) → Whereabouts setup p phase s
@@ -164,10 +167,11 @@ shadows q k r = by_test (r == q) where
 pub whereabouts : (setup : Setup) (p : ℕ) (phase : Phase) (s : SessionValue) → InBounds setup phase → Whereabouts setup p phase s
 whereabouts setup p (Idle q) s l = AtRouter q None l (placed q (Live s None)) refl
 whereabouts setup p (Busy q k t Ordered) s l = AtRouter q None l.0 (placed q (Live s None)) refl
-whereabouts setup p (Busy q k t Stored) s l = AtRouter q (Some (record { graft = k; target = t })) l.0 (placed q (Live s (Some (record { graft = k; target = t })))) refl
+whereabouts setup p (Busy q k t Stored) s l = AtRouter q (Some (Leaving (record { graft = k; target = t }))) l.0 (placed q (Live s (Some (Leaving (record { graft = k; target = t }))))) refl
 whereabouts setup p (Busy q k t Halted) s l = Halts q (record { graft = k; target = t }) l.0 (placed q (Frozen s (record { graft = k; target = t }))) refl
 whereabouts setup p (Busy q k t Moving) s l = OnWay q t (Moved k p s) l.0 l.1 (λ e. l.2 (sym e)) (alone q t (Moved k p s)) (λ not number. not (sym number) number) refl (shadows q k)
-whereabouts setup p (Busy q k t Landed) s l = AtRouter t None l.1 (rw (itself t) refl) refl
+whereabouts setup p (Busy q k t Landed) s l = AtRouter t (Some (Owing (record { graft = k; source = q }))) l.1 (rw (itself t) refl) refl
+whereabouts setup p (Busy q k t Confirmed) s l = AtRouter t None l.1 (rw (itself t) refl) refl
 whereabouts setup p (Busy q k t (Returning refusal)) s l =
     OnWay t q (Back k p s refusal) l.1 l.0 l.2 (alone t q (Back k p s refusal)) (λ not number. not (sym number) number) refl (shadows q k)
 whereabouts setup p (Busy q k t (Declined refusal)) s l = AtRouter q None l.0 (placed q (Live s None)) refl

@@ -8,7 +8,7 @@ use Rattle.ring_net.specs.declared.entry.Stamped.{Stamped}
 use Rattle.ring_net.specs.declared.parts.Left.{Left}
 use Rattle.ring_net.specs.Phases.{is_edge}
 use Rattle.bgp_session.specs.Running.{RunningSession}
-use Rattle.graft_steps.specs.declared.order.GraftIds.{GraftIds}
+use Rattle.router_core.specs.declared.place.Errand.{Errand}
 use Rattle.session_value.specs.Sessions.{SessionValue}
 use Rattle.session_value.specs.declared.config.SessionConfig.{SessionConfig}
 use Rattle.graft_model.specs.Setups.{Setup, PeeringSetup, IsSetup, routers_in, peerings_in}
@@ -26,9 +26,9 @@ use Rattle.graft_runs.specs.Actors.{actor_at}
 use Rattle.graft_runs.proofs.Numbers.{there}
 use Rattle.graft_actors.specs.Items.{thing_of}
 use Rattle.router_core.specs.declared.place.Place.{Place}
-use Rattle.router_core.specs.declared.place.Place.TheVariants.{Vacant, Live, Shadow}
+use Rattle.router_core.specs.declared.place.Place.TheVariants.{Live, Shadow}
 use Rattle.router_core.specs.Parts.{carried}
-use Rattle.router_core.specs.Places.{place_of, place_at, order_of, sessions_in}
+use Rattle.router_core.specs.Places.{place_of, place_at, errand_of, sessions_in}
 use Rattle.world_nodes.specs.declared.node.Node.{Node}
 use Rattle.world_nodes.specs.Edges.{talks}
 use Rattle.world_nodes.specs.Nodes.{Mail}
@@ -46,37 +46,37 @@ use Rattle.lab_seen.proofs.Ranges.{all_left, all_right, all_unmapped, all_joined
 -- ---- places
 
 -- what holds of the session at each place holds of all sessions of the places
-places_to_sessions : (P : RunningSession → Type 0) (places : List Place) → ((q : ℕ) (x : RunningSession) (o : Option GraftIds) → place_at places q ≡ Live x o → P x) → AllByRecursion P (sessions_in places)
+places_to_sessions : (P : RunningSession → Type 0) (places : List (Option Place)) → ((q : ℕ) (x : RunningSession) (o : Option Errand) → place_at places q ≡ Some (Live x o) → P x) → AllByRecursion P (sessions_in places)
 places_to_sessions P [] each = tt
-places_to_sessions P (Vacant ∷ places) each = places_to_sessions P places (λ q x o e. each (suc q) x o e)
-places_to_sessions P (Live x o ∷ places) each = (each 0 x o refl, places_to_sessions P places (λ q y n e. each (suc q) y n e))
-places_to_sessions P (Shadow away ∷ places) each = places_to_sessions P places (λ q x o e. each (suc q) x o e)
+places_to_sessions P (None ∷ places) each = places_to_sessions P places (λ q x o e. each (suc q) x o e)
+places_to_sessions P (Some (Live x o) ∷ places) each = (each 0 x o refl, places_to_sessions P places (λ q y n e. each (suc q) y n e))
+places_to_sessions P (Some (Shadow away) ∷ places) each = places_to_sessions P places (λ q x o e. each (suc q) x o e)
 
-sessions_to_places : (P : RunningSession → Type 0) (places : List Place) (q : ℕ) (x : RunningSession) (o : Option GraftIds) → place_at places q ≡ Live x o → AllByRecursion P (sessions_in places) → P x
+sessions_to_places : (P : RunningSession → Type 0) (places : List (Option Place)) (q : ℕ) (x : RunningSession) (o : Option Errand) → place_at places q ≡ Some (Live x o) → AllByRecursion P (sessions_in places) → P x
 sessions_to_places P [] q x o e all = absurd cc
-sessions_to_places P (Vacant ∷ places) zero x o e all = absurd cc
-sessions_to_places P (Vacant ∷ places) (suc q) x o e all = sessions_to_places P places q x o e all
-sessions_to_places P (Live y n ∷ places) zero x o e all = let same : y ≡ x = cc in subst P same all.0
-sessions_to_places P (Live y n ∷ places) (suc q) x o e all = sessions_to_places P places q x o e all.1
-sessions_to_places P (Shadow away ∷ places) zero x o e all = absurd cc
-sessions_to_places P (Shadow away ∷ places) (suc q) x o e all = sessions_to_places P places q x o e all
+sessions_to_places P (None ∷ places) zero x o e all = absurd cc
+sessions_to_places P (None ∷ places) (suc q) x o e all = sessions_to_places P places q x o e all
+sessions_to_places P (Some (Live y n) ∷ places) zero x o e all = let same : y ≡ x = cc in subst P same all.0
+sessions_to_places P (Some (Live y n) ∷ places) (suc q) x o e all = sessions_to_places P places q x o e all.1
+sessions_to_places P (Some (Shadow away) ∷ places) zero x o e all = absurd cc
+sessions_to_places P (Some (Shadow away) ∷ places) (suc q) x o e all = sessions_to_places P places q x o e all
 
 -- a place that the model has live is live
-record IsLiveAt (place : Place) (s : SessionValue) : Type 0 where
+record IsLiveAt (place : Option Place) (s : SessionValue) : Type 0 where
   running : RunningSession
-  order : Option GraftIds
-  is : place ≡ Live running order
+  order : Option Errand
+  is : place ≡ Some (Live running order)
   session : running.session ≡ s
 
-live_at : (place : Place) (s : SessionValue) (o : Option model.Order) → place_of place ≡ model.Live s o → IsLiveAt place s
-live_at Vacant s o e = absurd cc
-live_at (Live running order) s o e = record { running = running; order = order; is = refl; session = cc }
-live_at (Shadow away) s o e = absurd cc
+live_at : (place : Option Place) (s : SessionValue) (o : Option model.Errand) → place_of place ≡ model.Live s o → IsLiveAt place s
+live_at None s o e = absurd cc
+live_at (Some (Live running order)) s o e = record { running = running; order = order; is = refl; session = cc }
+live_at (Some (Shadow away)) s o e = absurd cc
 
-never_frozen : (place : Place) (s : SessionValue) (order : model.Order) → place_of place ≡ model.Frozen s order → ⊥
-never_frozen Vacant s order e = cc
-never_frozen (Live running o) s order e = cc
-never_frozen (Shadow away) s order e = cc
+never_frozen : (place : Option Place) (s : SessionValue) (order : model.Order) → place_of place ≡ model.Frozen s order → ⊥
+never_frozen None s order e = cc
+never_frozen (Some (Live running o)) s order e = cc
+never_frozen (Some (Shadow away)) s order e = cc
 
 -- ---- what is found first
 
@@ -107,20 +107,20 @@ module _ (setup : Setup) (w : World) (actors : List Node) (left : List (Left Mai
       number_is config None e is = absurd cc
       number_is config (Some peering) e is = ap (λ (c : SessionConfig). c.peering.0) (sym (same_Some peering.config config is)) ∙ (sound.peerings p peering e).number
 
-  place_is : (r q : ℕ) (here : HasRouter setup w actors left done r) → place_of (place_at here.router.fields.places.items q) ≡ (w.router r).places q
+  place_is : (r q : ℕ) (here : HasRouter setup w actors left done r) → place_of (place_at here.router.fields.places.places q) ≡ (w.router r).places q
   place_is r q here = ap (λ (part : model.RouterPart). part.places q) here.part_is
 
   below_or_past : (k n : ℕ) → (k < n) ⊎ (n ≤ k)
   below_or_past k n = grind arith
 
   -- a session at a router has the number of its place
-  number_at : (r q : ℕ) (here : HasRouter setup w actors left done r) (x : RunningSession) (o : Option GraftIds) → place_at here.router.fields.places.items q ≡ Live x o → x.session.config.peering.0 ≡ q
+  number_at : (r q : ℕ) (here : HasRouter setup w actors left done r) (x : RunningSession) (o : Option Errand) → place_at here.router.fields.places.places q ≡ Some (Live x o) → x.session.config.peering.0 ≡ q
   number_at r q here x o e = elim (below_or_past q (peerings_in setup)) [
     | inl below ↦
         let k = known q below in
-        let it = live_by k.phase k.session r x.session (option_map order_of o) (sym (k.stands.places r) ∙ sym (place_is r q here) ∙ ap place_of e) in
+        let it = live_by k.phase k.session r x.session (option_map errand_of o) (sym (k.stands.places r) ∙ sym (place_is r q here) ∙ ap place_of e) in
         ap (λ (s : SessionValue). s.config.peering.0) it.same ∙ k.number
-    | inr past ↦ absurd (let f : model.Vacant ≡ model.Live x.session (option_map order_of o) = sym (((always_owned setup sound w done.world.1).no_others q past).places r) ∙ sym (place_is r q here) ∙ ap place_of e in cc)
+    | inr past ↦ absurd (let f : model.Vacant ≡ model.Live x.session (option_map errand_of o) = sym (((always_owned setup sound w done.world.1).no_others q past).places r) ∙ sym (place_is r q here) ∙ ap place_of e in cc)
   ]
 
   things : (a b : ℕ) → is_edge done.edges a b ≡ true
@@ -149,14 +149,14 @@ module _ (setup : Setup) (w : World) (actors : List Node) (left : List (Left Mai
     held_only : (r : ℕ) → r < routers_in setup → AllByRecursion IsOnly (held_by r (slice_get actors r))
     held_only r below =
         let here = router_at setup w actors left done r below in
-        let places = here.router.fields.places.items in
+        let places = here.router.fields.places.places in
         subst (λ (o : Option Node). AllByRecursion IsOnly (held_by r o)) (sym here.is)
         (all_mapped (found_at (held_at r)) (λ x. IsOnly (found_at (held_at r) x)) IsOnly (λ x only. only) (sessions_in places) (places_to_sessions (λ x. IsOnly (found_at (held_at r) x)) places (each here)))
       where
-        each : (here : HasRouter setup w actors left done r) (q : ℕ) (x : RunningSession) (o : Option GraftIds) → place_at here.router.fields.places.items q ≡ Live x o → IsOnly (found_at (held_at r) x)
+        each : (here : HasRouter setup w actors left done r) (q : ℕ) (x : RunningSession) (o : Option Errand) → place_at here.router.fields.places.places q ≡ Some (Live x o) → IsOnly (found_at (held_at r) x)
         each here q x o e on =
             let same : q ≡ p = sym (number_at r q here x o e) ∙ on in
-            let it = live_by k.phase k.session r x.session (option_map order_of o) (sym (k.stands.places r) ∙ sym (place_is r p here) ∙ ap (λ n. place_of (place_at here.router.fields.places.items n)) (sym same) ∙ ap place_of e) in
+            let it = live_by k.phase k.session r x.session (option_map errand_of o) (sym (k.stands.places r) ∙ sym (place_is r p here) ∙ ap (λ n. place_of (place_at here.router.fields.places.places n)) (sym same) ∙ ap place_of e) in
             same_one x.session (held_at r) it.same it.place
 
     mesh_only : (a b : ℕ) → AllByRecursion (OnMesh IsOnly) (w.mesh a b)
@@ -182,10 +182,10 @@ module _ (setup : Setup) (w : World) (actors : List Node) (left : List (Left Mai
 
     -- ---- it is found
 
-    held_some : (r : ℕ) (order : Option model.Order) → r < routers_in setup → place_by k.phase k.session r ≡ model.Live k.session order → AllByRecursion (IsNotOn p) (held_by r (slice_get actors r)) → ⊥
+    held_some : (r : ℕ) (order : Option model.Errand) → r < routers_in setup → place_by k.phase k.session r ≡ model.Live k.session order → AllByRecursion (IsNotOn p) (held_by r (slice_get actors r)) → ⊥
     held_some r order below is none =
         let here = router_at setup w actors left done r below in
-        let places = here.router.fields.places.items in
+        let places = here.router.fields.places.places in
         let live = live_at (place_at places p) k.session order (place_is r p here ∙ k.stands.places r ∙ is) in
         let all = subst (λ (o : Option Node). AllByRecursion (IsNotOn p) (held_by r o)) here.is none in
         sessions_to_places (λ x. IsNotOn p (found_at (held_at r) x)) places p live.running live.order live.is (all_unmapped (IsNotOn p) (found_at (held_at r)) (sessions_in places) all)
@@ -194,7 +194,7 @@ module _ (setup : Setup) (w : World) (actors : List Node) (left : List (Left Mai
     halts_nowhere : (r : ℕ) (order : model.Order) → r < routers_in setup → place_by k.phase k.session r ≡ model.Frozen k.session order → ⊥
     halts_nowhere r order below is =
         let here = router_at setup w actors left done r below in
-        never_frozen (place_at here.router.fields.places.items p) k.session order (place_is r p here ∙ k.stands.places r ∙ is)
+        never_frozen (place_at here.router.fields.places.places p) k.session order (place_is r p here ∙ k.stands.places r ∙ is)
 
     moves : (a b : ℕ) (item : Mesh) → a < routers_in setup → b < routers_in setup → a ≢ b → mesh_by k.phase p k.session a b ≡ item ∷ [] → AllByRecursion (IsNotOn p) (flat_map carried_in left) → OnMesh (IsNotOn p) item
     moves a b item a_in b_in apart is none =

@@ -61,7 +61,7 @@ found_at place running = record { peering = running.session.config.peering; plac
 
 abbrev pub sessions_of : Option router_types.Router.Router → List RunningSession
 sessions_of None = []
-sessions_of (Some router) = sessions_in router.fields.places.items
+sessions_of (Some router) = sessions_in router.fields.places.places
 
 -- the sessions that the actor of this number holds
 abbrev pub held_by : ℕ → Option Node → List Found

@@ -214,6 +214,7 @@ module _ (doc : Members) (tables : HasTables doc) (names : HasNames doc) (counts
             home = record {
               home_as = input.home_as;
               offered = x.as4;
+              unicast = x.unicast;
               is = refl;
               as_number = as_number input.home_as tables.home_as;
               hold_fits = number_below 16 0 (codes "home_hold") t (omega arith);

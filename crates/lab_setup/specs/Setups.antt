@@ -52,6 +52,7 @@ config_of input p = record {
   identifier = identifier_at input p.1.at.0;
   remote_as = p.1.remote_as;
   offered = p.1.as4;
+  unicast = p.1.unicast;
   home_hold = p.1.home_hold;
   remote_address = p.1.remote_address;
   local_address = p.1.local_address;

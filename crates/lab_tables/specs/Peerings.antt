@@ -68,6 +68,9 @@ peering_rest =
     ∷ optional (codes "beats") Flag
     ∷ []
 
+abbrev pub peering_last : List KeyRow
+peering_last = optional (codes "unicast") Flag ∷ []
+
 -- the step says raw octets on the peering of this name
 abbrev pub is_raw_of : List ℕ → Data → Bool
 is_raw_of name (table t) = bytes_eq (text_at (codes "do") t) (codes "raw") && bytes_eq (text_at (codes "peering") t) name
@@ -85,7 +88,8 @@ peering_flaw doc i t = first_of (
     ∷ flaw_if (number_or 32 0 (codes "remote_as") t == number_or 32 0 (codes "home_as") doc) (Shape (place (tables.Peering i) (codes "remote_as")))
     ∷ keys_flaw (tables.Peering i) peering_rest t
     ∷ flaw_if (flag_or false (codes "beats") t && not (may_beat doc t)) (Shape (place (tables.Peering i) (codes "beats")))
-    ∷ stray_flaw (tables.Peering i) (names_of (peering_ends ++ peering_rest)) t
+    ∷ keys_flaw (tables.Peering i) peering_last t
+    ∷ stray_flaw (tables.Peering i) (names_of (peering_ends ++ peering_rest ++ peering_last)) t
     ∷ [])
 
 -- capability 65, support for four-octet AS numbers (RFC 6793, section 3)
@@ -127,6 +131,7 @@ peering_of doc routers t = record {
   remote_as4 = remote_as4_of t;
   home_hold = number_or 16 0 (codes "home_hold") t;
   beats = flag_or (may_beat doc t) (codes "beats") t;
+  unicast = flag_or false (codes "unicast") t;
 }
 
 -- ---- planned faults

@@ -50,8 +50,8 @@ pub struct CostInput {
 /// A peering: the router at which it starts, the remote's AS number, which isn't that of the home
 /// network, addresses and identifier, the policies of routes in and out, the sequence numbers of the
 /// first bytes that each side sends, the remote's hold time in seconds, all that it says at first, whether
-/// each side supports four-octet AS numbers, the home side's hold time, and whether the remote sends
-/// KEEPALIVEs of its own.
+/// each side supports four-octet AS numbers, the home side's hold time, whether the remote sends
+/// KEEPALIVEs of its own, and whether the home side's OPEN has the capability of IPv4 unicast.
 #[derive(Debug, Drop)]
 pub struct PeeringInput {
     pub name: Name,
@@ -70,6 +70,7 @@ pub struct PeeringInput {
     pub remote_as4: bool,
     pub home_hold: u16,
     pub beats: bool,
+    pub unicast: bool,
 }
 
 /// A step of the script.

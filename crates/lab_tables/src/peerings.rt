@@ -5,7 +5,7 @@ ghost use Rattle.std.specs.List.{list_any};
 ghost use Rattle.toml.specs.View.{view, table_view};
 ghost use Rattle.lab_keys.specs.Keys.{keys_flaw as keys_flaw_lem};
 ghost use Rattle.lab_keys.specs.Values.{text_at as text_at_lem, maybe_text as maybe_text_lem, items_at as items_at_lem};
-ghost use Rattle.lab_tables.specs.Peerings.{peering_ends as peering_ends_lem, peering_rest as peering_rest_lem, is_raw_of as is_raw_of_lem, may_beat as may_beat_lem, peering_flaw as peering_flaw_lem, remote_id_of as remote_id_of_lem, remote_as4_of as remote_as4_of_lem, opening_of as opening_of_lem, peering_of as peering_of_lem};
+ghost use Rattle.lab_tables.specs.Peerings.{peering_ends as peering_ends_lem, peering_rest as peering_rest_lem, peering_last as peering_last_lem, is_raw_of as is_raw_of_lem, may_beat as may_beat_lem, peering_flaw as peering_flaw_lem, remote_id_of as remote_id_of_lem, remote_as4_of as remote_as4_of_lem, opening_of as opening_of_lem, peering_of as peering_of_lem};
 
 use crate::input::PeeringInput;
 use crate::opening::default_opening;
@@ -36,7 +36,7 @@ fn ends_flaw<'a>(at: TableAt, table: &Table) -> Option<Flaw<'a>>
     keys_flaw(at, &keys, table)
 }
 
-/// The first flaw of the further keys of a peering.
+/// The first flaw of the further keys of a peering, up to `beats`.
 fn rest_flaw<'a>(at: TableAt, table: &Table) -> Option<Flaw<'a>>
     ensures { result ≡ keys_flaw_lem at peering_rest_lem (table_view table.now) }
 {
@@ -118,9 +118,16 @@ fn beats_wrongly(doc: &Table, table: &Table) -> bool
     flag_or(false, "beats", table) && !may_beat(doc, table)
 }
 
+/// The flaw of the last key of a peering.
+fn last_flaw<'a>(at: TableAt, table: &Table) -> Option<Flaw<'a>>
+    ensures { result ≡ keys_flaw_lem at peering_last_lem (table_view table.now) }
+{
+    keys_flaw(at, &[Key::optional("unicast", Kind::Flag)], table)
+}
+
 /// The flaw of a key that isn't a peering's.
 fn stray_of_peering<'a>(at: TableAt, table: &'a Table) -> Option<Flaw<'a>>
-    ensures { result ≡ stray_flaw_lem at (names_of (peering_ends_lem ++ peering_rest_lem)) (table_view table.now) }
+    ensures { result ≡ stray_flaw_lem at (names_of (peering_ends_lem ++ peering_rest_lem ++ peering_last_lem)) (table_view table.now) }
 {
     let known = [
         "name",
@@ -139,6 +146,7 @@ fn stray_of_peering<'a>(at: TableAt, table: &'a Table) -> Option<Flaw<'a>>
         "remote_as4",
         "home_hold",
         "beats",
+        "unicast",
     ];
     stray_flaw(at, &known, table)
 }
@@ -159,6 +167,9 @@ fn peering_flaw<'a>(doc: &Table, i: usize, table: &'a Table) -> Option<Flaw<'a>>
     }
     if beats_wrongly(doc, table) {
         return Some(Flaw::Shape(Spot::of(at, "beats")));
+    }
+    if let Some(flaw) = last_flaw(at, table) {
+        return Some(flaw);
     }
     stray_of_peering(at, table)
 }
@@ -245,6 +256,7 @@ fn peering_of(
         remote_as4: remote_as4_of(table),
         home_hold: short_or(0, "home_hold", table),
         beats: flag_or(may_beat(doc, table), "beats", table),
+        unicast: flag_or(false, "unicast", table),
     })
 }
 

@@ -107,8 +107,9 @@ where
     // Its journal is that of a run of the input's laboratory, whatever its workers and links did, and the lab is
     // what is seen of the world that the run leads to. At every moment each peering has one session, held by one
     // router or one moving capsule, with one legal story of which the bytes each way are the first part, and a refused
-    // graft leaves it unchanged. Between any two marks each actor did what a round asks of it (`RealRounds`). Where the
-    // run is settled, every table solves the decision equations for the placement after the accepted grafts.
+    // graft leaves it unchanged. A source clears a moved session's routes only when it has heard what its target chose
+    // in their place. Between any two marks each actor did what a round asks of it (`RealRounds`). Where the run is
+    // settled, every table solves the decision equations for the placement after the accepted grafts.
     ensures headline { IfSome result.lab RanLab }
 
     // Its text is written whole, under the status of its end, or a write failed and a front of it stands: a report,

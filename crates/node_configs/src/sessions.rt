@@ -59,6 +59,7 @@ fn session_of(
         identifier: identifier_at(&input.routers, peering.at),
         remote_as: peering.remote_as,
         offered: peering.as4,
+        unicast: peering.unicast,
         home_hold: peering.home_hold,
         remote_address: peering.remote_address,
         local_address: peering.local_address,

@@ -10,23 +10,24 @@ use Rattle.session_value.specs.Sessions.{SessionValue}
 use Rattle.graft_model.specs.Setups.{Setup, graft_number, routers_in, peerings_in}
 use Rattle.graft_model.specs.Parts.{OperatorPart}
 use Rattle.graft_model.specs.OperatorRows.{OrderTo, SayTo, ReportIn, OrdersSay, OrdersGraft, Notes, BeginsGroup}
-use Rattle.graft_model.specs.Steps.{Order, Note, Go}
-use Rattle.graft_model.specs.declared.kind.EventKind.TheVariants as kinds
-use Rattle.graft_model.specs.Codes.{number_of}
+use Rattle.graft_model.specs.declared.event.OperatorEvent.TheVariants.{Order, Note, Go}
+use Rattle.graft_model.specs.Codes.{operator_code}
 use Rattle.graft_runs.specs.Actors.{OperatorIs, OrderItem, StepItem, Router, FarSide, Operator, actor_at}
 use Rattle.graft_runs.specs.Laws.{ActorsHaveNumbers}
 use Rattle.graft_actors.specs.Acts.{OwnPart, ActsAs, IsWelcome}
+use Rattle.graft_actors.specs.Notes.{dropped}
+use Rattle.graft_model.specs.declared.code.Code.{Code}
 
 abbrev own : Setup → OperatorPart → OwnPart
 own setup part = record { setup = setup; name = Operator; part = OperatorIs part }
 
--- an entry of this kind and first argument
-abbrev entry_of : ℕ → ℕ → ℕ → ℕ → JournalEntry
-entry_of clock actor kind a = record { clock = clock; actor = actor; kind = kind; a = a; b = 0; c = 0 }
+-- an entry of this code
+abbrev entry_of : ℕ → ℕ → Code → JournalEntry
+entry_of clock actor code = record { clock = clock; actor = actor; kind = code.kind; a = code.a; b = code.b; c = code.c }
 
 module _ {C : Type 0} (session : C → SessionValue) (setup : Setup) (before after : OperatorPart) (clock actor : ℕ) where
   pub says : ActorsHaveNumbers → (n p to : ℕ) → p < peerings_in setup → to ≡ routers_in setup + p → OrdersSay setup n before None (SayTo p n ∷ []) after
-      → ActsAs session (own setup before) (entry_of clock actor (number_of kinds.Order) n) None ((to, SayOrder n) ∷ []) (own setup after)
+      → ActsAs session (own setup before) (entry_of clock actor (operator_code (Order n))) None ((to, SayOrder n) ∷ []) (own setup after)
   says numbers n p to there is row = record {
     setup = refl;
     name = refl;
@@ -48,7 +49,7 @@ module _ {C : Type 0} (session : C → SessionValue) (setup : Setup) (before aft
 
   pub orders : ActorsHaveNumbers → (n k : ℕ) (peering : PeeringId) (target place : RouterId) → place.0 < routers_in setup → k ≡ graft_number setup n
       → OrdersGraft setup n before None (OrderTo place.0 (record { graft = graft_number setup n; peering = peering.0; target = target.0 }) ∷ []) after
-      → ActsAs session (own setup before) (entry_of clock actor (number_of kinds.Order) n) None ((place.0, GraftOrder k peering target) ∷ []) (own setup after)
+      → ActsAs session (own setup before) (entry_of clock actor (operator_code (Order n))) None ((place.0, GraftOrder k peering target) ∷ []) (own setup after)
   orders numbers n k peering target place there is row = record {
     setup = refl;
     name = refl;
@@ -70,7 +71,7 @@ module _ {C : Type 0} (session : C → SessionValue) (setup : Setup) (before aft
 
   pub notes : (r k : ℕ) (outcome : Outcome) → r < routers_in setup → IsWelcome session (own setup before) r (Report k outcome)
       → Notes r before (Some (ReportIn r (record { graft = k; outcome = outcome }))) [] after
-      → ActsAs session (own setup before) (entry_of clock actor (number_of kinds.Note) r) (Some (r, Report k outcome)) [] (own setup after)
+      → ActsAs session (own setup before) (entry_of clock actor (operator_code (Note r))) (Some (r, Report k outcome)) [] (own setup after)
   notes r k outcome there welcome row = record {
     setup = refl;
     name = refl;
@@ -90,7 +91,7 @@ module _ {C : Type 0} (session : C → SessionValue) (setup : Setup) (before aft
     });
   }
 
-  pub goes : BeginsGroup setup before None [] after → ActsAs session (own setup before) (entry_of clock actor (number_of kinds.Go) 0) None [] (own setup after)
+  pub goes : BeginsGroup setup before None [] after → ActsAs session (own setup before) (entry_of clock actor (operator_code Go)) None [] (own setup after)
   goes row = record {
     setup = refl;
     name = refl;
@@ -111,7 +112,7 @@ module _ {C : Type 0} (session : C → SessionValue) (setup : Setup) (before aft
   }
 
   pub drops : (from : ℕ) (item : Item C) → ¬ IsWelcome session (own setup before) from item → after ≡ before
-      → ActsAs session (own setup before) (entry_of clock actor 0 0) (Some (from, item)) [] (own setup after)
+      → ActsAs session (own setup before) (entry_of clock actor dropped) (Some (from, item)) [] (own setup after)
   drops from item unwelcome same = record {
     setup = refl;
     name = refl;

@@ -17,12 +17,12 @@ use Rattle.graft_steps.specs.declared.refusal.Outcome.{Outcome}
 use Rattle.graft_steps.specs.declared.log.GraftEntry.{GraftEntry}
 use Rattle.graft_steps.specs.declared.log.GraftStage.{GraftStage}
 use Rattle.graft_steps.specs.declared.log.GraftStage.TheVariants.{Waiting, Issued, Ended}
-use Rattle.graft_model.specs.declared.kind.EventKind.TheVariants as kinds
-use Rattle.graft_model.specs.Codes.{number_of}
+use Rattle.graft_model.specs.Codes.{operator_code}
 use Rattle.graft_model.specs.Setups.{Setup, ScriptStep as StepOf, SayStep, MoveStep, SettleStep, is_settle, group_of, groups_in, grafts_in, routers_in, peerings_in}
 use Rattle.graft_model.specs.Parts.{OperatorPart}
 use Rattle.graft_model.specs.OperatorRows.{ReportIn, Notes}
-use Rattle.graft_model.specs.Steps.{Order, operator_row}
+use Rattle.graft_model.specs.declared.event.OperatorEvent.TheVariants.{Order, Note}
+use Rattle.graft_model.specs.Steps.{operator_row}
 use Rattle.graft_runs.specs.Actors.{OperatorIs, Router, FarSide, Operator, ActorName, actor_at}
 use Rattle.graft_runs.specs.Laws.{ActorsHaveNumbers, NumbersAreOfActors, IsGo}
 use Rattle.graft_actors.specs.Acts.{acts, IsWelcome, MayComeFrom}
@@ -37,7 +37,7 @@ use Rattle.operator_core.specs.Keeps.{grafts_before, Waits, Keeps}
 use Rattle.operator_core.specs.Issues.{IsHeld, waiting_are}
 use Rattle.operator_core.specs.Tasks.{unissued}
 use Rattle.operator_core.specs.Notes.{graft_noted}
-use Rattle.graft_actors.specs.Notes.{deed_of, WroteOne}
+use Rattle.graft_actors.specs.Notes.{deed_of, WroteOne, dropped}
 use Rattle.operator_core.specs.Turns.{BeginNoGroup, IsHeldUp}
 use Rattle.operator_core.specs.Progresses.{state, own_part_of, IsKnown, IsSound, HasSeats, HasEntries, IsOpenPlace, Ends, SameScript, HeldUpTo, Visits, Turns, Takes}
 use Rattle.operator_core.proofs.Lists.{compare, all_append_right}
@@ -225,10 +225,10 @@ module _ {C : Type 0} where
   only_reports session setup (Some (FarSide p)) (items.SayOrder step) not_report comes = absurd comes
   only_reports session setup (Some Operator) (items.SayOrder step) not_report comes = absurd comes
 
-  pub take_drops : (p : Progress) (from : ℕ) (item : Item C) (before after : Post (Item C)) → ActorsHaveNumbers → IsSound p → WroteOne before 0 0 0 0 [] after
+  pub take_drops : (p : Progress) (from : ℕ) (item : Item C) (before after : Post (Item C)) → ActorsHaveNumbers → IsSound p → WroteOne before dropped [] after
       → ((session : C → SessionValue) → ¬ IsWelcome session (own_part_of (state p)) from item) → Takes from item p before p after
   take_drops p from item before after numbers sound wrote unwelcome = record {
-    deed = deed_of before 0 0 0 0 (Some (from, item)) [];
+    deed = deed_of before dropped (Some (from, item)) [];
     does = record {
       wrote = wrote (Some (from, item));
       replay = λ session. (own_part_of (state p), drops session p.known.setup (part_of (state p)) (part_of (state p)) (clock_of before + 1) (actor_of before) from item (unwelcome session) refl, refl);
@@ -260,9 +260,9 @@ module _ {C : Type 0} where
       absurd cc
 
   pub take_notes : (old new : Progress) (from k place : ℕ) (x : Outcome) (before after : Post (Item C)) → ActorsHaveNumbers → TakesReports C → IsSound old → from < length old.script.rooms → IsOpenPlace old.log k (Some place)
-      → WroteOne before (number_of kinds.Note) from 0 0 [] after → Ends old place x new → Takes from (items.Report k x) old before new after
+      → WroteOne before (operator_code (Note from)) [] after → Ends old place x new → Takes from (items.Report k x) old before new after
   take_notes old new from k place x before after numbers law sound l is_place wrote ends = record {
-    deed = deed_of before (number_of kinds.Note) from 0 0 (Some (from, items.Report k x)) [];
+    deed = deed_of before (operator_code (Note from)) (Some (from, items.Report k x)) [];
     does = record {
       wrote = wrote (Some (from, items.Report k x));
       replay = λ session. (
@@ -396,10 +396,6 @@ open_entry_has_seat p sound place entry e =
 
 pub differ : (b : Bool) → b ≡ true → b ≡ false → ⊥
 differ b e f = let g : true ≡ false = sym e ∙ f in cc
-
--- an event of a kind by its number
-pub note_at : {C : Type 0} (before after : Post (Item C)) (kind number a : ℕ) (sent : List (ℕ × Item C)) → kind ≡ number → WroteOne before kind a 0 0 sent after → WroteOne before number a 0 0 sent after
-note_at before after kind number a sent same wrote = subst (λ n. WroteOne before n a 0 0 sent after) same wrote
 
 pub not_issued : (b : Bool) → not b ≡ true → b ≡ false
 not_issued true e = absurd cc

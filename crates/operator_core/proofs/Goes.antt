@@ -11,8 +11,7 @@ use Rattle.ring_net.proofs.PostLaws.{wrote_none}
 use Rattle.graft_edge.specs.declared.ids.RouterId.{RouterId}
 use Rattle.graft_steps.specs.declared.item.Item.{Item}
 use Rattle.graft_steps.specs.declared.log.GraftEntry.{GraftEntry}
-use Rattle.graft_model.specs.declared.kind.EventKind.TheVariants as kinds
-use Rattle.graft_model.specs.Codes.{number_of}
+use Rattle.graft_model.specs.Codes.{operator_code}
 use Rattle.graft_model.specs.Setups.{Setup, PeeringSetup, SettleStep, group_of, groups_in, routers_in, peerings_in}
 use Rattle.graft_model.specs.OperatorRows.{BeginsGroup}
 use Rattle.graft_actors.specs.declared.known.Known.{Known}
@@ -38,6 +37,7 @@ use Rattle.operator_core.proofs.Calls.{nothing_waits, nothing_open}
 use Rattle.operator_core.proofs.Lists.{compare}
 use Rattle.operator_core.proofs.Scripts.{group_least, group_after_settle}
 use Rattle.operator_core.proofs.Rests.{some_unissued, unissued_there, none_is_open, found_first, open_there, open_entry}
+use Rattle.graft_model.specs.declared.event.OperatorEvent.TheVariants.{Go}
 
 -- ---- whether the next group may begin
 
@@ -106,9 +106,9 @@ module _ {C : Type 0} (old new : Progress) (before after : Post (Item C)) (sound
 
   pub go_begins : (IsHeldUp old.known.setup (part_of (state old)) → ⊥) → (group : Group) → IsGroupFrom old.script.steps old.next group → IsKnown new → new.known ≡ old.known
       → state new ≡ record (state old) { group = old.group + 1; next = group.next; waiting = group.steps }
-      → WroteOne before (number_of kinds.Go) 0 0 0 [] after → Goes old before new after true
+      → WroteOne before (operator_code Go) [] after → Goes old before new after true
   go_begins free group from known same new_is wrote = record {
-    deeds = deed_of before (number_of kinds.Go) 0 0 0 None [] ∷ [];
+    deeds = deed_of before (operator_code Go) None [] ∷ [];
     does = record {
       wrote = wrote None;
       replay = λ session. (own_part_of (record (state old) { group = old.group + 1; next = old.next + length group.steps + 1; waiting = range_with_len old.next (length group.steps) }), goes session old.known.setup (part_of (state old)) (part_of (record (state old) { group = old.group + 1; next = old.next + length group.steps + 1; waiting = range_with_len old.next (length group.steps) })) (clock_of before + 1) (actor_of before) row, ap own_part_of whole);

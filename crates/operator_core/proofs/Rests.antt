@@ -12,7 +12,8 @@ use Rattle.graft_steps.specs.declared.log.GraftStage.TheVariants.{Waiting, Issue
 use Rattle.graft_model.specs.Setups.{ScriptStep, SayStep, MoveStep, SettleStep, group_of, grafts_in, graft_number}
 use Rattle.graft_model.specs.Parts.{OperatorPart}
 use Rattle.graft_model.specs.OperatorRows.{OperatorSent, OrdersGraft}
-use Rattle.graft_model.specs.Steps.{Order, operator_row}
+use Rattle.graft_model.specs.declared.event.OperatorEvent.TheVariants.{Order}
+use Rattle.graft_model.specs.Steps.{operator_row}
 use Rattle.settled_check.specs.Firsts.{IsLowestOf}
 use Rattle.settled_check.specs.Left.{HasUnissued, IsOpen}
 use Rattle.operator_core.specs.Grafts.{is_waiting, is_open, outcome_at, source_in, outcome_in, stage_of, entry_of, log_of}

@@ -10,8 +10,7 @@ use Rattle.graft_edge.specs.declared.ids.PeeringId.{PeeringId}
 use Rattle.graft_edge.specs.declared.ids.RouterId.{RouterId}
 use Rattle.graft_steps.specs.declared.item.Item.{Item}
 use Rattle.graft_steps.specs.declared.item.Item.TheVariants.{SayOrder, GraftOrder}
-use Rattle.graft_model.specs.declared.kind.EventKind.TheVariants as kinds
-use Rattle.graft_model.specs.Codes.{number_of}
+use Rattle.graft_model.specs.Codes.{operator_code}
 use Rattle.graft_model.specs.Setups.{MoveStep, graft_number}
 use Rattle.graft_runs.specs.Laws.{ActorsHaveNumbers}
 use Rattle.operator_core.specs.declared.grafts.Seat.{Seat}
@@ -29,13 +28,14 @@ use Rattle.operator_core.proofs.Tasks.{done, split_at, split_done, before_done, 
 use Rattle.operator_core.proofs.Steps.{say_there, move_there, settle_there, as_many_routers, number_at}
 use Rattle.operator_core.proofs.Issues.{waits, say_keeps, say_row, graft_keeps, graft_row, held_still}
 use Rattle.operator_core.proofs.Acts.{says, orders}
+use Rattle.graft_model.specs.declared.event.OperatorEvent.TheVariants.{Go, Order}
 
 pub same_script : (p : Progress) → SameScript p p
 same_script p = record { known = refl; script = refl; numbers = refl; group = refl; next = refl }
 
 -- an order is an event of another kind than the beginning of a group
-no_go : number_of kinds.Order ≡ number_of kinds.Go → ⊥
-no_go e = omega (arith, e)
+no_go : (step : ℕ) → (operator_code (Order step)).kind ≡ (operator_code Go).kind → ⊥
+no_go step e = omega (arith, e)
 
 next_place : (n : ℕ) → n + 1 ≡ suc n
 next_place n = omega arith
@@ -101,12 +101,12 @@ module _ {C : Type 0} (old : Progress) (place : ℕ) (task : Task) (there : slic
     then a b c h k = record { known = k.known ∙ h.known; script = k.script ∙ h.script; numbers = k.numbers ∙ h.numbers; group = k.group ∙ h.group; next = k.next ∙ h.next }
 
     pub visit_says : (p : PeeringId) → slice_get old.script.steps task.step ≡ Some (Say p) → SameScript old mid → mid.waiting.items ≡ old.waiting.items → state mid ≡ state old
-        → Wrote before (deed_of before (number_of kinds.Order) task.step 0 0 None ((length old.script.rooms + p.0, SayOrder task.step) ∷ []) ∷ []) after → Visits old place before new after
+        → Wrote before (deed_of before (operator_code (Order task.step)) None ((length old.script.rooms + p.0, SayOrder task.step) ∷ []) ∷ []) after → Visits old place before new after
     visit_says p is same waiting state_is wrote = record {
-      deeds = deed_of before (number_of kinds.Order) task.step 0 0 None ((length old.script.rooms + p.0, SayOrder task.step) ∷ []) ∷ [];
+      deeds = deed_of before (operator_code (Order task.step)) None ((length old.script.rooms + p.0, SayOrder task.step) ∷ []) ∷ [];
       wrote = wrote;
       none = (refl, tt);
-      no_go = (no_go, tt);
+      no_go = (no_go task.step, tt);
       same = then old mid new same mid_new;
       as_many = as_many_tasks waiting;
       keeps = λ known keeps helds. subst Keeps (sym whole) (
@@ -132,10 +132,10 @@ module _ {C : Type 0} (old : Progress) (place : ℕ) (task : Task) (there : slic
     pub visit_orders : (p : PeeringId) (target : RouterId) → slice_get old.script.steps task.step ≡ Some (Graft p target) → (seat : Seat) → slice_get old.seats.items p.0 ≡ Some seat → seat.moving ≡ false
         → IssuesGraft old task.step p target before mid after → Visits old place before new after
     visit_orders p target is seat seated still issued = record {
-      deeds = deed_of before (number_of kinds.Order) task.step 0 0 None ((issued.seat.place.0, GraftOrder (slice_index_or old.numbers task.step 0) p target) ∷ []) ∷ [];
+      deeds = deed_of before (operator_code (Order task.step)) None ((issued.seat.place.0, GraftOrder (slice_index_or old.numbers task.step 0) p target) ∷ []) ∷ [];
       wrote = issued.wrote;
       none = (refl, tt);
-      no_go = (no_go, tt);
+      no_go = (no_go task.step, tt);
       same = then old mid new issued.same mid_new;
       as_many = as_many_tasks issued.waiting;
       keeps = λ known keeps helds. subst Keeps (sym (whole known))

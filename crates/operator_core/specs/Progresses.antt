@@ -11,8 +11,7 @@ use Rattle.graft_steps.specs.declared.log.GraftEntry.{GraftEntry}
 use Rattle.graft_steps.specs.declared.refusal.Outcome.{Outcome}
 use Rattle.graft_steps.specs.declared.item.Item.{Item}
 use Rattle.graft_steps.specs.declared.item.Item.TheVariants.{GraftOrder}
-use Rattle.graft_model.specs.declared.kind.EventKind.TheVariants as kinds
-use Rattle.graft_model.specs.Codes.{number_of}
+use Rattle.graft_model.specs.Codes.{operator_code}
 use Rattle.graft_model.specs.First.{first_world}
 use Rattle.graft_actors.specs.declared.known.Known.{Known}
 use Rattle.graft_runs.specs.Actors.{OperatorIs, Operator as TheOperator}
@@ -30,6 +29,7 @@ use Rattle.operator_core.specs.States.{State, part_of}
 use Rattle.operator_core.specs.Keeps.{Keeps}
 use Rattle.operator_core.specs.Issues.{IsHeld, graft_issued}
 use Rattle.graft_actors.specs.Notes.{deed_of}
+use Rattle.graft_model.specs.declared.event.OperatorEvent.TheVariants.{Order}
 
 abbrev pub state : Progress → State
 state p = record { setup = p.known.setup; group = p.group; next = p.next; waiting = unissued p.waiting.items; log = p.log; seats = p.seats.items }
@@ -102,7 +102,7 @@ module _ {C : Type 0} where
     pub same : SameScript old new
     pub waiting : new.waiting.items ≡ old.waiting.items
     pub changes : state new ≡ graft_issued (state old) (slice_index_or old.numbers step 0 - 1) peering.0 target.0 seat
-    pub wrote : Wrote before (deed_of before (number_of kinds.Order) step 0 0 None ((seat.place.0, GraftOrder (slice_index_or old.numbers step 0) peering target) ∷ []) ∷ []) after
+    pub wrote : Wrote before (deed_of before (operator_code (Order step)) None ((seat.place.0, GraftOrder (slice_index_or old.numbers step 0) peering target) ∷ []) ∷ []) after
 
   -- A task is visited, where those before it are issued or held up: it was issued, or is held up.
   pub record Visits (old : Progress) (place : ℕ) (before : Post (Item C)) (new : Progress) (after : Post (Item C)) : Type 0 where

@@ -6,7 +6,8 @@ use Rattle.graft_steps.specs.declared.item.Item.{Item}
 use Rattle.graft_model.specs.Setups.{Setup, groups_in}
 use Rattle.graft_model.specs.Parts.{OperatorPart}
 use Rattle.graft_model.specs.OperatorRows.{OperatorSent}
-use Rattle.graft_model.specs.Steps.{Order, operator_row}
+use Rattle.graft_model.specs.declared.event.OperatorEvent.TheVariants.{Order}
+use Rattle.graft_model.specs.Steps.{operator_row}
 use Rattle.graft_runs.specs.Laws.{IsGo}
 use Rattle.settled_check.specs.Left.{HasUnissued, IsOpen}
 

@@ -3,16 +3,18 @@
 ghost use Rattle.std.specs.Prelude.{◌≡◌, ◌≤◌, ◌<◌, ◌+◌, ◌-◌, ◌∷◌, [], ℕ, None, Some, length, OnOk, OnErr, IfOk, IsTrue, ◌↔◌, slice_get, slice_set, slice_index_or, Option, false, true, filter, not};
 ghost use Rattle.ring_net.specs.Posts.{Wrote, SameEdges};
 ghost use Rattle.graft_steps.specs.declared.item.Item.{Item};
-ghost use Rattle.graft_model.specs.declared.kind.EventKind.TheVariants as kinds;
-ghost use Rattle.graft_model.specs.Codes.{number_of};
+ghost use Rattle.graft_model.specs.declared.event.OperatorEvent.TheVariants as events;
+ghost use Rattle.graft_model.specs.Codes.{operator_code};
 ghost use Rattle.graft_actors.specs.Notes.{deed_of};
 
 use crate::grafts::{Seat, first_open, first_seats, is_issued, set_entry, waiting_log};
 use crate::groups::{Task, drop_issued, graft_numbers, group_from, has_unissued, new_tasks};
 use crate::script::{Script, ScriptStep};
-use graft_actors::{Known, note, note_sent, the_operator_takes_what_comes};
+use graft_actors::{
+    Known, note_dropped, note_operator, note_operator_sent, the_operator_takes_what_comes,
+};
 use graft_edge::{Items, NoMemory, PeeringId, RouterId};
-use graft_model::EventKind;
+use graft_model::OperatorEvent;
 use graft_runs::actors_have_their_numbers;
 use graft_steps::{GraftEntry, GraftLog, GraftStage, Item, OperatorRest, Outcome};
 use ring_net::Post;
@@ -43,10 +45,10 @@ fn note_order<C: Drop>(
     to: usize,
     item: Item<C>,
 ) -> Result<(), NoMemory>
-    ensures ok { OnOk result (Wrote post.old (deed_of post.old (number_of kinds.Order) step 0 0 None ((to, item) ∷ []) ∷ []) post.new) }
+    ensures ok { OnOk result (Wrote post.old (deed_of post.old (operator_code (events.Order step)) None ((to, item) ∷ []) ∷ []) post.new) }
     ensures edges { SameEdges post.old post.new }
 {
-    note_sent(post, EventKind::Order.number(), step, 0, 0, to, item)
+    note_operator_sent(post, OperatorEvent::Order { step }, to, item)
 }
 
 impl Progress {
@@ -89,7 +91,7 @@ impl Progress {
         post: &mut Post<Item<C>>,
     ) -> Result<(), NoMemory>
         requires few { length self.now.script.rooms ≤ 256 }
-        ensures ok { OnOk result (Wrote post.old (deed_of post.old (number_of kinds.Order) step 0 0 None ((length self.now.script.rooms + peering.0, Item.SayOrder step) ∷ []) ∷ []) post.new) }
+        ensures ok { OnOk result (Wrote post.old (deed_of post.old (operator_code (events.Order step)) None ((length self.now.script.rooms + peering.0, Item.SayOrder step) ∷ []) ∷ []) post.new) }
         ensures edges { SameEdges post.old post.new }
     {
         let far_side = self.script.rooms.len() + usize::from(peering.0);
@@ -323,15 +325,16 @@ impl Progress {
         actors_have_their_numbers();
         the_operator_takes_what_comes::<C>();
         let Item::Report { graft, outcome } = item else {
-            return note(post, 0, 0, 0, 0);
+            return note_dropped(post);
         };
         if from >= self.script.rooms.len() {
-            return note(post, 0, 0, 0, 0);
+            return note_dropped(post);
         }
         let Some(place) = self.open_place(graft) else {
-            return note(post, 0, 0, 0, 0);
+            return note_dropped(post);
         };
-        note(post, EventKind::Note.number(), from as u32, 0, 0)?;
+        let router = from as u32;
+        note_operator(post, OperatorEvent::Note { router })?;
         self.end(place, outcome);
         Ok(())
     }
@@ -364,7 +367,7 @@ impl Progress {
         }
         let group = group_from(self.alloc, self.script.steps.as_slice(), self.next)?;
         let waiting = new_tasks(self.alloc, group.steps.as_slice())?;
-        note(post, EventKind::Go.number(), 0, 0, 0)?;
+        note_operator(post, OperatorEvent::Go)?;
         self.group += 1;
         self.next = group.next;
         self.waiting = waiting;

@@ -2,7 +2,7 @@
 use Rattle.std.specs.Prelude.{ℕ, ◌≡◌, ◌⊎◌, List, [], ◌∷◌, length, Option}
 use Rattle.ring_net.specs.Deeds.{Deed}
 use Rattle.graft_steps.specs.declared.item.Item.{Item}
-use Rattle.graft_steps.specs.declared.order.GraftIds.{GraftIds}
+use Rattle.router_core.specs.declared.place.Errand.{Errand}
 use Rattle.bgp_session.specs.Running.{RunningSession}
 use Rattle.bgp_session.specs.Steps.{MayPass}
 use Rattle.graft_actors.specs.Acts.{IsWelcome}
@@ -24,7 +24,7 @@ TakesAreCalm = (old new : router_fields.Fields.Fields) (from : ℕ) (item : Item
 
 -- a router's turn passes one round on each session that is live at its start, where one may pass, and else none
 abbrev pub TurnsPassOne : Type 0
-TurnsPassOne = (old new : router_fields.Fields.Fields) (deeds : List (Deed (Item RunningSession))) (turned : router_turns.Turned old deeds new) (p : ℕ) (s : RunningSession) (o : Option GraftIds) → RunsAt old.places.items p s o
+TurnsPassOne = (old new : router_fields.Fields.Fields) (deeds : List (Deed (Item RunningSession))) (turned : router_turns.Turned old deeds new) (p : ℕ) (s : RunningSession) (o : Option Errand) → RunsAt old.places.places p s o
     → (MayPass s.session new.turns × (rounds_on p turned.events ≡ new.turns ∷ [])) ⊎ ((¬ MayPass s.session new.turns) × (rounds_on p turned.events ≡ []))
 
 -- a far side's take is one event

@@ -10,11 +10,12 @@ use Rattle.ring_net.specs.Deeds.{Deed, deeds, entries_of}
 use Rattle.ring_net.specs.Phases.{View}
 use Rattle.ring_net.proofs.Replays.{all-append}
 use Rattle.journal_merge.specs.Merges.{Interleaves, entries_by, upto}
-use Rattle.graft_model.specs.declared.kind.EventKind.TheVariants as kinds
-use Rattle.graft_model.specs.Codes.{number_of, router_code}
+use Rattle.graft_model.specs.Codes.{router_code}
 use Rattle.graft_model.specs.First.{first_world}
 use Rattle.graft_model.specs.Setups.{Setup, routers_in}
-use Rattle.graft_model.specs.Steps.{RouterEvent, Put, Emit, Arrive, Stray, Got, Decide, Tell, Hear, Admit, Refuse, Freeze, Leave, Land, TurnBack, Return, Clear, Tick, Event, ByRouter, ByFar, ByOperator}
+use Rattle.graft_model.specs.declared.event.RouterEvent.{RouterEvent}
+use Rattle.graft_model.specs.declared.event.RouterEvent.TheVariants.{Tick}
+use Rattle.graft_model.specs.Steps.{Event, ByRouter, ByFar, ByOperator}
 use Rattle.graft_runs.specs.Laws.{IsEntryOf, AreEntriesOf}
 use Rattle.router_core.specs.Parts.{carried}
 use Rattle.router_core.specs.Rounds as router_rounds
@@ -43,29 +44,14 @@ use Rattle.real_rounds.proofs.TickLaws.{EarlyPlace, NotLate, NotLateEvent, early
 
 -- if it is that of a Tick, the Tick has a number below this one
 abbrev TickBelow : ℕ → JournalEntry → Type 0
-TickBelow n entry = entry.kind ≡ number_of kinds.Tick → entry.b < n
+TickBelow n entry = entry.kind ≡ (router_code (Tick 0 0)).kind → entry.b < n
 
 abbrev IsTick : RouterEvent → Type 0
 IsTick event = (p : ℕ) × (round : ℕ) × (event ≡ Tick p round)
 
-tick_of : (event : RouterEvent) → number_of (router_code event).kind ≡ number_of kinds.Tick → IsTick event
-tick_of (Put p n) e = absurd (omega (arith, e))
-tick_of (Emit p from len) e = absurd (omega (arith, e))
-tick_of (Arrive p) e = absurd (omega (arith, e))
-tick_of (Stray p) e = absurd (omega (arith, e))
-tick_of (Got p) e = absurd (omega (arith, e))
-tick_of (Decide prefix) e = absurd (omega (arith, e))
-tick_of (Tell q prefix) e = absurd (omega (arith, e))
-tick_of (Hear q) e = absurd (omega (arith, e))
-tick_of (Admit k) e = absurd (omega (arith, e))
-tick_of (Refuse k) e = absurd (omega (arith, e))
-tick_of (Freeze k) e = absurd (omega (arith, e))
-tick_of (Leave k) e = absurd (omega (arith, e))
-tick_of (Land q) e = absurd (omega (arith, e))
-tick_of (TurnBack q) e = absurd (omega (arith, e))
-tick_of (Return q) e = absurd (omega (arith, e))
-tick_of (Clear q) e = absurd (omega (arith, e))
+tick_of : (event : RouterEvent) → (router_code event).kind ≡ (router_code (Tick 0 0)).kind → IsTick event
 tick_of (Tick p round) e = (p, round, refl)
+tick_of _ e = absurd (omega (arith, e))
 
 itself : (n : ℕ) → (n == n) ≡ true
 itself n = grind (arith, nat_tests)
@@ -103,27 +89,12 @@ merged_all P routers (x ∷ xs) each = (
     rest false es all = all
 
 not_late : (n : ℕ) (event : RouterEvent) → ((p round : ℕ) → event ≡ Tick p round → round < n) → NotLate n event
-not_late n (Put p k) h = tt
-not_late n (Emit p from len) h = tt
-not_late n (Arrive p) h = tt
-not_late n (Stray p) h = tt
-not_late n (Got p) h = tt
-not_late n (Decide prefix) h = tt
-not_late n (Tell q prefix) h = tt
-not_late n (Hear q) h = tt
-not_late n (Admit k) h = tt
-not_late n (Refuse k) h = tt
-not_late n (Freeze k) h = tt
-not_late n (Leave k) h = tt
-not_late n (Land q) h = tt
-not_late n (TurnBack q) h = tt
-not_late n (Return q) h = tt
-not_late n (Clear q) h = tt
 not_late n (Tick p round) h = h p round refl
+not_late n _ h = tt
 
 event_not_late : (setup : Setup) (n : ℕ) (event : Event) (entry : JournalEntry) → IsEntryOf setup event entry → (entry.actor < routers_in setup → TickBelow n entry) → NotLateEvent n event
 event_not_late setup n (ByRouter r event) entry is below = not_late n event (λ p round e. (
-    let kind : entry.kind ≡ number_of kinds.Tick = is.coded.kind ∙ ap (λ (x : RouterEvent). number_of (router_code x).kind) e in
+    let kind : entry.kind ≡ (router_code (Tick 0 0)).kind = is.coded.kind ∙ ap (λ (x : RouterEvent). (router_code x).kind) e in
     let b_is : entry.b ≡ round = is.coded.b ∙ ap (λ (x : RouterEvent). (router_code x).b) e in
     let l : entry.b < n = below (let r_in = is.there in let maker = is.maker in omega (arith, r_in, maker)) kind in
     omega (arith, l, b_is)))

@@ -12,7 +12,8 @@ use Rattle.tcp_seq.specs.Endpoint.{Endpoint, next_length, again_length}
 use Rattle.tcp_seq.specs.declared.segment.Way.{Way}
 use Rattle.tcp_seq.specs.declared.segment.Way.TheVariants.{Home, Remote}
 use Rattle.graft_model.specs.Setups.{Setup, beat_of}
-use Rattle.graft_model.specs.Steps.{FarEvent, Send, Beat}
+use Rattle.graft_model.specs.declared.event.FarEvent.{FarEvent}
+use Rattle.graft_model.specs.declared.event.FarEvent.TheVariants.{Send, Beat}
 use Rattle.graft_actors.specs.Emissions.{Tally, nothing}
 use Rattle.far_side.specs.Links.{home_events, remote_events, left_of, LinkValue}
 use Rattle.far_side.specs.Parts.{far_part, HasLinks}

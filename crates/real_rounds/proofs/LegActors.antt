@@ -12,14 +12,14 @@ use Rattle.ring_net.specs.Turns.{ActorDid}
 use Rattle.ring_net.proofs.Replays.{replay-append, all-append}
 use Rattle.journal_merge.specs.Merges.{Interleaves}
 use Rattle.session_value.specs.Sessions.{SessionValue}
-use Rattle.graft_steps.specs.declared.order.GraftIds.{GraftIds}
+use Rattle.router_core.specs.declared.place.Errand.{Errand}
 use Rattle.bgp_session.specs.Running.{RunningSession}
 use Rattle.graft_model.specs.Codes.{router_code, far_code, operator_code}
 use Rattle.graft_model.specs.First.{place_in, first_router, first_far}
 use Rattle.graft_model.specs.Parts as model
 use Rattle.graft_model.specs.Parts.{World, RouterPart, FarPart, OperatorPart}
 use Rattle.graft_model.specs.Setups.{Setup, PeeringSetup, beat_of, routers_in, peerings_in}
-use Rattle.graft_model.specs.Steps.{FarEvent}
+use Rattle.graft_model.specs.declared.event.FarEvent.{FarEvent}
 use Rattle.graft_runs.specs.Actors as names
 use Rattle.graft_runs.specs.Actors.{RouterIs, FarIs, OperatorIs}
 use Rattle.graft_runs.specs.Seen.{part_of}
@@ -107,10 +107,10 @@ operator_is e = cc
 
 -- ---- at the beginning
 
-first_acked : (setup : Setup) (r p : ℕ) (s : SessionValue) (o : Option model.Order) → (first_router setup r).places p ≡ model.Live s o → s.end.acked ≡ 0
+first_acked : (setup : Setup) (r p : ℕ) (s : SessionValue) (o : Option model.Errand) → (first_router setup r).places p ≡ model.Live s o → s.end.acked ≡ 0
 first_acked setup r p s o is = by_peering (slice_get setup.peerings p) is
   where
-    live_end : (x s : SessionValue) (o q : Option model.Order) → model.Live x q ≡ model.Live s o → s ≡ x
+    live_end : (x s : SessionValue) (o q : Option model.Errand) → model.Live x q ≡ model.Live s o → s ≡ x
     live_end x s o q e = cc
 
     by_start : (b : Bool) (x : SessionValue) → x.end.acked ≡ 0 → (if b then model.Live x None else model.Vacant) ≡ model.Live s o → s.end.acked ≡ 0
@@ -139,7 +139,7 @@ fresh_links setup faults (Operator x) fresh = refl
 
 -- the Ticks of each session that runs at a router have lower numbers
 abbrev pub HasEarlier : ℕ → router_fields.Fields.Fields → Type 0
-HasEarlier round f = (p : ℕ) (s : RunningSession) (o : Option GraftIds) → RunsAt f.places.items p s o → All (IsEarlier round) s.session.story
+HasEarlier round f = (p : ℕ) (s : RunningSession) (o : Option Errand) → RunsAt f.places.places p s o → All (IsEarlier round) s.session.story
 
 -- On a session that stands through a round, with a hold time that runs, the round may pass in the turn.
 abbrev pub Ticking : CallsSay → Type 0
@@ -174,7 +174,7 @@ module _ (law : CallsSay) (setup : Setup) (faults : List Fault) (a b : Stand) (b
 
   -- what is left of the law: each Tick of a session that is live at a mark has the number of a round before it
   abbrev pub TicksAreEarlier : Type 0
-  TicksAreEarlier = (k : ℕ) → k ≤ legs.made → (r p : ℕ) (s : SessionValue) (o : Option model.Order) → ((world k).router r).places p ≡ model.Live s o → All (IsEarlier (k + 1)) s.story
+  TicksAreEarlier = (k : ℕ) → k ≤ legs.made → (r p : ℕ) (s : SessionValue) (o : Option model.Errand) → ((world k).router r).places p ≡ model.Live s o → All (IsEarlier (k + 1)) s.story
 
   -- ---- routers
 

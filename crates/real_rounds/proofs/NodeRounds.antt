@@ -9,7 +9,8 @@ use Rattle.ring_net.specs.Turns.{ActorDid, Tooks, stays, takes}
 use Rattle.graft_model.specs.Codes.{operator_code}
 use Rattle.graft_model.specs.Parts.{OperatorPart}
 use Rattle.graft_model.specs.Setups.{Setup}
-use Rattle.graft_model.specs.Steps.{OperatorEvent, operator_row}
+use Rattle.graft_model.specs.declared.event.OperatorEvent.{OperatorEvent}
+use Rattle.graft_model.specs.Steps.{operator_row}
 use Rattle.graft_model.specs.OperatorRows.{OperatorTaken, OperatorSent}
 use Rattle.graft_runs.specs.Actors as names
 use Rattle.graft_runs.specs.Actors.{ActorPart, RouterIs, FarIs, OperatorIs, Thing}

@@ -8,7 +8,9 @@ use Rattle.ring_net.specs.Deeds.{Deed, Replay, TakesNone, TakesFirst}
 use Rattle.graft_model.specs.Setups.{Setup}
 use Rattle.graft_model.specs.Parts.{RouterPart}
 use Rattle.graft_model.specs.RouterRows.{RouterTaken, RouterSent}
-use Rattle.graft_model.specs.Steps.{router_row, RouterEvent, Put, Emit, Arrive, Stray, Got, Decide, Tell, Hear, Admit, Refuse, Freeze, Leave, Land, TurnBack, Return, Clear, Tick}
+use Rattle.graft_model.specs.declared.event.RouterEvent.{RouterEvent}
+use Rattle.graft_model.specs.declared.event.RouterEvent.TheVariants.{Land, Return}
+use Rattle.graft_model.specs.Steps.{router_row}
 use Rattle.graft_runs.specs.Actors.{ActorPart, RouterIs, FarIs, OperatorIs, Thing, ActorName, Router, FarSide, Operator}
 use Rattle.graft_runs.specs.Makes.{makes_as}
 use Rattle.graft_actors.specs.Acts.{OwnPart, ActsAs, IsWelcome, acts, things}
@@ -38,23 +40,9 @@ took_welcome n p q from item (d ∷ ds) first replay all =
 -- ---- what takes nothing lands nobody
 
 untaken_row : (setup : Setup) (r : ℕ) (event : RouterEvent) (a b : RouterPart) (taken : Option RouterTaken) (sent : List RouterSent) → router_row setup r event a taken sent b → taken ≡ None → LandsNobody event
-untaken_row setup r (Put p n) a b taken sent row none = record { land = λ e. absurd (omega (arith, e)); return = λ e. absurd (omega (arith, e)) }
-untaken_row setup r (Emit p from len) a b taken sent row none = record { land = λ e. absurd (omega (arith, e)); return = λ e. absurd (omega (arith, e)) }
-untaken_row setup r (Arrive p) a b taken sent row none = record { land = λ e. absurd (omega (arith, e)); return = λ e. absurd (omega (arith, e)) }
-untaken_row setup r (Stray p) a b taken sent row none = record { land = λ e. absurd (omega (arith, e)); return = λ e. absurd (omega (arith, e)) }
-untaken_row setup r (Got p) a b taken sent row none = record { land = λ e. absurd (omega (arith, e)); return = λ e. absurd (omega (arith, e)) }
-untaken_row setup r (Decide prefix) a b taken sent row none = record { land = λ e. absurd (omega (arith, e)); return = λ e. absurd (omega (arith, e)) }
-untaken_row setup r (Tell q prefix) a b taken sent row none = record { land = λ e. absurd (omega (arith, e)); return = λ e. absurd (omega (arith, e)) }
-untaken_row setup r (Hear q) a b taken sent row none = record { land = λ e. absurd (omega (arith, e)); return = λ e. absurd (omega (arith, e)) }
-untaken_row setup r (Admit k) a b taken sent row none = record { land = λ e. absurd (omega (arith, e)); return = λ e. absurd (omega (arith, e)) }
-untaken_row setup r (Refuse k) a b taken sent row none = record { land = λ e. absurd (omega (arith, e)); return = λ e. absurd (omega (arith, e)) }
-untaken_row setup r (Freeze k) a b taken sent row none = record { land = λ e. absurd (omega (arith, e)); return = λ e. absurd (omega (arith, e)) }
-untaken_row setup r (Leave k) a b taken sent row none = record { land = λ e. absurd (omega (arith, e)); return = λ e. absurd (omega (arith, e)) }
 untaken_row setup r (Land q) a b taken sent row none = absurd (let h = sym none ∙ row.comes.takes in cc)
-untaken_row setup r (TurnBack q) a b taken sent row none = record { land = λ e. absurd (omega (arith, e)); return = λ e. absurd (omega (arith, e)) }
 untaken_row setup r (Return q) a b taken sent row none = absurd (let h = sym none ∙ row.takes in cc)
-untaken_row setup r (Clear q) a b taken sent row none = record { land = λ e. absurd (omega (arith, e)); return = λ e. absurd (omega (arith, e)) }
-untaken_row setup r (Tick p round) a b taken sent row none = record { land = λ e. absurd (omega (arith, e)); return = λ e. absurd (omega (arith, e)) }
+untaken_row setup r _ a b taken sent row none = record { land = λ e. absurd (omega (arith, e)); return = λ e. absurd (omega (arith, e)) }
 
 none_mapped : {A B : Type 0} (f : A → B) (o : Option A) → None ≡ option_map f o → o ≡ None
 none_mapped f None e = refl

@@ -1,10 +1,10 @@
 -- Takes of a router, one after another, and then its turn are a real round.
 use Rattle.std.proofs.Common.{◌≡◌, ◌≢◌, ◌≤◌, ◌+◌, ℕ, List, [], ◌∷◌, ◌++◌, length, refl, ap, sym, subst, ◌∙◌, inl, inr, arith}
-use Rattle.std.specs.Prelude.{Option}
+use Rattle.std.specs.Prelude.{Option, Some, None}
 use Rattle.std.specs.List.{AllByRecursion}
 use Rattle.std.proofs.Math.Path.{subst⁻¹}
 use Rattle.ring_net.specs.Deeds.{Deed, Replay, TakesFirst}
-use Rattle.graft_steps.specs.declared.order.GraftIds.{GraftIds}
+use Rattle.router_core.specs.declared.place.Errand.{Errand}
 use Rattle.bgp_session.specs.Running.{RunningSession}
 use Rattle.bgp_session.specs.Steps.{MayPass}
 use Rattle.session_value.specs.Sessions.{SessionValue}
@@ -12,7 +12,7 @@ use Rattle.graft_model.specs.Parts as model
 use Rattle.graft_model.specs.Parts.{RouterPart}
 use Rattle.graft_model.specs.RouterRows.{IsLive}
 use Rattle.graft_model.specs.Setups.{Setup}
-use Rattle.graft_model.specs.Steps.{RouterEvent}
+use Rattle.graft_model.specs.declared.event.RouterEvent.{RouterEvent}
 use Rattle.graft_actors.specs.Acts.{acts}
 use Rattle.graft_actors.specs.Emissions.{Tally, nothing}
 use Rattle.router_core.specs.Parts.{router_part, own_part, carried}
@@ -23,7 +23,7 @@ use Rattle.router_core.specs.Takes.{Took, TakesRows, Stays}
 use Rattle.router_core.specs.Turned.{Turned, TurnsSession, NoPuts, NoRounds, rounds_on}
 use Rattle.router_core.specs.declared.fields.Fields.{Fields}
 use Rattle.router_core.specs.declared.place.Place.{Place}
-use Rattle.router_core.specs.declared.place.Place.TheVariants.{Vacant, Live, Shadow}
+use Rattle.router_core.specs.declared.place.Place.TheVariants.{Live, Shadow}
 use Rattle.router_core.proofs.Dids.{same_router, router_then, are_of-append, round_at}
 use Rattle.router_core.proofs.RoundLists.{rounds_on-append, no_puts_then}
 use Rattle.world_nodes.specs.Nodes.{Mail}
@@ -38,21 +38,21 @@ use Rattle.real_rounds.proofs.RouterWays.{goes_of, goes_append, through_both}
 -- ---- places
 
 -- a session that is live in the model runs
-pub runs_at : (f : Fields) (p : ℕ) (s : SessionValue) (o : Option model.Order) → IsLive (router_part f) p s o → (v : RunningSession) × (q : Option GraftIds) × RunsAt f.places.items p v q × (v.session ≡ s)
-runs_at f p s o live = by_place (place_at f.places.items p) refl
+pub runs_at : (f : Fields) (p : ℕ) (s : SessionValue) (o : Option model.Errand) → IsLive (router_part f) p s o → (v : RunningSession) × (q : Option Errand) × RunsAt f.places.places p v q × (v.session ≡ s)
+runs_at f p s o live = by_place (place_at f.places.places p) refl
   where
-    same : (v : RunningSession) (q : Option model.Order) → model.Live v.session q ≡ model.Live s o → v.session ≡ s
+    same : (v : RunningSession) (q : Option model.Errand) → model.Live v.session q ≡ model.Live s o → v.session ≡ s
     same v q e = cc
 
-    by_place : (x : Place) → place_at f.places.items p ≡ x → (v : RunningSession) × (q : Option GraftIds) × RunsAt f.places.items p v q × (v.session ≡ s)
-    by_place Vacant e = absurd (let h : model.Vacant ≡ model.Live s o = ap place_of (sym e) ∙ live.is in cc)
-    by_place (Live v q) e = (v, q, record { is = e }, same v _ (ap place_of (sym e) ∙ live.is))
-    by_place (Shadow away) e = absurd (let h : model.Shadow away.graft ≡ model.Live s o = ap place_of (sym e) ∙ live.is in cc)
+    by_place : (x : Option Place) → place_at f.places.places p ≡ x → (v : RunningSession) × (q : Option Errand) × RunsAt f.places.places p v q × (v.session ≡ s)
+    by_place None e = absurd (let h : model.Vacant ≡ model.Live s o = ap place_of (sym e) ∙ live.is in cc)
+    by_place (Some (Live v q)) e = (v, q, record { is = e }, same v _ (ap place_of (sym e) ∙ live.is))
+    by_place (Some (Shadow away)) e = absurd (let h : model.Shadow away.graft ≡ model.Live s o = ap place_of (sym e) ∙ live.is in cc)
 
-live_at : (f : Fields) (p : ℕ) (v : RunningSession) (q : Option GraftIds) → RunsAt f.places.items p v q → HasLive p (router_part f)
+live_at : (f : Fields) (p : ℕ) (v : RunningSession) (q : Option Errand) → RunsAt f.places.places p v q → HasLive p (router_part f)
 live_at f p v q runs = (v.session, _, record { is = ap place_of runs.is })
 
-some_running : (f : Fields) (p : ℕ) → HasLive p (router_part f) → (v : RunningSession) × (q : Option GraftIds) × RunsAt f.places.items p v q
+some_running : (f : Fields) (p : ℕ) → HasLive p (router_part f) → (v : RunningSession) × (q : Option Errand) × RunsAt f.places.places p v q
 some_running f p (s, o, live) = let x = runs_at f p s o live in (x.0, x.1, x.2)
 
 -- ---- several takes
@@ -60,8 +60,8 @@ some_running f p (s, o, live) = let x = runs_at f p s o live in (x.0, x.1, x.2)
 stays_then : (s v u : RunningSession) → Stays s v → Stays v u → Stays s u
 stays_then s v u x y = record { acked = omega (arith, x.acked, y.acked); emitted = y.emitted ∙ x.emitted; at_turn = y.at_turn ∙ x.at_turn }
 
-same_running : (f : Fields) (p : ℕ) (s u : RunningSession) (o q : Option GraftIds) → RunsAt f.places.items p s o → RunsAt f.places.items p u q → u ≡ s
-same_running f p s u o q x y = let e : Live s o ≡ Live u q = sym x.is ∙ y.is in cc
+same_running : (f : Fields) (p : ℕ) (s u : RunningSession) (o q : Option Errand) → RunsAt f.places.places p s o → RunsAt f.places.places p u q → u ≡ s
+same_running f p s u o q x y = let e : Some (Live s o) ≡ Some (Live u q) = sym x.is ∙ y.is in cc
 
 -- What takes leave: their events, in which no round passes and nothing is put, and the sessions that stay.
 pub record TookRouter (a : Fields) (ds : List (Deed Mail)) (b : Fields) : Type 0 where
@@ -73,7 +73,7 @@ pub record TookRouter (a : Fields) (ds : List (Deed Mail)) (b : Fields) : Type 0
   pub goes : RouterGoes a.known.setup a.number.0 (router_part a) (λ p. nothing) events moments (router_part b) (λ p. nothing)
   pub no_rounds : NoRounds events
   pub no_puts : NoPuts events
-  pub stays : (p : ℕ) (s u : RunningSession) (o q : Option GraftIds) → RunsAt a.places.items p s o → RunsAt b.places.items p u q → AllByRecursion (HasLive p) (router_part a ∷ moments) → Stays s u
+  pub stays : (p : ℕ) (s u : RunningSession) (o q : Option Errand) → RunsAt a.places.places p s o → RunsAt b.places.places p u q → AllByRecursion (HasLive p) (router_part a ∷ moments) → Stays s u
 
 pub took_none : (a : Fields) → TookRouter a [] a
 took_none a = record {
@@ -134,12 +134,12 @@ took_then a b c ds es x y = record {
 -- a router at a mark after so many rounds: what was acknowledged at each session's last retransmission turn is what is acknowledged
 pub record RouterAt (n : ℕ) (f : Fields) : Type 0 where
   pub turns : f.turns ≡ n
-  pub level : (p : ℕ) (s : RunningSession) (o : Option GraftIds) → RunsAt f.places.items p s o → s.acked_at_turn ≡ s.session.end.acked
+  pub level : (p : ℕ) (s : RunningSession) (o : Option Errand) → RunsAt f.places.places p s o → s.acked_at_turn ≡ s.session.end.acked
 
 -- On a session that stands through the round, and whose hold time runs, a round may pass in the turn.
 abbrev pub MayPassThen : (start mid end : Fields) → List RouterPart → Type 0
 MayPassThen a b c moments = (p : ℕ) (s u : SessionValue) → Stands p (router_part a) moments (router_part c) s u → HoldRuns s → HoldRuns u → length s.end.stream ≤ 1044461
-    → (m : RunningSession) (o : Option GraftIds) → RunsAt b.places.items p m o → MayPass m.session c.turns
+    → (m : RunningSession) (o : Option Errand) → RunsAt b.places.places p m o → MayPass m.session c.turns
 
 module _ (pass : TurnsPassOne) (a b c : Fields) (ds es : List (Deed Mail)) (took : TookRouter a ds b) (turned : Turned b es c) (calm : AllByRecursion LandsNobody turned.events) (n : ℕ) (at : RouterAt n a) where
   turn_round : RouterRound a.known.setup a.number.0 (router_part b) (λ p. nothing) turned.events (router_part c) turned.tally
@@ -174,20 +174,20 @@ module _ (pass : TurnsPassOne) (a b c : Fields) (ds es : List (Deed Mail)) (took
   rounds_are p = rounds_on-append p took.events turned.events ∙ ap (λ (xs : List ℕ). xs ++ rounds_on p turned.events) (took.no_rounds p)
 
   pub numbered : (p : ℕ) → AllByRecursion (λ k. k ≡ n + 1) (rounds_on p (took.events ++ turned.events))
-  numbered p = subst⁻¹ (λ (xs : List ℕ). AllByRecursion (λ k. k ≡ n + 1) xs) (rounds_are p) (by_place (place_at b.places.items p) refl)
+  numbered p = subst⁻¹ (λ (xs : List ℕ). AllByRecursion (λ k. k ≡ n + 1) xs) (rounds_are p) (by_place (place_at b.places.places p) refl)
     where
-      absent : (x : Place) → place_at b.places.items p ≡ x → ((v : RunningSession) (q : Option GraftIds) → x ≢ Live v q) → AllByRecursion (λ k. k ≡ n + 1) (rounds_on p turned.events)
+      absent : (x : Option Place) → place_at b.places.places p ≡ x → ((v : RunningSession) (q : Option Errand) → x ≢ Some (Live v q)) → AllByRecursion (λ k. k ≡ n + 1) (rounds_on p turned.events)
       absent x e none = subst⁻¹ (λ (xs : List ℕ). AllByRecursion (λ k. k ≡ n + 1) xs)
           (no_rounds_there a.known.setup a.number.0 (router_part b) (router_part c) (λ p. nothing) turned.tally turned.events turn_round calm p
           (λ live. (let some = some_running b p live in none some.0 some.1 (sym e ∙ some.2.is)))) tt
 
-      by_place : (x : Place) → place_at b.places.items p ≡ x → AllByRecursion (λ k. k ≡ n + 1) (rounds_on p turned.events)
-      by_place Vacant e = absent Vacant e (λ v q h. absurd cc)
-      by_place (Live v q) e = elim (pass b c es turned p v q (record { is = e })) [
+      by_place : (x : Option Place) → place_at b.places.places p ≡ x → AllByRecursion (λ k. k ≡ n + 1) (rounds_on p turned.events)
+      by_place None e = absent None e (λ v q h. absurd cc)
+      by_place (Some (Live v q)) e = elim (pass b c es turned p v q (record { is = e })) [
         | inl h ↦ subst⁻¹ (λ (xs : List ℕ). AllByRecursion (λ k. k ≡ n + 1) xs) h.1 (number_is, tt)
         | inr h ↦ subst⁻¹ (λ (xs : List ℕ). AllByRecursion (λ k. k ≡ n + 1) xs) h.1 tt
       ]
-      by_place (Shadow away) e = absent (Shadow away) e (λ v q h. absurd cc)
+      by_place (Some (Shadow away)) e = absent (Some (Shadow away)) e (λ v q h. absurd cc)
 
   ticks : MayPassThen a b c (took.moments ++ turn_parts.0) → (p : ℕ) (s u : SessionValue) → Stands p (router_part a) (took.moments ++ turn_parts.0) (router_part c) s u → HoldRuns s → HoldRuns u → length s.end.stream ≤ 1044461
       → rounds_on p (took.events ++ turned.events) ≡ (n + 1) ∷ []

@@ -5,24 +5,25 @@ use Rattle.std.specs.List.{AllByRecursion}
 use Rattle.std.proofs.lemmas.Bool.Decides.{eqb_tells}
 use Rattle.session_value.specs.Sessions.{SessionValue}
 use Rattle.graft_actors.specs.Emissions.{Tally}
-use Rattle.graft_model.specs.declared.kind.EventKind.TheVariants as kinds
-use Rattle.graft_model.specs.Codes.{number_of, router_code}
+use Rattle.graft_model.specs.Codes.{router_code}
 use Rattle.graft_model.specs.Points.{at}
 use Rattle.graft_model.specs.Setups.{Setup}
-use Rattle.graft_model.specs.Parts.{Place, Vacant, Live, Shadow, Order, RouterPart}
+use Rattle.graft_model.specs.Parts.{Place, Vacant, Live, Shadow, Errand, RouterPart}
 use Rattle.graft_model.specs.RouterRows.{RouterTaken, RouterSent, IsLive}
-use Rattle.graft_model.specs.Steps.{router_row, RouterEvent, Put, Emit, Arrive, Stray, Got, Decide, Tell, Hear, Admit, Refuse, Freeze, Leave, Land, TurnBack, Return, Clear, Tick}
+use Rattle.graft_model.specs.declared.event.RouterEvent.{RouterEvent}
+use Rattle.graft_model.specs.declared.event.RouterEvent.TheVariants.{Put, Emit, Arrive, Got, Decide, Tell, Hear, Admit, Refuse, Freeze, Leave, Land, Return, Clear, Confirm, Tick}
+use Rattle.graft_model.specs.Steps.{router_row}
 use Rattle.router_core.specs.Rounds.{RouterRound, router_tally}
 use Rattle.router_core.specs.Turned.{rounds_on}
 use Rattle.real_rounds.specs.Routers.{HasLive}
 
 -- neither that of a session that lands nor that of one that returns
 pub record IsNoLanding (kind : ℕ) : Type 0 where
-  pub land : kind ≢ number_of kinds.Land
-  pub return : kind ≢ number_of kinds.Return
+  pub land : kind ≢ (router_code (Land 0)).kind
+  pub return : kind ≢ (router_code (Return 0)).kind
 
 abbrev pub LandsNobody : RouterEvent → Type 0
-LandsNobody event = IsNoLanding (number_of (router_code event).kind)
+LandsNobody event = IsNoLanding ((router_code event).kind)
 
 -- ---- places
 
@@ -36,23 +37,23 @@ own : (f : ℕ → Place) (q : ℕ) (v : Place) (p : ℕ) → (p == q) ≡ true 
 own f q v p e = rw e refl
 
 -- another value where a session was live
-at_live : (a b : RouterPart) (q p : ℕ) (v : Place) (s : SessionValue) (o : Option Order) → IsLive a q s o → b.places ≡ at a.places q v → HasLive p b → HasLive p a
+at_live : (a b : RouterPart) (q p : ℕ) (v : Place) (s : SessionValue) (o : Option Errand) → IsLive a q s o → b.places ≡ at a.places q v → HasLive p b → HasLive p a
 at_live a b q p v s o before effect live = elim (eqb_tells p q) [
   | inl e ↦ (s, o, record { is = ap a.places e.1 ∙ before.is })
   | inr ne ↦ same_at a b p (ap (λ (f : ℕ → Place). f p) effect ∙ other a.places q v p ne.0) live
 ]
 
 -- a value that is no live session
-at_dead : (a b : RouterPart) (q p : ℕ) (v : Place) → ((s : SessionValue) (o : Option Order) → v ≢ Live s o) → b.places ≡ at a.places q v → HasLive p b → HasLive p a
+at_dead : (a b : RouterPart) (q p : ℕ) (v : Place) → ((s : SessionValue) (o : Option Errand) → v ≢ Live s o) → b.places ≡ at a.places q v → HasLive p b → HasLive p a
 at_dead a b q p v dead effect (s, o, live) = elim (eqb_tells p q) [
   | inl e ↦ absurd (dead s o (sym (own a.places q v p e.0) ∙ sym (ap (λ (f : ℕ → Place). f p) effect) ∙ live.is))
   | inr ne ↦ same_at a b p (ap (λ (f : ℕ → Place). f p) effect ∙ other a.places q v p ne.0) (s, o, live)
 ]
 
-no_shadow : (k : ℕ) (s : SessionValue) (o : Option Order) → Shadow k ≢ Live s o
+no_shadow : (k : ℕ) (s : SessionValue) (o : Option Errand) → Shadow k ≢ Live s o
 no_shadow k s o e = absurd cc
 
-no_vacant : (s : SessionValue) (o : Option Order) → Vacant ≢ Live s o
+no_vacant : (s : SessionValue) (o : Option Errand) → Vacant ≢ Live s o
 no_vacant s o e = absurd cc
 
 -- ---- one event
@@ -60,13 +61,12 @@ no_vacant s o e = absurd cc
 -- what is live after an event that lands nobody was live before it
 pub live_before : (setup : Setup) (r : ℕ) (event : RouterEvent) (a b : RouterPart) (taken : Option RouterTaken) (sent : List RouterSent) → router_row setup r event a taken sent b → LandsNobody event → (p : ℕ) → HasLive p b → HasLive p a
 live_before setup r (Put q zero) a b taken sent row calm p live = same_at a b p (ap (λ (x : RouterPart). x.places p) row.effect) live
-live_before setup r (Put q (suc n)) a b taken sent row calm p live = at_live a b q p (Live row.next row.order) row.session row.order row.live (ap (λ (x : RouterPart). x.places) row.effect) live
+live_before setup r (Put q (suc n)) a b taken sent row calm p live = at_live a b q p (Live row.next row.errand) row.session row.errand row.live (ap (λ (x : RouterPart). x.places) row.effect) live
 live_before setup r (Emit q from len) a b taken sent row calm p live =
-    at_live a b q p (Live (record row.session { end = row.end }) row.order) row.session row.order row.live (ap (λ (x : RouterPart). x.places) row.effect) live
+    at_live a b q p (Live (record row.session { end = row.end }) row.errand) row.session row.errand row.live (ap (λ (x : RouterPart). x.places) row.effect) live
 live_before setup r (Arrive q) a b taken sent row calm p live =
-    at_live a b q p (Live (record row.session { end = row.end }) row.order) row.session row.order row.live (ap (λ (x : RouterPart). x.places) row.effect) live
-live_before setup r (Stray q) a b taken sent row calm p live = same_at a b p (ap (λ (x : RouterPart). x.places p) row.stays) live
-live_before setup r (Got q) a b taken sent row calm p live = at_live a b q p (Live row.next row.order) row.session row.order row.live (ap (λ (x : RouterPart). x.places) row.follows.effect) live
+    at_live a b q p (Live (record row.session { end = row.end }) row.errand) row.session row.errand row.live (ap (λ (x : RouterPart). x.places) row.effect) live
+live_before setup r (Got q) a b taken sent row calm p live = at_live a b q p (Live row.next row.errand) row.session row.errand row.live (ap (λ (x : RouterPart). x.places) row.follows.effect) live
 live_before setup r (Decide prefix) a b taken sent row calm p live = same_at a b p (ap (λ (x : RouterPart). x.places p) row.effect) live
 live_before setup r (Tell q prefix) a b taken sent row calm p live = same_at a b p (ap (λ (x : RouterPart). x.places p) row.effect) live
 live_before setup r (Hear q) a b taken sent row calm p live = same_at a b p (ap (λ (x : RouterPart). x.places p) row.effect) live
@@ -75,10 +75,11 @@ live_before setup r (Refuse k) a b taken sent row calm p live = at_live a b row.
 live_before setup r (Freeze k) a b taken sent row calm p live = at_live a b row.peering p _ row.session _ row.live (ap (λ (x : RouterPart). x.places) row.effect) live
 live_before setup r (Leave k) a b taken sent row calm p live = at_dead a b row.peering p (Shadow k) (no_shadow k) (ap (λ (x : RouterPart). x.places) row.effect) live
 live_before setup r (Land q) a b taken sent row calm p live = absurd (calm.land refl)
-live_before setup r (TurnBack q) a b taken sent row calm p live = same_at a b p (ap (λ (x : RouterPart). x.places p) row.stays) live
 live_before setup r (Return q) a b taken sent row calm p live = absurd (calm.return refl)
 live_before setup r (Clear q) a b taken sent row calm p live = at_dead a b row.peering p Vacant no_vacant (ap (λ (x : RouterPart). x.places) row.effect) live
-live_before setup r (Tick q round) a b taken sent row calm p live = at_live a b q p (Live row.next row.order) row.session row.order row.live (ap (λ (x : RouterPart). x.places) row.follows.effect) live
+live_before setup r (Confirm k) a b taken sent row calm p live = at_live a b row.peering p _ row.session _ row.live (ap (λ (x : RouterPart). x.places) row.effect) live
+live_before setup r (Tick q round) a b taken sent row calm p live = at_live a b q p (Live row.next row.errand) row.session row.errand row.live (ap (λ (x : RouterPart). x.places) row.follows.effect) live
+live_before setup r _ a b taken sent row calm p live = same_at a b p (ap (λ (x : RouterPart). x.places p) row.stays) live
 
 -- ---- several events
 
@@ -94,23 +95,8 @@ no_rounds_there setup r a b t u (e ∷ es) (taken, sent, m, row, careful, rest) 
     one e row ∙ no_rounds_there setup r m b (router_tally a e t) u es rest calm.1 p (λ live. absent (live_before setup r e a m taken sent row calm.0 p live))
   where
     one : (event : RouterEvent) → router_row setup r event a taken sent m → rounds_on p (event ∷ es) ≡ rounds_on p es
-    one (Put q n) row = refl
-    one (Emit q from len) row = refl
-    one (Arrive q) row = refl
-    one (Stray q) row = refl
-    one (Got q) row = refl
-    one (Decide prefix) row = refl
-    one (Tell q prefix) row = refl
-    one (Hear q) row = refl
-    one (Admit k) row = refl
-    one (Refuse k) row = refl
-    one (Freeze k) row = refl
-    one (Leave k) row = refl
-    one (Land q) row = refl
-    one (TurnBack q) row = refl
-    one (Return q) row = refl
-    one (Clear q) row = refl
     one (Tick q round) row = elim (eqb_tells q p) [
-      | inl e ↦ absurd (absent (row.session, row.order, record { is = sym (ap a.places e.1) ∙ row.live.is }))
+      | inl e ↦ absurd (absent (row.session, row.errand, record { is = sym (ap a.places e.1) ∙ row.live.is }))
       | inr ne ↦ rw (ne.0) refl
     ]
+    one _ row = refl

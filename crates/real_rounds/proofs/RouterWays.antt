@@ -5,7 +5,7 @@ use Rattle.std.specs.List.{AllByRecursion}
 use Rattle.graft_actors.specs.Emissions.{Tally}
 use Rattle.graft_model.specs.Parts.{RouterPart}
 use Rattle.graft_model.specs.Setups.{Setup}
-use Rattle.graft_model.specs.Steps.{RouterEvent}
+use Rattle.graft_model.specs.declared.event.RouterEvent.{RouterEvent}
 use Rattle.router_core.specs.Rounds.{RouterRound, router_tally}
 use Rattle.real_rounds.specs.Routers.{RouterGoes}
 use Rattle.real_rounds.proofs.Lists.{all_front, all_back}

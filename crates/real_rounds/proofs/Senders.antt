@@ -2,14 +2,21 @@
 use Rattle.std.proofs.Common.{◌≡◌, ◌≢◌, ◌∙◌, ℕ, zero, suc, List, refl, ap, sym, subst, inl, inr, arith}
 use Rattle.std.specs.Prelude.{Option, Some, None, option_map}
 use Rattle.ring_net.specs.declared.entry.JournalEntry.{JournalEntry}
-use Rattle.graft_model.specs.Codes.{number_of, Code, router_code, far_code, operator_code}
+use Rattle.graft_model.specs.declared.code.Code.{Code}
+use Rattle.graft_model.specs.Codes.{router_code, far_code, operator_code}
 use Rattle.graft_model.specs.Parts.{RouterPart, FarPart, OperatorPart}
 use Rattle.graft_model.specs.RouterRows.{RouterTaken, OrderIn, SegmentIn, MeshIn, RouterSent}
 use Rattle.graft_model.specs.FarRows.{FarTaken, OutwardIn, SayIn, FarSent}
 use Rattle.graft_model.specs.OperatorRows.{OperatorTaken, ReportIn, OperatorSent}
 use Rattle.graft_model.specs.Setups.{Setup}
 use Rattle.graft_model.specs.Steps as steps
-use Rattle.graft_model.specs.Steps.{router_row, far_row, operator_row, RouterEvent, Put, Emit, Arrive, Stray, Got, Decide, Tell, Hear, Admit, Refuse, Freeze, Leave, Land, TurnBack, Return, Clear, Tick, FarEvent, Say, Send, Take, Pass, Reach, Lose, Point, Beat, OperatorEvent, Order, Note, Go}
+use Rattle.graft_model.specs.declared.event.RouterEvent.{RouterEvent}
+use Rattle.graft_model.specs.declared.event.FarEvent.{FarEvent}
+use Rattle.graft_model.specs.declared.event.OperatorEvent.{OperatorEvent}
+use Rattle.graft_model.specs.declared.event.RouterEvent.TheVariants.{Put, Emit, Arrive, Stray, Got, Decide, Tell, Hear, Admit, Refuse, Freeze, Leave, Return, Clear, Confirm, Tick}
+use Rattle.graft_model.specs.declared.event.FarEvent.TheVariants.{Say, Send, Take, Pass, Reach, Lose, Point, Beat}
+use Rattle.graft_model.specs.declared.event.OperatorEvent.TheVariants.{Order, Note, Go}
+use Rattle.graft_model.specs.Steps.{router_row, far_row, operator_row}
 use Rattle.graft_runs.specs.Actors.{ActorPart, RouterIs, FarIs, OperatorIs, Thing, ActorName, Router, FarSide, Operator, number_in, actor_at}
 use Rattle.graft_runs.specs.Makes.{HasCode, makes_as, numbered, taken_by_router, taken_by_far, taken_by_operator}
 use Rattle.graft_runs.proofs.Numbers.{of_number}
@@ -23,13 +30,13 @@ use Rattle.real_rounds.specs.Entries.{sender_of}
 abbrev sender_at : ℕ → ℕ → Option ActorName
 sender_at kind a = sender_of (record { clock = 0; actor = 0; kind = kind; a = a; b = 0; c = 0 })
 
-sender_coded : (code : Code) (entry : JournalEntry) → HasCode code entry → sender_of entry ≡ sender_at (number_of code.kind) code.a
+sender_coded : (code : Code) (entry : JournalEntry) → HasCode code entry → sender_of entry ≡ sender_at code.kind code.a
 sender_coded code entry coded = λ i. sender_at (coded.kind i) (coded.a i)
 
 -- ---- by the rows
 
 router_sender : (setup : Setup) (r : ℕ) (event : RouterEvent) (a b : RouterPart) (taken : Option RouterTaken) (sent : List RouterSent) → router_row setup r event a taken sent b
-    → sender_at (number_of (router_code event).kind) (router_code event).a ≡ option_map (λ t. (taken_by_router t).0) taken
+    → sender_at (router_code event).kind (router_code event).a ≡ option_map (λ t. (taken_by_router t).0) taken
 router_sender setup r (Put p n) a b taken sent row = put n row
   where
     put : (n : ℕ) → steps.puts setup r p n a taken sent b → None ≡ option_map (λ t. (taken_by_router t).0) taken
@@ -46,14 +53,14 @@ router_sender setup r (Admit k) a b taken sent row = rw (row.takes) refl
 router_sender setup r (Refuse k) a b taken sent row = rw (row.takes) refl
 router_sender setup r (Freeze k) a b taken sent row = rw (row.alone.0) refl
 router_sender setup r (Leave k) a b taken sent row = rw (row.takes) refl
-router_sender setup r (Land q) a b taken sent row = rw (row.comes.takes) refl
-router_sender setup r (TurnBack q) a b taken sent row = rw (row.comes.takes) refl
 router_sender setup r (Return q) a b taken sent row = rw (row.takes) refl
 router_sender setup r (Clear q) a b taken sent row = rw (row.takes) refl
+router_sender setup r (Confirm k) a b taken sent row = rw (row.takes) refl
 router_sender setup r (Tick p round) a b taken sent row = rw (row.alone.0) refl
+router_sender setup r _ a b taken sent row = rw (row.comes.takes) refl
 
 far_sender : (setup : Setup) (p : ℕ) (event : FarEvent) (a b : FarPart) (taken : Option FarTaken) (sent : List FarSent) → far_row setup p event a taken sent b
-    → sender_at (number_of (far_code event).kind) (far_code event).a ≡ option_map (λ t. (taken_by_far t).0) taken
+    → sender_at (far_code event).kind (far_code event).a ≡ option_map (λ t. (taken_by_far t).0) taken
 far_sender setup p (Say step) a b taken sent row = rw (row.takes) refl
 far_sender setup p (Send from len) a b taken sent row = rw (row.takes) refl
 far_sender setup p (Take router) a b taken sent row = rw (row.takes) refl
@@ -64,7 +71,7 @@ far_sender setup p (Point router) a b taken sent row = rw (row.takes) refl
 far_sender setup p (Beat round) a b taken sent row = rw (row.takes) refl
 
 operator_sender : (setup : Setup) (event : OperatorEvent) (a b : OperatorPart) (taken : Option OperatorTaken) (sent : List OperatorSent) → operator_row setup event a taken sent b
-    → sender_at (number_of (operator_code event).kind) (operator_code event).a ≡ option_map (λ t. (taken_by_operator t).0) taken
+    → sender_at (operator_code event).kind (operator_code event).a ≡ option_map (λ t. (taken_by_operator t).0) taken
 operator_sender setup (Order step) a b taken sent (inl row) = rw (row.takes) refl
 operator_sender setup (Order step) a b taken sent (inr row) = rw (row.takes) refl
 operator_sender setup (Note router) a b taken sent row = rw (row.takes) refl

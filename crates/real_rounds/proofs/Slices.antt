@@ -4,7 +4,9 @@ use Rattle.ring_net.specs.declared.entry.JournalEntry.{JournalEntry}
 use Rattle.ring_net.specs.Deeds.{Deed, Noted, deeds, entries_of}
 use Rattle.journal_merge.specs.Merges.{entries_by}
 use Rattle.graft_model.specs.Codes.{router_code, far_code, operator_code}
-use Rattle.graft_model.specs.Steps.{RouterEvent, FarEvent, OperatorEvent}
+use Rattle.graft_model.specs.declared.event.RouterEvent.{RouterEvent}
+use Rattle.graft_model.specs.declared.event.FarEvent.{FarEvent}
+use Rattle.graft_model.specs.declared.event.OperatorEvent.{OperatorEvent}
 use Rattle.router_core.specs.Rounds as router_rounds
 use Rattle.far_side.specs.Turns as far_turns
 use Rattle.run_marks.specs.Marks.{before}

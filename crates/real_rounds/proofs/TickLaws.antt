@@ -19,12 +19,14 @@ use Rattle.session_value.specs.Cases.{GetsFrame, PassesRound}
 use Rattle.graft_model.specs.First.{first_world, place_in}
 use Rattle.graft_model.specs.Points.{at, at2}
 use Rattle.graft_model.specs.Setups.{Setup, PeeringSetup}
-use Rattle.graft_model.specs.Parts.{Place, Vacant, Live, Frozen, Shadow, Order, RouterPart, World, Mesh, Told, Moved, Back, Done}
+use Rattle.graft_model.specs.Parts.{Place, Vacant, Live, Frozen, Shadow, Errand, RouterPart, World, Mesh, Told, Moved, Back, Done}
 use Rattle.graft_model.specs.RouterRows.{RouterTaken, OrderIn, SegmentIn, MeshIn, RouterSent, MeshTo, OutwardTo, ReportOut, IsLive}
 use Rattle.graft_model.specs.FarRows.{FarTaken, OutwardIn, SayIn, FarSent}
 use Rattle.graft_model.specs.OperatorRows.{OperatorTaken, ReportIn, OperatorSent, OrderTo, SayTo}
-use Rattle.graft_model.specs.Steps as steps
-use Rattle.graft_model.specs.Steps.{router_row, RouterEvent, Emit, Arrive, Stray, Decide, Tell, Hear, Admit, Refuse, Freeze, Leave, Land, TurnBack, Return, Clear, Event, ByRouter, ByFar, ByOperator, RouterTook, FarTook, OperatorTook, router_sends, far_sends, operator_sends, Step, Run}
+use Rattle.graft_model.specs.declared.event.RouterEvent.TheVariants as events
+use Rattle.graft_model.specs.declared.event.RouterEvent.{RouterEvent}
+use Rattle.graft_model.specs.declared.event.RouterEvent.TheVariants.{Emit, Arrive, Stray, Decide, Tell, Hear, Admit, Refuse, Freeze, Leave, Land, Return, Clear, Confirm}
+use Rattle.graft_model.specs.Steps.{router_row, Event, ByRouter, ByFar, ByOperator, RouterTook, FarTook, OperatorTook, router_sends, far_sends, operator_sends, Step, Run}
 
 module _ (n : ℕ) where
   abbrev pub Early : SessionValue → Type 0
@@ -54,7 +56,7 @@ module _ (n : ℕ) where
   EarlySent (ReportOut report) = Unit {0}
 
   abbrev pub NotLate : RouterEvent → Type 0
-  NotLate (steps.Tick p round) = round < n
+  NotLate (events.Tick p round) = round < n
   NotLate event = Unit {0}
 
   abbrev pub EarlyPlaces : RouterPart → Type 0
@@ -114,7 +116,7 @@ module _ (n : ℕ) where
   same_places : (a b : RouterPart) → b.places ≡ a.places → EarlyPlaces a → EarlyPlaces b
   same_places a b e all p = subst⁻¹ EarlyPlace (ap (λ (f : ℕ → Place). f p) e) (all p)
 
-  was_early : (a : RouterPart) (q : ℕ) (s : SessionValue) (o : Option Order) → IsLive a q s o → EarlyPlaces a → Early s
+  was_early : (a : RouterPart) (q : ℕ) (s : SessionValue) (o : Option Errand) → IsLive a q s o → EarlyPlaces a → Early s
   was_early a q s o live all = subst EarlyPlace live.is (all q)
 
   nothing_sent : (sent : List RouterSent) → sent ≡ [] → AllByRecursion EarlySent sent
@@ -124,23 +126,23 @@ module _ (n : ℕ) where
   After b sent = EarlyPlaces b × AllByRecursion EarlySent sent
 
   early_row : (setup : Setup) (r : ℕ) (event : RouterEvent) (a b : RouterPart) (taken : Option RouterTaken) (sent : List RouterSent) → router_row setup r event a taken sent b → NotLate event → EarlyPlaces a → EarlyTaken taken → After b sent
-  early_row setup r (steps.Put q zero) a b taken sent row l all took = (same_places a b (ap (λ (x : RouterPart). x.places) row.effect) all, nothing_sent sent row.alone.1)
-  early_row setup r (steps.Put q (suc m)) a b taken sent row l all took = (
-    at_place a b q (Live row.next row.order) (ap (λ (x : RouterPart). x.places) row.effect)
-        (subst⁻¹ (λ (lines : List Line). All (IsEarlier n) lines) (ap (λ (x : SessionValue). x.story) row.puts.effect) (All-append (IsEarlier n) row.session.story _ (was_early a q row.session row.order row.live all) (one_put _))) all,
+  early_row setup r (events.Put q zero) a b taken sent row l all took = (same_places a b (ap (λ (x : RouterPart). x.places) row.effect) all, nothing_sent sent row.alone.1)
+  early_row setup r (events.Put q (suc m)) a b taken sent row l all took = (
+    at_place a b q (Live row.next row.errand) (ap (λ (x : RouterPart). x.places) row.effect)
+        (subst⁻¹ (λ (lines : List Line). All (IsEarlier n) lines) (ap (λ (x : SessionValue). x.story) row.puts.effect) (All-append (IsEarlier n) row.session.story _ (was_early a q row.session row.errand row.live all) (one_put _))) all,
     nothing_sent sent row.alone.1,
   )
   early_row setup r (Emit q from len) a b taken sent row l all took = (
-    at_place a b q (Live (record row.session { end = row.end }) row.order) (ap (λ (x : RouterPart). x.places) row.effect) (was_early a q row.session row.order row.live all) all,
+    at_place a b q (Live (record row.session { end = row.end }) row.errand) (ap (λ (x : RouterPart). x.places) row.effect) (was_early a q row.session row.errand row.live all) all,
     subst⁻¹ (λ (xs : List RouterSent). AllByRecursion EarlySent xs) row.sends (tt, tt),
   )
   early_row setup r (Arrive q) a b taken sent row l all took = (
-    at_place a b q (Live (record row.session { end = row.end }) row.order) (ap (λ (x : RouterPart). x.places) row.effect) (was_early a q row.session row.order row.live all) all,
+    at_place a b q (Live (record row.session { end = row.end }) row.errand) (ap (λ (x : RouterPart). x.places) row.effect) (was_early a q row.session row.errand row.live all) all,
     nothing_sent sent row.sends,
   )
   early_row setup r (Stray q) a b taken sent row l all took = (same_places a b (ap (λ (x : RouterPart). x.places) row.stays) all, nothing_sent sent row.sends)
-  early_row setup r (steps.Got q) a b taken sent row l all took = (
-    at_place a b q (Live row.next row.order) (ap (λ (x : RouterPart). x.places) row.follows.effect) (gets_early row.session row.next row.bytes row.gets (was_early a q row.session row.order row.live all)) all,
+  early_row setup r (events.Got q) a b taken sent row l all took = (
+    at_place a b q (Live row.next row.errand) (ap (λ (x : RouterPart). x.places) row.follows.effect) (gets_early row.session row.next row.bytes row.gets (was_early a q row.session row.errand row.live all)) all,
     nothing_sent sent row.alone.1,
   )
   early_row setup r (Decide prefix) a b taken sent row l all took = (same_places a b (ap (λ (x : RouterPart). x.places) row.effect) all, nothing_sent sent row.alone.1)
@@ -159,12 +161,8 @@ module _ (n : ℕ) where
     subst⁻¹ (λ (xs : List RouterSent). AllByRecursion EarlySent xs) row.sends (subst EarlyPlace row.frozen (all row.peering), tt),
   )
   early_row setup r (Land q) a b taken sent row l all took = (
-    at_place a b row.comes.peering (Live row.comes.session None) (ap (λ (x : RouterPart). x.places) row.effect) (subst EarlyTaken row.comes.takes took) all,
-    subst⁻¹ (λ (xs : List RouterSent). AllByRecursion EarlySent xs) row.sends (tt, (tt, tt)),
-  )
-  early_row setup r (TurnBack q) a b taken sent row l all took = (
-    same_places a b (ap (λ (x : RouterPart). x.places) row.stays) all,
-    subst⁻¹ (λ (xs : List RouterSent). AllByRecursion EarlySent xs) row.sends (subst EarlyTaken row.comes.takes took, tt),
+    at_place a b row.comes.peering _ (ap (λ (x : RouterPart). x.places) row.effect) (subst EarlyTaken row.comes.takes took) all,
+    subst⁻¹ (λ (xs : List RouterSent). AllByRecursion EarlySent xs) row.sends (tt, tt),
   )
   early_row setup r (Return q) a b taken sent row l all took = (
     at_place a b row.peering (Live row.session None) (ap (λ (x : RouterPart). x.places) row.effect) (subst EarlyTaken row.takes took) all,
@@ -174,9 +172,17 @@ module _ (n : ℕ) where
     at_place a b row.peering Vacant (ap (λ (x : RouterPart). x.places) row.effect) tt all,
     subst⁻¹ (λ (xs : List RouterSent). AllByRecursion EarlySent xs) row.sends (tt, tt),
   )
-  early_row setup r (steps.Tick q round) a b taken sent row l all took = (
-    at_place a b q (Live row.next row.order) (ap (λ (x : RouterPart). x.places) row.follows.effect) (passes_early row.session row.next round row.passes l (was_early a q row.session row.order row.live all)) all,
+  early_row setup r (Confirm k) a b taken sent row l all took = (
+    at_place a b row.peering (Live row.session None) (ap (λ (x : RouterPart). x.places) row.effect) (was_early a row.peering row.session _ row.live all) all,
+    subst⁻¹ (λ (xs : List RouterSent). AllByRecursion EarlySent xs) row.sends (tt, tt),
+  )
+  early_row setup r (events.Tick q round) a b taken sent row l all took = (
+    at_place a b q (Live row.next row.errand) (ap (λ (x : RouterPart). x.places) row.follows.effect) (passes_early row.session row.next round row.passes l (was_early a q row.session row.errand row.live all)) all,
     nothing_sent sent row.alone.1,
+  )
+  early_row setup r _ a b taken sent row l all took = (
+    same_places a b (ap (λ (x : RouterPart). x.places) row.stays) all,
+    subst⁻¹ (λ (xs : List RouterSent). AllByRecursion EarlySent xs) row.sends (subst EarlyTaken row.comes.takes took, tt),
   )
 
   -- ---- the world

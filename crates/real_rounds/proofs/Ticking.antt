@@ -25,10 +25,12 @@ use Rattle.session_value.proofs.Replies.{confirmed_from}
 use Rattle.session_value.proofs.Ties.{emits_same, takes_same}
 use Rattle.graft_model.specs.Points.{at}
 use Rattle.graft_model.specs.Setups.{Setup}
-use Rattle.graft_model.specs.Parts.{Place, Vacant, Live, Frozen, Shadow, Order, RouterPart}
+use Rattle.graft_model.specs.Parts.{Place, Vacant, Live, Frozen, Shadow, Order, Errand, RouterPart}
 use Rattle.graft_model.specs.RouterRows.{RouterTaken, RouterSent, IsLive, update_for}
-use Rattle.graft_model.specs.Steps as steps
-use Rattle.graft_model.specs.Steps.{router_row, RouterEvent, Emit, Arrive, Stray, Decide, Tell, Hear, Admit, Refuse, Freeze, Leave, Land, TurnBack, Return, Clear}
+use Rattle.graft_model.specs.declared.event.RouterEvent.TheVariants as events
+use Rattle.graft_model.specs.declared.event.RouterEvent.{RouterEvent}
+use Rattle.graft_model.specs.declared.event.RouterEvent.TheVariants.{Emit, Arrive, Decide, Tell, Hear, Admit, Refuse, Freeze, Leave, Land, Return, Clear, Confirm}
+use Rattle.graft_model.specs.Steps.{router_row}
 use Rattle.graft_actors.specs.Emissions.{Tally, nothing}
 use Rattle.bgp_session.specs.Steps.{MayPass}
 use Rattle.router_core.specs.Parts.{router_part}
@@ -50,11 +52,11 @@ pub data Step (event : RouterEvent) (p : ℕ) (s u : SessionValue) : Type 0 wher
   puts : (update : Update) → PutsUpdate s update u → ¬ IsNoPut event → Step event p s u
   passes : (round : ℕ) → PassesRound s round u → rounds_on p (event ∷ []) ≢ [] → Step event p s u
 
-same_live : (s u : SessionValue) (o q : Option Order) → Live s o ≡ Live u q → u ≡ s
+same_live : (s u : SessionValue) (o q : Option Errand) → Live s o ≡ Live u q → u ≡ s
 same_live s u o q e = cc
 
 -- the place of the event, or another
-at_step : (a b : RouterPart) (q p : ℕ) (v : Place) (s u : SessionValue) (o w : Option Order) → IsLive a p s o → IsLive b p u w → b.places ≡ at a.places q v → ((p ≡ q) × (v ≡ Live u w)) ⊎ (u ≡ s)
+at_step : (a b : RouterPart) (q p : ℕ) (v : Place) (s u : SessionValue) (o w : Option Errand) → IsLive a p s o → IsLive b p u w → b.places ≡ at a.places q v → ((p ≡ q) × (v ≡ Live u w)) ⊎ (u ≡ s)
 at_step a b q p v s u o w before ends_at effect = elim (eqb_tells p q) [
   | inl e ↦ inl (e.1, sym (own e.0) ∙ sym (ap (λ (f : ℕ → Place). f p) effect) ∙ ends_at.is)
   | inr ne ↦ inr (same_live s u o w (sym before.is ∙ sym (other ne.0) ∙ sym (ap (λ (f : ℕ → Place). f p) effect) ∙ ends_at.is))
@@ -67,67 +69,66 @@ at_step a b q p v s u o w before ends_at effect = elim (eqb_tells p q) [
     other e = rw e refl
 
 -- it was the session of the event's row
-was : (a : RouterPart) (p q : ℕ) (s x : SessionValue) (o y : Option Order) → p ≡ q → IsLive a p s o → IsLive a q x y → x ≡ s
+was : (a : RouterPart) (p q : ℕ) (s x : SessionValue) (o y : Option Errand) → p ≡ q → IsLive a p s o → IsLive a q x y → x ≡ s
 was a p q s x o y e here row = same_live s x o y (sym here.is ∙ ap a.places e ∙ row.is)
 
 -- the same place
-place_same : (event : RouterEvent) (a b : RouterPart) (p : ℕ) (s u : SessionValue) (o w : Option Order) → IsLive a p s o → IsLive b p u w → b.places p ≡ a.places p → Step event p s u
+place_same : (event : RouterEvent) (a b : RouterPart) (p : ℕ) (s u : SessionValue) (o w : Option Errand) → IsLive a p s o → IsLive b p u w → b.places p ≡ a.places p → Step event p s u
 place_same event a b p s u o w before ends_at e = stays (same_live s u o w (sym before.is ∙ sym e ∙ ends_at.is))
 
 -- only the order changes, or the session is not live then
-order_changes : (event : RouterEvent) (a b : RouterPart) (q p : ℕ) (x s u : SessionValue) (y z o w : Option Order) → IsLive a q x y → IsLive a p s o → IsLive b p u w → b.places ≡ at a.places q (Live x z) → Step event p s u
+order_changes : (event : RouterEvent) (a b : RouterPart) (q p : ℕ) (x s u : SessionValue) (y z o w : Option Errand) → IsLive a q x y → IsLive a p s o → IsLive b p u w → b.places ≡ at a.places q (Live x z) → Step event p s u
 order_changes event a b q p x s u y z o w row before ends_at effect = elim (at_step a b q p (Live x z) s u o w before ends_at effect) [
   | inl h ↦ stays (same_live x u z w h.1 ∙ was a p q s x o y h.0 before row)
   | inr e ↦ stays e
 ]
 
-leaves : (event : RouterEvent) (a b : RouterPart) (q p : ℕ) (v : Place) (s u : SessionValue) (o w : Option Order) → ((x : SessionValue) (y : Option Order) → v ≢ Live x y) → IsLive a p s o → IsLive b p u w → b.places ≡ at a.places q v → Step event p s u
+leaves : (event : RouterEvent) (a b : RouterPart) (q p : ℕ) (v : Place) (s u : SessionValue) (o w : Option Errand) → ((x : SessionValue) (y : Option Errand) → v ≢ Live x y) → IsLive a p s o → IsLive b p u w → b.places ≡ at a.places q v → Step event p s u
 leaves event a b q p v s u o w dead before ends_at effect = elim (at_step a b q p v s u o w before ends_at effect) [
   | inl h ↦ absurd (dead u w h.1)
   | inr e ↦ stays e
 ]
 
 -- it comes where none was
-comes : (event : RouterEvent) (a b : RouterPart) (q p : ℕ) (v : Place) (s u : SessionValue) (o w : Option Order) → ((x : SessionValue) (y : Option Order) → a.places q ≢ Live x y) → IsLive a p s o → IsLive b p u w → b.places ≡ at a.places q v → Step event p s u
+comes : (event : RouterEvent) (a b : RouterPart) (q p : ℕ) (v : Place) (s u : SessionValue) (o w : Option Errand) → ((x : SessionValue) (y : Option Errand) → a.places q ≢ Live x y) → IsLive a p s o → IsLive b p u w → b.places ≡ at a.places q v → Step event p s u
 comes event a b q p v s u o w absent before ends_at effect = elim (at_step a b q p v s u o w before ends_at effect) [
   | inl h ↦ absurd (absent s o (ap a.places (sym h.0) ∙ before.is))
   | inr e ↦ stays e
 ]
 
-no_vacant : (v : Place) → v ≡ Vacant → (x : SessionValue) (y : Option Order) → v ≢ Live x y
+no_vacant : (v : Place) → v ≡ Vacant → (x : SessionValue) (y : Option Errand) → v ≢ Live x y
 no_vacant v e x y f = absurd (let h : Vacant ≡ Live x y = sym e ∙ f in cc)
 
-no_shadow : (v : Place) (k : ℕ) → v ≡ Shadow k → (x : SessionValue) (y : Option Order) → v ≢ Live x y
+no_shadow : (v : Place) (k : ℕ) → v ≡ Shadow k → (x : SessionValue) (y : Option Errand) → v ≢ Live x y
 no_shadow v k e x y f = absurd (let h : Shadow k ≡ Live x y = sym e ∙ f in cc)
 
-no_frozen : (z : SessionValue) (k : Order) (x : SessionValue) (y : Option Order) → Frozen z k ≢ Live x y
+no_frozen : (z : SessionValue) (k : Order) (x : SessionValue) (y : Option Errand) → Frozen z k ≢ Live x y
 no_frozen z k x y f = absurd cc
 
 -- another session there, by a case
-changes : (event : RouterEvent) (a b : RouterPart) (q p : ℕ) (x next s u : SessionValue) (y z o w : Option Order) → IsLive a q x y → IsLive a p s o → IsLive b p u w → b.places ≡ at a.places q (Live next z)
+changes : (event : RouterEvent) (a b : RouterPart) (q p : ℕ) (x next s u : SessionValue) (y z o w : Option Errand) → IsLive a q x y → IsLive a p s o → IsLive b p u w → b.places ≡ at a.places q (Live next z)
     → (p ≡ q → x ≡ s → next ≡ u → Step event p s u) → Step event p s u
 changes event a b q p x next s u y z o w row before ends_at effect case = elim (at_step a b q p (Live next z) s u o w before ends_at effect) [
   | inl h ↦ case h.0 (was a p q s x o y h.0 before row) (sym (same_live next u z w h.1))
   | inr e ↦ stays e
 ]
 
-pub step_of : (setup : Setup) (r : ℕ) (event : RouterEvent) (a b : RouterPart) (taken : Option RouterTaken) (sent : List RouterSent) → router_row setup r event a taken sent b → (p : ℕ) (s u : SessionValue) (o w : Option Order)
+pub step_of : (setup : Setup) (r : ℕ) (event : RouterEvent) (a b : RouterPart) (taken : Option RouterTaken) (sent : List RouterSent) → router_row setup r event a taken sent b → (p : ℕ) (s u : SessionValue) (o w : Option Errand)
     → IsLive a p s o → IsLive b p u w → Step event p s u
-step_of setup r (steps.Put q zero) a b taken sent row p s u o w before ends_at = place_same (steps.Put q zero) a b p s u o w before ends_at (ap (λ (x : RouterPart). x.places p) row.effect)
-step_of setup r (steps.Put q (suc n)) a b taken sent row p s u o w before ends_at =
-    changes (steps.Put q (suc n)) a b q p row.session row.next s u row.order row.order o w row.live before ends_at (ap (λ (x : RouterPart). x.places) row.effect)
+step_of setup r (events.Put q zero) a b taken sent row p s u o w before ends_at = place_same (events.Put q zero) a b p s u o w before ends_at (ap (λ (x : RouterPart). x.places p) row.effect)
+step_of setup r (events.Put q (suc n)) a b taken sent row p s u o w before ends_at =
+    changes (events.Put q (suc n)) a b q p row.session row.next s u row.errand row.errand o w row.live before ends_at (ap (λ (x : RouterPart). x.places) row.effect)
     (λ e is to. puts (update_for row.attrs row.prefixes) (subst (λ (x : SessionValue). PutsUpdate x (update_for row.attrs row.prefixes) u) is (subst (λ (x : SessionValue). PutsUpdate row.session (update_for row.attrs row.prefixes) x) to row.puts)) (λ h. h))
 step_of setup r (Emit q from len) a b taken sent row p s u o w before ends_at =
-    changes (Emit q from len) a b q p row.session (record row.session { end = row.end }) s u row.order row.order o w row.live before ends_at (ap (λ (x : RouterPart). x.places) row.effect)
+    changes (Emit q from len) a b q p row.session (record row.session { end = row.end }) s u row.errand row.errand o w row.live before ends_at (ap (λ (x : RouterPart). x.places) row.effect)
     (λ e is to. ends row.end (sym to ∙ ap (λ (x : SessionValue). let y : SessionValue = record x { end = row.end } in y) is)
     ((emits_same row.session.end row.segment row.end row.emits.emits).stream ∙ ap (λ (x : SessionValue). x.end.stream) is))
 step_of setup r (Arrive q) a b taken sent row p s u o w before ends_at =
-    changes (Arrive q) a b q p row.session (record row.session { end = row.end }) s u row.order row.order o w row.live before ends_at (ap (λ (x : RouterPart). x.places) row.effect)
+    changes (Arrive q) a b q p row.session (record row.session { end = row.end }) s u row.errand row.errand o w row.live before ends_at (ap (λ (x : RouterPart). x.places) row.effect)
     (λ e is to. ends row.end (sym to ∙ ap (λ (x : SessionValue). let y : SessionValue = record x { end = row.end } in y) is)
     ((takes_same row.session.end row.segment row.end row.arrives).stream ∙ ap (λ (x : SessionValue). x.end.stream) is))
-step_of setup r (Stray q) a b taken sent row p s u o w before ends_at = place_same (Stray q) a b p s u o w before ends_at (ap (λ (x : RouterPart). x.places p) row.stays)
-step_of setup r (steps.Got q) a b taken sent row p s u o w before ends_at =
-    changes (steps.Got q) a b q p row.session row.next s u row.order row.order o w row.live before ends_at (ap (λ (x : RouterPart). x.places) row.follows.effect)
+step_of setup r (events.Got q) a b taken sent row p s u o w before ends_at =
+    changes (events.Got q) a b q p row.session row.next s u row.errand row.errand o w row.live before ends_at (ap (λ (x : RouterPart). x.places) row.follows.effect)
     (λ e is to. gets row.bytes (subst (λ (x : SessionValue). GetsFrame x row.bytes u) is (subst (λ (x : SessionValue). GetsFrame row.session row.bytes x) to row.gets)))
 step_of setup r (Decide prefix) a b taken sent row p s u o w before ends_at = place_same (Decide prefix) a b p s u o w before ends_at (ap (λ (x : RouterPart). x.places p) row.effect)
 step_of setup r (Tell q prefix) a b taken sent row p s u o w before ends_at = place_same (Tell q prefix) a b p s u o w before ends_at (ap (λ (x : RouterPart). x.places p) row.effect)
@@ -139,19 +140,20 @@ step_of setup r (Freeze k) a b taken sent row p s u o w before ends_at =
 step_of setup r (Leave k) a b taken sent row p s u o w before ends_at = leaves (Leave k) a b row.peering p (Shadow k) s u o w (no_shadow (Shadow k) k refl) before ends_at (ap (λ (x : RouterPart). x.places) row.effect)
 step_of setup r (Land q) a b taken sent row p s u o w before ends_at =
     comes (Land q) a b row.comes.peering p _ s u o w (no_vacant (a.places row.comes.peering) row.comes.vacant) before ends_at (ap (λ (x : RouterPart). x.places) row.effect)
-step_of setup r (TurnBack q) a b taken sent row p s u o w before ends_at = place_same (TurnBack q) a b p s u o w before ends_at (ap (λ (x : RouterPart). x.places p) row.stays)
 step_of setup r (Return q) a b taken sent row p s u o w before ends_at =
     comes (Return q) a b row.peering p _ s u o w (no_shadow (a.places row.peering) row.graft row.shadow) before ends_at (ap (λ (x : RouterPart). x.places) row.effect)
 step_of setup r (Clear q) a b taken sent row p s u o w before ends_at = leaves (Clear q) a b row.peering p Vacant s u o w (no_vacant Vacant refl) before ends_at (ap (λ (x : RouterPart). x.places) row.effect)
-step_of setup r (steps.Tick q round) a b taken sent row p s u o w before ends_at =
-    changes (steps.Tick q round) a b q p row.session row.next s u row.order row.order o w row.live before ends_at (ap (λ (x : RouterPart). x.places) row.follows.effect)
+step_of setup r (Confirm k) a b taken sent row p s u o w before ends_at = order_changes (Confirm k) a b row.peering p row.session s u _ None o w row.live before ends_at (ap (λ (x : RouterPart). x.places) row.effect)
+step_of setup r (events.Tick q round) a b taken sent row p s u o w before ends_at =
+    changes (events.Tick q round) a b q p row.session row.next s u row.errand row.errand o w row.live before ends_at (ap (λ (x : RouterPart). x.places) row.follows.effect)
     (λ e is to. passes round (subst (λ (x : SessionValue). PassesRound x round u) is (subst (λ (x : SessionValue). PassesRound row.session round x) to row.passes)) (there q e))
   where
-    there : (q : ℕ) → p ≡ q → rounds_on p (steps.Tick q round ∷ []) ≢ []
+    there : (q : ℕ) → p ≡ q → rounds_on p (events.Tick q round ∷ []) ≢ []
     there q e = elim (eqb_tells q p) [
       | inl same ↦ (λ none. absurd (let h : round ∷ [] ≡ [] = sym (rw (same.0) refl) ∙ none in cc))
       | inr ne ↦ absurd (ne.1 (sym e))
     ]
+step_of setup r event a b taken sent row p s u o w before ends_at = place_same event a b p s u o w before ends_at (ap (λ (x : RouterPart). x.places p) row.stays)
 
 -- ---- a closed session stays closed
 
@@ -165,7 +167,7 @@ closed_step event p s u (gets bytes g) closed = absurd (g.unclosed closed)
 closed_step event p s u (puts update g is) closed = absurd (let h : Closed ≡ Established = sym closed ∙ g.established in cc)
 closed_step event p s u (passes round g is) closed = absurd (closed_up (state s) closed g.up)
 
-closed_on : (setup : Setup) (r : ℕ) (a b : RouterPart) (t v : ℕ → Tally) (es : List RouterEvent) (ms : List RouterPart) → RouterGoes setup r a t es ms b v → (p : ℕ) → AllByRecursion (HasLive p) (a ∷ ms) → (s u : SessionValue) (o w : Option Order)
+closed_on : (setup : Setup) (r : ℕ) (a b : RouterPart) (t v : ℕ → Tally) (es : List RouterEvent) (ms : List RouterPart) → RouterGoes setup r a t es ms b v → (p : ℕ) → AllByRecursion (HasLive p) (a ∷ ms) → (s u : SessionValue) (o w : Option Errand)
     → IsLive a p s o → IsLive b p u w → state s ≡ Closed → state u ≡ Closed
 closed_on setup r a b t v [] [] goes p all s u o w before ends_at closed =
     ap (λ (x : SessionValue). state x) (same_live s u o w (sym before.is ∙ ap (λ (x : RouterPart). x.places p) (sym goes.0) ∙ ends_at.is)) ∙ closed
@@ -247,7 +249,7 @@ no_round_first p e es none = split (round_on p e) (rounds_on p es) none
     split (x ∷ xs) ys h = absurd cc
 
 may_on : (setup : Setup) (r : ℕ) (a b : RouterPart) (t v : ℕ → Tally) (es : List RouterEvent) (ms : List RouterPart) (round : ℕ) → RouterGoes setup r a t es ms b v → NoPuts es → (p : ℕ) → rounds_on p es ≡ [] → AllByRecursion (HasLive p) (a ∷ ms)
-    → (s u : SessionValue) (o w : Option Order) → IsLive a p s o → IsLive b p u w → state u ≢ Closed → MayPass s round → MayPass u round
+    → (s u : SessionValue) (o w : Option Errand) → IsLive a p s o → IsLive b p u w → state u ≢ Closed → MayPass s round → MayPass u round
 may_on setup r a b t v [] [] round goes calm p quiet all s u o w before ends_at unclosed may =
     subst⁻¹ (λ (x : SessionValue). MayPass x round) (same_live s u o w (sym before.is ∙ ap (λ (x : RouterPart). x.places p) (sym goes.0) ∙ ends_at.is)) may
 may_on setup r a b t v [] (m ∷ ms) round goes calm p quiet all s u o w before ends_at unclosed may = absurd goes

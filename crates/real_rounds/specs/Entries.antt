@@ -1,11 +1,13 @@
 -- What an actor's journal holds between two marks, and what is taken from which channel.
-use Rattle.std.specs.Prelude.{ℕ, ◌-◌, ◌==◌, if◌then◌else◌, Bool, true, false, List, [], ◌∷◌, take, drop, count_by, Option, Some, None}
+use Rattle.std.specs.Prelude.{ℕ, ◌-◌, ◌==◌, if◌then◌else◌, Bool, true, false, List, [], ◌∷◌, map, ◌++◌, take, drop, count_by, Option, Some, None}
 use Rattle.std.specs.List.{list_any}
 use Rattle.ring_net.specs.declared.entry.JournalEntry.{JournalEntry}
 use Rattle.journal_merge.specs.Merges.{entries_by}
-use Rattle.graft_model.specs.declared.kind.EventKind.{EventKind}
-use Rattle.graft_model.specs.declared.kind.EventKind.TheVariants as kinds
-use Rattle.graft_model.specs.Codes.{Code, number_of}
+use Rattle.graft_model.specs.declared.code.Code.{Code}
+use Rattle.graft_model.specs.declared.event.RouterEvent.TheVariants.{Arrive, Stray, Hear, Admit, Land, TurnBack, Return, Clear}
+use Rattle.graft_model.specs.declared.event.FarEvent.TheVariants.{Say, Take, Point}
+use Rattle.graft_model.specs.declared.event.OperatorEvent.TheVariants.{Note}
+use Rattle.graft_model.specs.Codes.{router_code, far_code, operator_code}
 use Rattle.graft_runs.specs.Actors.{ActorName, Router, FarSide, Operator}
 use Rattle.graft_runs.specs.Makes.{HasCode}
 use Rattle.run_marks.specs.Marks.{before}
@@ -22,15 +24,16 @@ AreCoded code events entries = ⊥
 
 -- ---- from whom an entry's event took an item
 
-abbrev pub is_one_of : List EventKind → JournalEntry → Bool
-is_one_of these entry = list_any (λ kind. number_of kind == entry.kind) these
+-- the entry's kind is that of one of these events
+abbrev pub is_one_of : List Code → JournalEntry → Bool
+is_one_of these entry = list_any (λ code. code.kind == entry.kind) these
 
 -- A router takes segments from a far side, all that other routers tell and move from these, and orders from the operator; a far side takes what goes outward from a router, and steps from the
 -- operator; and the operator takes reports from a router.
 abbrev pub sender_of : JournalEntry → Option ActorName
-sender_of entry = if is_one_of (kinds.Arrive ∷ kinds.Stray ∷ []) entry then Some (FarSide entry.a)
-    else if is_one_of (kinds.Hear ∷ kinds.Land ∷ kinds.TurnBack ∷ kinds.Return ∷ kinds.Clear ∷ kinds.Take ∷ kinds.Point ∷ kinds.Note ∷ []) entry then Some (Router entry.a)
-    else if is_one_of (kinds.Admit ∷ kinds.Say ∷ []) entry then Some Operator
+sender_of entry = if is_one_of (map router_code (Arrive 0 ∷ Stray 0 ∷ [])) entry then Some (FarSide entry.a)
+    else if is_one_of (map router_code (Hear 0 ∷ Land 0 ∷ TurnBack 0 ∷ Return 0 ∷ Clear 0 ∷ []) ++ map far_code (Take 0 ∷ Point 0 ∷ []) ++ map operator_code (Note 0 ∷ [])) entry then Some (Router entry.a)
+    else if is_one_of (router_code (Admit 0) ∷ far_code (Say 0) ∷ []) entry then Some Operator
     else None
 
 abbrev pub is_name : ActorName → Option ActorName → Bool

@@ -8,7 +8,8 @@ use Rattle.tcp_seq.specs.declared.segment.Way.{Way}
 use Rattle.tcp_seq.specs.declared.segment.Way.TheVariants.{Home, Remote}
 use Rattle.graft_model.specs.Setups.{Setup, beat_of}
 use Rattle.graft_model.specs.Parts.{FarPart}
-use Rattle.graft_model.specs.Steps.{FarEvent, Say, Send, Take, Point, Beat}
+use Rattle.graft_model.specs.declared.event.FarEvent.{FarEvent}
+use Rattle.graft_model.specs.declared.event.FarEvent.TheVariants.{Say, Send, Take, Point, Beat}
 use Rattle.graft_actors.specs.Emissions.{Tally, nothing, IsRested}
 use Rattle.far_side.specs.Links.{home_events, remote_events, left_of}
 use Rattle.far_side.specs.Turns.{FarRound}

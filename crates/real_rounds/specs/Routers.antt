@@ -4,10 +4,12 @@ use Rattle.std.specs.List.{AllByRecursion}
 use Rattle.bgp_story.specs.Legal.{is_up}
 use Rattle.session_value.specs.Sessions.{SessionValue, state, hold_time}
 use Rattle.graft_model.specs.Setups.{Setup}
-use Rattle.graft_model.specs.Parts.{Order, RouterPart, OperatorPart}
+use Rattle.graft_model.specs.Parts.{Errand, RouterPart, OperatorPart}
 use Rattle.graft_model.specs.OperatorRows.{OperatorTaken, OperatorSent}
 use Rattle.graft_model.specs.RouterRows.{RouterTaken, RouterSent, IsLive}
-use Rattle.graft_model.specs.Steps.{RouterEvent, OperatorEvent, router_row, operator_row}
+use Rattle.graft_model.specs.declared.event.RouterEvent.{RouterEvent}
+use Rattle.graft_model.specs.declared.event.OperatorEvent.{OperatorEvent}
+use Rattle.graft_model.specs.Steps.{router_row, operator_row}
 use Rattle.graft_actors.specs.Emissions.{Tally, nothing}
 use Rattle.operator_core.specs.Turns.{NothingToOrder}
 use Rattle.router_core.specs.Rested.{RestedRouter}
@@ -25,12 +27,12 @@ RouterGoes setup r start t events parts end u = ⊥
 
 -- a session of the peering is live at the router
 abbrev pub HasLive : ℕ → RouterPart → Type 0
-HasLive p part = (s : SessionValue) × (o : Option Order) × IsLive part p s o
+HasLive p part = (s : SessionValue) × (o : Option Errand) × IsLive part p s o
 
 -- The session of a peering stands at a router that is these parts one after another: live in each, in the first as the one value, and in the last as the other.
 pub record Stands (p : ℕ) (start : RouterPart) (parts : List RouterPart) (end : RouterPart) (first last : SessionValue) : Type 0 where
-  pub first_order : Option Order
-  pub last_order : Option Order
+  pub first_order : Option Errand
+  pub last_order : Option Errand
   pub starts : IsLive start p first first_order
   pub ends : IsLive end p last last_order
   pub throughout : AllByRecursion (HasLive p) (start ∷ parts)

@@ -5,7 +5,9 @@ use Rattle.link_bag.specs.declared.plan.Fault.{Fault}
 use Rattle.graft_model.specs.Codes.{router_code, far_code, operator_code}
 use Rattle.graft_model.specs.Parts.{World}
 use Rattle.graft_model.specs.Setups.{Setup, routers_in, peerings_in}
-use Rattle.graft_model.specs.Steps.{RouterEvent, FarEvent, OperatorEvent}
+use Rattle.graft_model.specs.declared.event.RouterEvent.{RouterEvent}
+use Rattle.graft_model.specs.declared.event.FarEvent.{FarEvent}
+use Rattle.graft_model.specs.declared.event.OperatorEvent.{OperatorEvent}
 use Rattle.graft_runs.specs.Actors.{ActorName, Router, FarSide, Operator, number_in, IsActor}
 use Rattle.graft_runs.specs.Seen.{channel_of}
 use Rattle.run_marks.specs.Marks.{IsWorldAtMark}

@@ -28,9 +28,11 @@ fn written(
     rib: &Rib,
     due: &DueSet,
     peering: u8,
+    remote_as: u32,
 ) -> Result<Option<Octets>, NoMemory> {
     let view = OutView {
         peering: PeeringId(peering),
+        remote_as,
         local_address: 0xC000_0206,
         export: None,
     };
@@ -57,11 +59,11 @@ fn octets_text(alloc: Global, octets: &Octets) -> Result<String> {
     Ok(hex::encode_upper(alloc, octets)?)
 }
 
-/// The octets of the one UPDATE that tells on a session all that has a best route, without the marker.
-pub fn planned(alloc: Global, rib: &Rib, peering: u8) -> Result<String> {
+/// The octets of the one UPDATE that tells on a session with a remote of this AS all that has a best route, without the marker.
+pub fn planned(alloc: Global, rib: &Rib, peering: u8, remote_as: u32) -> Result<String> {
     let mut due = DueSet::new(alloc);
     add_all(rib, &mut due)?;
-    match written(alloc, rib, &due, peering)? {
+    match written(alloc, rib, &due, peering, remote_as)? {
         Some(octets) => octets_text(alloc, &octets),
         None => Ok(format!(in alloc; "not one UPDATE")?),
     }

@@ -3,8 +3,8 @@
 use crate::plans::planned;
 use crate::routes::route_of;
 use crate::texts::{from_text, or_nothing, push_prefix, push_route};
-use crate::words::{address, prefix, small, source, word};
-use anyhow::{Result, bail};
+use crate::words::{address, number, prefix, small, source, word};
+use anyhow::{Context, Result, bail};
 use bgp_types::{From, Items, NoMemory, Prefix, PrefixList, RouterId};
 use rib_stages::{InEntry, Numbers, Rib, RibConfig};
 use std::alloc::Global;
@@ -147,6 +147,12 @@ fn told_inside(alloc: Global, rib: &Rib, prefix: Prefix) -> Result<String> {
     Ok(text)
 }
 
+/// What is told on a session, whose number stands third in the row and the AS of its remote behind `to`.
+fn told_outside(alloc: Global, rib: &Rib, words: &[&str]) -> Result<String> {
+    let remote_as = number(words, "to")?.context("an AS")?;
+    planned(alloc, rib, small(words, 2)?, remote_as)
+}
+
 /// What a row that looks at the routes gives.
 fn look(alloc: Global, rib: &Rib, words: &[&str]) -> Result<String> {
     match word(words, 0) {
@@ -154,7 +160,7 @@ fn look(alloc: Global, rib: &Rib, words: &[&str]) -> Result<String> {
         "own" => entries(alloc, rib, From::Own),
         "entries" => entries(alloc, rib, source(words)?),
         "inside" => told_inside(alloc, rib, prefix(words, 1)?),
-        "outside" => planned(alloc, rib, small(words, 2)?),
+        "outside" => told_outside(alloc, rib, words),
         _ => bail!("a call"),
     }
 }

@@ -1,2 +1,3 @@
+pub mod Avoiding
 pub mod PolicyLemmas
 pub mod Tells

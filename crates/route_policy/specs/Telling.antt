@@ -13,6 +13,7 @@ use Rattle.bgp_types.specs.declared.rank.From.{From}
 use Rattle.bgp_types.specs.declared.rank.From.TheVariants.{Own, Peering, Router}
 use Rattle.route_policy.specs.Paths.{prepend}
 use Rattle.route_policy.specs.Policies.{policy}
+use Rattle.route_policy.specs.Rules.{holds_as}
 use Rattle.route_policy.specs.declared.best.Best.{Best}
 use Rattle.route_policy.specs.declared.rule.Rule.{Rule}
 use Rattle.route_policy.specs.declared.tell.OutView.{OutView}
@@ -31,20 +32,27 @@ tell_in (Some best) = inside best.from best.route
 
 -- ---- on a session
 
--- the session's peering, its local address and its export policy
+-- the session's peering, the AS of its remote, its local address and its export policy
 pub record OutSide : Type 0 where
   pub peering : PeeringId
+  pub remote_as : ℕ
   pub local_address : ℕ
   pub export_rules : Option (List Rule)
 
 -- the same of the code's value, which holds its policy by reference
 abbrev pub out_side : OutView → OutSide
-out_side view = record { peering = view.peering; local_address = view.local_address; export_rules = option_copied view.export }
+out_side view = record { peering = view.peering; remote_as = view.remote_as; local_address = view.local_address; export_rules = option_copied view.export }
 
 abbrev pub comes_from : From → PeeringId → Bool
 comes_from Own peering = false
 comes_from (Peering other) peering = other.0 == peering.0
 comes_from (Router router) peering = false
+
+-- Whatever the export policy makes of it, the best route isn't told where it came from this peering, or where its path,
+-- as it stands before the policy, has the remote's AS in a sequence or in a set: the remote would find itself in the
+-- path and leave the route out of its choice (section 9.1.2).
+abbrev pub is_kept_back : OutSide → Best → Bool
+is_kept_back out best = comes_from best.from out.peering || holds_as best.route.attrs.path out.remote_as
 
 -- unknown transitive attributes pass on with Partial set (section 5)
 abbrev pub made_partial : RawAttr → RawAttr
@@ -85,10 +93,10 @@ told_where_it_fits home_as out prefix None = None
 told_where_it_fits home_as out prefix (Some route) =
     if is_too_long prefix (told_attrs home_as out route) then None else Some (told_attrs home_as out route)
 
--- Nothing is told where there is no best, where it came from this peering, where the export policy
--- denies it, or where its UPDATE would be too long in either width.
+-- Nothing is told where there is no best, where it came from this peering or went through the remote's AS, where the
+-- export policy denies it, or where its UPDATE would be too long in either width.
 abbrev pub tell_out : ℕ → OutSide → PrefixValue → Option Best → Option Attrs
 tell_out home_as out prefix None = None
 tell_out home_as out prefix (Some best) =
-    if comes_from best.from out.peering then None
+    if is_kept_back out best then None
     else told_where_it_fits home_as out prefix (exported home_as out prefix best.route)

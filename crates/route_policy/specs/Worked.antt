@@ -4,7 +4,8 @@ use Rattle.bgp_types.specs.Prefixes.{PrefixValue}
 use Rattle.bgp_types.specs.declared.attrs.Attrs.{Attrs}
 use Rattle.bgp_types.specs.declared.attrs.Origin.TheVariants.{Igp}
 use Rattle.bgp_types.specs.declared.attrs.Route.{Route}
-use Rattle.bgp_types.specs.declared.path.PathPart.TheVariants.{Sequence}
+use Rattle.bgp_types.specs.declared.path.PathPart.{PathPart}
+use Rattle.bgp_types.specs.declared.path.PathPart.TheVariants.{Sequence, Set}
 use Rattle.bgp_types.specs.declared.rank.From.{From}
 use Rattle.bgp_types.specs.declared.rank.From.TheVariants.{Own, Peering, Router}
 use Rattle.bgp_types.specs.declared.rank.Rank.{Rank}
@@ -50,10 +51,10 @@ two_ranks =
     record { own = false; pref = 200; path_len = 2; origin = 0; neighbour = 65001; med = 7; external = true; cost = 0; identifier = 9; address = 8 }
     ∷ (record { own = false; pref = 100; path_len = 1; origin = 0; neighbour = 65001; med = 7; external = false; cost = 4; identifier = 5; address = 5 } ∷ [])
 
--- ---- told on peering 2, whose local address is 192.0.2.6, and whose policy puts the home AS in front and sets MED 50
+-- ---- told on peering 2, whose remote is in AS 65002, whose local address is 192.0.2.6, and whose policy puts the home AS in front and sets MED 50
 
 abbrev pub raising_side : OutSide
-raising_side = record { peering = record { 0 = 2 }; local_address = 3221225990; export_rules = Some (record raising_rule { med = Some 50 } ∷ []) }
+raising_side = record { peering = record { 0 = 2 }; remote_as = 65002; local_address = 3221225990; export_rules = Some (record raising_rule { med = Some 50 } ∷ []) }
 
 abbrev pub silent_side : OutSide
 silent_side = record raising_side { export_rules = Some (record raising_rule { deny = true } ∷ []) }
@@ -62,6 +63,18 @@ silent_side = record raising_side { export_rules = Some (record raising_rule { d
 abbrev pub best_of_size : ℕ → Best
 best_of_size n = record { from = Peering (record { 0 = 3 }); route = record { attrs = record attrs_heard { unknown = record { kind = 200; partial = false; bytes = replicate n 1 } ∷ [] }; pref = 200 } }
 
+-- the best is from peering 3, with this path
+abbrev pub best_over : List PathPart → Best
+best_over path = record { from = Peering (record { 0 = 3 }); route = record { attrs = record attrs_heard { path = path }; pref = 200 } }
+
+-- it went through AS 65001, and before that through 65002
+abbrev pub best_through : Best
+best_through = best_over (Sequence (65001 ∷ (65002 ∷ [])) ∷ [])
+
+-- AS 65001 aggregated it from routes that went through 65002 and 65003
+abbrev pub best_aggregated : Best
+best_aggregated = best_over (Sequence (65001 ∷ []) ∷ (Set (65003 ∷ (65002 ∷ [])) ∷ []))
+
 -- the home AS once more than the policy says, the local address, the policy's MED, Partial set
 abbrev pub attrs_told : Attrs
 attrs_told = record { origin = Igp; path = Sequence (65000 ∷ (65000 ∷ (65001 ∷ []))) ∷ []; next_hop = 3221225990; med = Some 50; atomic = true; aggregator = None; unknown = record { kind = 200; partial = true; bytes = 1 ∷ [] } ∷ [] }
@@ -69,3 +82,7 @@ attrs_told = record { origin = Igp; path = Sequence (65000 ∷ (65000 ∷ (65001
 -- with no export policy the home AS once and no MED
 abbrev pub attrs_told_plainly : Attrs
 attrs_told_plainly = record attrs_told { path = Sequence (65000 ∷ (65001 ∷ [])) ∷ []; med = None }
+
+-- the one through 65002 as the policy leaves it
+abbrev pub attrs_told_through : Attrs
+attrs_told_through = record attrs_told { path = Sequence (65000 ∷ (65000 ∷ (65001 ∷ (65002 ∷ [])))) ∷ [] }

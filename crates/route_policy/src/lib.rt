@@ -13,9 +13,9 @@ mod tell;
 
 pub use best::Best;
 pub use entry::Entry;
-pub use laws::{worked_candidates, worked_telling};
+pub use laws::{told_paths_avoid_the_remote_as, worked_candidates, worked_telling};
 pub use path::prepend;
 pub use policy::Policy;
 pub use rank::{own_rank, router_rank, session_rank};
 pub use rule::{PrefixRange, Rule, Rules};
-pub use tell::{OutView, tell_in, tell_out};
+pub use tell::{OutView, is_kept_back, tell_in, tell_out};

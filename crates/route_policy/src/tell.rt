@@ -4,14 +4,14 @@ ghost use Rattle.std.specs.Prelude.{◌≡◌, map, IfOk, None, Some, option_cop
 ghost use Rattle.bgp_types.specs.declared.attrs.Attrs as attributes;
 ghost use Rattle.bgp_types.specs.declared.message.Message.TheVariants.{UpdateMsg};
 ghost use Rattle.bgp_types.specs.Lengths.{prefix_size};
-ghost use Rattle.route_policy.specs.Telling.{tell_in as tell_in_lem, tell_out as tell_out_lem, comes_from as comes_from_lem, out_side, exported, told_attrs as told_attrs_lem, made_partial, announcing as announcing_lem, is_too_long as is_too_long_lem};
+ghost use Rattle.route_policy.specs.Telling.{tell_in as tell_in_lem, tell_out as tell_out_lem, comes_from as comes_from_lem, is_kept_back as is_kept_back_lem, out_side, exported, told_attrs as told_attrs_lem, made_partial, announcing as announcing_lem, is_too_long as is_too_long_lem};
 
 use crate::best::Best;
 use crate::path::prepend;
 use crate::policy::Policy;
 use bgp_types::{
     Attrs, From, Items, Message, NoMemory, PeeringId, Prefix, RawAttrs, Route, TryCopy, Update,
-    message_len,
+    holds_as, message_len,
 };
 use std::alloc::Global;
 
@@ -19,6 +19,8 @@ use std::alloc::Global;
 #[derive(Drop)]
 pub struct OutView<'a> {
     pub peering: PeeringId,
+    /// The AS of the session's remote, which is told no route whose path has it.
+    pub remote_as: u32,
     /// The session's own address, which it tells as next hop.
     pub local_address: u32,
     /// The export policy; without one everything is told as it is.
@@ -50,6 +52,15 @@ fn comes_from(from: From, peering: PeeringId) -> bool
         From::Peering(other) => other.0 == peering.0,
         From::Own | From::Router(_) => false,
     }
+}
+
+/// Whether a best route isn't told on a session, whatever the export policy makes of it: it came from this peering, or
+/// the remote's AS stands in its path, in a sequence or in a set. The remote would take no route that went through its
+/// own AS (RFC 4271, section 9.1.2).
+pub fn is_kept_back(view: &OutView<'_>, best: &Best) -> bool
+    ensures { result ≡ is_kept_back_lem (out_side view.now) best.now }
+{
+    comes_from(best.from, view.peering) || holds_as(&best.route.attrs.path, view.remote_as)
 }
 
 /// What the export policy makes of a route. It is given the route without its MED, which isn't passed on from
@@ -144,7 +155,9 @@ fn where_it_fits(alloc: Global, prefix: Prefix, attrs: Attrs) -> Option<Attrs>
 }
 
 /// What is told of a prefix on a session, made of one copy of the best route: nothing where there is none, where it
-/// came from this peering, where the export policy refuses it, or where its UPDATE would be longer than 4,096 octets.
+/// came from this peering or its path has the remote's AS, where the export policy refuses it, or where its UPDATE
+/// would be longer than 4,096 octets. The path is the one before the export policy, and nothing is copied of a route
+/// that is kept back for it.
 pub fn tell_out(
     alloc: Global,
     home_as: u32,
@@ -157,7 +170,7 @@ pub fn tell_out(
     let Some(best) = best else {
         return Ok(None);
     };
-    if comes_from(best.from, view.peering) {
+    if is_kept_back(view, best) {
         return Ok(None);
     }
     match export(home_as, view, prefix, best.route.copy()?)? {

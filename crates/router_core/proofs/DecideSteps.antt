@@ -31,18 +31,17 @@ use Rattle.graft_model.specs.Points.{at}
 use Rattle.graft_model.specs.Parts.{RouterPart}
 use Rattle.graft_model.specs.Sets.{Adds}
 use Rattle.graft_model.specs.Setups.{Setup, peerings_in, routers_in}
-use Rattle.graft_model.specs.Steps.{Decide}
+use Rattle.graft_model.specs.declared.event.RouterEvent.TheVariants.{Decide}
 use Rattle.graft_model.specs.TableRows.{Decides, DueEverywhere, holds_established, is_established, only}
 use Rattle.graft_actors.specs.Emissions.{Tally}
-use Rattle.graft_actors.specs.Notes.{WroteOne}
 use Rattle.router_core.specs.Deciding.{AddsBelow, DecidesOne, DecidesSome, DueToAll, is_other, is_up_at}
 use Rattle.router_core.specs.Parts.{router_part, Keeps, KeepsPlace}
 use Rattle.router_core.specs.Places.{place_of, place_at}
-use Rattle.router_core.specs.Rounds.{Did, SameRouter}
+use Rattle.router_core.specs.Rounds.{Did, SameRouter, Writes}
 use Rattle.router_core.specs.Stages.{DecidesAll}
 use Rattle.router_core.specs.declared.fields.Fields.{Fields}
 use Rattle.router_core.specs.declared.place.Place.{Place}
-use Rattle.router_core.specs.declared.place.Place.TheVariants.{Vacant, Live, Shadow}
+use Rattle.router_core.specs.declared.place.Place.TheVariants.{Live, Shadow}
 use Rattle.router_core.proofs.Dids.{did_same, did_then, did_one}
 use Rattle.router_core.proofs.RoundLists.{rounds_on-append}
 use Rattle.router_core.proofs.Standing.{keeps_on}
@@ -136,9 +135,9 @@ up_is OpenConfirm e = absurd (let x : ⊥ = cc in x)
 up_is Established e = refl
 up_is Closed e = absurd (let x : ⊥ = cc in x)
 
-add_keeps : (setup : Setup) (r p : ℕ) (entries : Entries) (due more : Prefixes) (prefix : PrefixValue) (x : Place) → KeepsPlace setup r p entries due x → Adds due (only prefix (holds_established (place_of x))) more → KeepsPlace setup r p entries more x
-add_keeps setup r p entries due more prefix Vacant keeps adds = (keeps.0, λ y. adds.members y ∙ none_added (has due y) (same_prefix prefix y) (keeps.1 y))
-add_keeps setup r p entries due more prefix (Live s o) keeps adds = (
+add_keeps : (setup : Setup) (r p : ℕ) (entries : Entries) (due more : Prefixes) (prefix : PrefixValue) (x : Option Place) → KeepsPlace setup r p entries due x → Adds due (only prefix (holds_established (place_of x))) more → KeepsPlace setup r p entries more x
+add_keeps setup r p entries due more prefix None keeps adds = (keeps.0, λ y. adds.members y ∙ none_added (has due y) (same_prefix prefix y) (keeps.1 y))
+add_keeps setup r p entries due more prefix (Some (Live s o)) keeps adds = (
   keeps.0,
   keeps.1,
   keeps.2,
@@ -147,7 +146,7 @@ add_keeps setup r p entries due more prefix (Live s o) keeps adds = (
     | inr new ↦ up_is (state s.session) (both_true (same_prefix prefix y) (is_established (state s.session)) new)
   ],
 )
-add_keeps setup r p entries due more prefix (Shadow away) keeps adds = (keeps.0, λ y. adds.members y ∙ none_added (has due y) (same_prefix prefix y) (keeps.1 y))
+add_keeps setup r p entries due more prefix (Some (Shadow away)) keeps adds = (keeps.0, λ y. adds.members y ∙ none_added (has due y) (same_prefix prefix y) (keeps.1 y))
 
 -- ---- the choice
 
@@ -166,7 +165,7 @@ chosen_is f prefix keeps =
   where
     behind : NoneBehind (peerings_in f.known.setup) (routers_in f.known.setup) (rib_of f.rib) prefix
     behind = record {
-      entries = λ p from. none_of _ ((subst (KeepsPlace f.known.setup f.number.0 p ((rib_of f.rib).entries p) (table_at f.due_out p)) (place_at_end f.places.items p (omega (arith, keeps.places, from))) (keeps.each p)).0 prefix);
+      entries = λ p from. none_of _ ((subst (KeepsPlace f.known.setup f.number.0 p ((rib_of f.rib).entries p) (table_at f.due_out p)) (place_at_end f.places.places p (omega (arith, keeps.places, from))) (keeps.each p)).0 prefix);
       tellings = λ q from. none_of _ (keeps.tellings q from prefix);
     }
 
@@ -174,19 +173,20 @@ chosen_is f prefix keeps =
 
 module _ (f h g : Fields) (p q : Post (Item RunningSession)) (prefix : PrefixValue) (keeps : Keeps f) (dirty : has f.rib.dirty prefix ≡ true) (decided : h ≡ record f { rib = h.rib })
     (rib : h.rib ≡ record f.rib { best = with_best f.rib.best prefix (rib_choosing.chosen (rib_of f.rib) prefix); dirty = map.remove f.rib.dirty prefix })
-    (wrote : WroteOne p 6 prefix.address prefix.len 0 [] q) where
+    (wrote : Writes p (Decide prefix) [] q) where
   -- the routes that it has then
   pub keeps_decided : Keeps h
   keeps_decided = keeps_on f h keeps (subst (λ (x : Fields). x ≡ record f { places = x.places; rib = x.rib; due_in = x.due_in; due_out = x.due_out; turns = x.turns }) (sym decided) refl)
       (record {
-        places = ap (λ (x : Fields). length x.places.items) decided;
+        places = ap (λ (x : Fields). length x.places.places) decided;
+        reserved = ap (λ (x : Fields). x.places.room) decided;
         due_in = ap (λ (x : Fields). length x.due_in) decided;
         due_out = ap (λ (x : Fields). length x.due_out) decided;
         config = ap (λ (x : RibStore). x.config) rib;
         tellings = ap (λ (x : RibStore). (rib_of x).tellings) rib;
       })
-      (λ k. subst (λ (x : Fields). KeepsPlace f.known.setup f.number.0 k ((rib_of h.rib).entries k) (table_at x.due_out k) (place_at x.places.items k)) (sym decided)
-      (subst (λ (x : RibStore). KeepsPlace f.known.setup f.number.0 k ((rib_of x).entries k) (table_at f.due_out k) (place_at f.places.items k)) (sym rib) (keeps.each k)))
+      (λ k. subst (λ (x : Fields). KeepsPlace f.known.setup f.number.0 k ((rib_of h.rib).entries k) (table_at x.due_out k) (place_at x.places.places k)) (sym decided)
+      (subst (λ (x : RibStore). KeepsPlace f.known.setup f.number.0 k ((rib_of x).entries k) (table_at f.due_out k) (place_at f.places.places k)) (sym rib) (keeps.each k)))
 
   abbrev part_then : RouterPart
   part_then = record (router_part f) { best = with_best f.rib.best prefix (model_choosing.chosen f.known.setup f.number.0 (router_part f) prefix); dirty = map.remove f.rib.dirty prefix }
@@ -197,7 +197,7 @@ module _ (f h g : Fields) (p q : Post (Item RunningSession)) (prefix : PrefixVal
       ∙ ap (λ b. let y : RouterPart = record (router_part f) { best = with_best f.rib.best prefix b; dirty = map.remove f.rib.dirty prefix } in y) (chosen_is f prefix keeps)
 
   did_decide : (part : RouterPart) → router_part g ≡ part → SameRouter f g → Decides f.known.setup f.number.0 prefix (router_part f) None [] part → (t : ℕ → Tally) → Did f p t (Decide prefix ∷ []) g q t
-  did_decide part is same row t = did_one f g p q t (Decide prefix) 6 prefix.address prefix.len 0 same wrote (record { kind = refl; a = refl; b = refl; c = refl }) (subst (Decides f.known.setup f.number.0 prefix (router_part f) None []) (sym is) row) tt
+  did_decide part is same row t = did_one f g p q t (Decide prefix) same wrote (subst (Decides f.known.setup f.number.0 prefix (router_part f) None []) (sym is) row) tt
 
   -- the best route stays
   pub decides_same : AreApart (rib_choosing.chosen (rib_of f.rib) prefix) (map.get f.rib.best prefix) false → g ≡ h → DecidesOne prefix f p g q
@@ -208,8 +208,7 @@ module _ (f h g : Fields) (p q : Post (Item RunningSession)) (prefix : PrefixVal
 
       whole : DecidesOne prefix f p h q
       whole = record {
-        did = λ t. did_one f h p q t (Decide prefix) 6 prefix.address prefix.len 0 (record { setup = ap (λ (x : Fields). x.known.setup) decided; number = ap (λ (x : Fields). x.number) decided }) wrote
-            (record { kind = refl; a = refl; b = refl; c = refl }) (subst (Decides f.known.setup f.number.0 prefix (router_part f) None []) (sym part_decided) row) tt;
+        did = λ t. did_one f h p q t (Decide prefix) (record { setup = ap (λ (x : Fields). x.known.setup) decided; number = ap (λ (x : Fields). x.number) decided }) wrote (subst (Decides f.known.setup f.number.0 prefix (router_part f) None []) (sym part_decided) row) tt;
         dirty = ap (λ (x : RibStore). x.dirty) rib;
         same = subst (λ (x : Fields). x ≡ record f { rib = x.rib; due_in = x.due_in; due_out = x.due_out }) (sym decided) refl;
         keeps = keeps_decided;
@@ -222,9 +221,9 @@ module _ (f h g : Fields) (p q : Post (Item RunningSession)) (prefix : PrefixVal
     dirty = ap (λ (x : Fields). x.rib.dirty) due.same ∙ ap (λ (x : RibStore). x.dirty) rib;
     same = g_same;
     keeps = keeps_on h g keeps_decided (subst (λ (x : Fields). x ≡ record h { places = x.places; rib = x.rib; due_in = x.due_in; due_out = x.due_out; turns = x.turns }) (sym due.same) refl)
-        (record { places = ap (λ (x : Fields). length x.places.items) due.same; due_in = due.due_in.size; due_out = due.due_out.size; config = ap (λ (x : Fields). x.rib.config) due.same; tellings = ap (λ (x : Fields). (rib_of x.rib).tellings) due.same })
-        (λ k. subst (λ (x : Fields). KeepsPlace h.known.setup h.number.0 k ((rib_of x.rib).entries k) (table_at g.due_out k) (place_at x.places.items k)) (sym due.same)
-        (add_keeps h.known.setup h.number.0 k ((rib_of h.rib).entries k) (table_at h.due_out k) (table_at g.due_out k) prefix (place_at h.places.items k) (keeps_decided.each k) (out k)));
+        (record { places = ap (λ (x : Fields). length x.places.places) due.same; reserved = ap (λ (x : Fields). x.places.room) due.same; due_in = due.due_in.size; due_out = due.due_out.size; config = ap (λ (x : Fields). x.rib.config) due.same; tellings = ap (λ (x : Fields). (rib_of x.rib).tellings) due.same })
+        (λ k. subst (λ (x : Fields). KeepsPlace h.known.setup h.number.0 k ((rib_of x.rib).entries k) (table_at g.due_out k) (place_at x.places.places k)) (sym due.same)
+        (add_keeps h.known.setup h.number.0 k ((rib_of h.rib).entries k) (table_at h.due_out k) (table_at g.due_out k) prefix (place_at h.places.places k) (keeps_decided.each k) (out k)));
   }
     where
       g_same : g ≡ record f { rib = g.rib; due_in = g.due_in; due_out = g.due_out }
@@ -236,8 +235,8 @@ module _ (f h g : Fields) (p q : Post (Item RunningSession)) (prefix : PrefixVal
       part_is : router_part g ≡ part_new
       part_is = ap router_part due.same ∙ ap (λ (x : RouterPart). let y : RouterPart = record x { due_in = table_at g.due_in; due_out = table_at g.due_out } in y) part_decided
 
-      out : (k : ℕ) → Adds (table_at h.due_out k) (only prefix (holds_established (place_of (place_at h.places.items k)))) (table_at g.due_out k)
-      out = adds_all (is_up_at h) prefix h.due_out g.due_out due.due_out (λ k from. ap (λ (x : Place). holds_established (place_of x)) (place_at_end h.places.items k (omega (arith, from, keeps_decided.places, keeps_decided.due_out))))
+      out : (k : ℕ) → Adds (table_at h.due_out k) (only prefix (holds_established (place_of (place_at h.places.places k)))) (table_at g.due_out k)
+      out = adds_all (is_up_at h) prefix h.due_out g.due_out due.due_out (λ k from. ap (λ (x : Option Place). holds_established (place_of x)) (place_at_end h.places.places k (omega (arith, from, keeps_decided.places, keeps_decided.due_out))))
 
       into : (k : ℕ) → Adds (table_at h.due_in k) (only prefix (is_other h k)) (table_at g.due_in k)
       into = adds_all (is_other h) prefix h.due_in g.due_in due.due_in (λ k from. ap (λ (b : Bool). b && not (k == h.number.0)) (le-ltb k (routers_in h.known.setup) (omega (arith, from, keeps_decided.due_in))))
@@ -245,7 +244,7 @@ module _ (f h g : Fields) (p q : Post (Item RunningSession)) (prefix : PrefixVal
       everywhere : DueEverywhere f.known.setup f.number.0 prefix (router_part f) part_new
       everywhere = record {
         routers = subst (λ (x : Fields). (k : ℕ) → Adds (table_at x.due_in k) (only prefix (is_other x k)) (table_at g.due_in k)) decided into;
-        peerings = subst (λ (x : Fields). (k : ℕ) → Adds (table_at x.due_out k) (only prefix (holds_established (place_of (place_at x.places.items k)))) (table_at g.due_out k)) decided out;
+        peerings = subst (λ (x : Fields). (k : ℕ) → Adds (table_at x.due_out k) (only prefix (holds_established (place_of (place_at x.places.places k)))) (table_at g.due_out k)) decided out;
       }
 
       row : Decides f.known.setup f.number.0 prefix (router_part f) None [] part_new

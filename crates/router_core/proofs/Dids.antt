@@ -1,5 +1,5 @@
 -- Pieces of a call, one after another; and one event as a piece of a call.
-use Rattle.std.proofs.Common.{◌≡◌, ℕ, List, [], ◌∷◌, ◌++◌, Some, None, refl, ap, sym, subst, ◌∙◌, inl}
+use Rattle.std.proofs.Common.{◌≡◌, ℕ, List, [], ◌∷◌, ◌++◌, Option, Some, None, refl, ap, sym, subst, ◌∙◌, inl}
 use Rattle.ring_net.specs.Deeds.{Deed, Replay, TakesNone}
 use Rattle.ring_net.specs.Posts.{actor_of}
 use Rattle.ring_net.specs.declared.post.Post.{Post}
@@ -11,16 +11,17 @@ use Rattle.graft_model.specs.Setups.{Setup}
 use Rattle.graft_model.specs.Parts.{RouterPart}
 use Rattle.graft_model.specs.RouterRows.{RouterSent}
 use Rattle.graft_model.specs.Codes.{router_code}
-use Rattle.graft_model.specs.Steps.{RouterEvent, router_row}
+use Rattle.graft_model.specs.declared.event.RouterEvent.{RouterEvent}
+use Rattle.graft_model.specs.Steps.{router_row}
 use Rattle.graft_runs.specs.Actors.{ActorName, Router, RouterIs, Thing, number_in, IsActor, actor_at}
 use Rattle.graft_runs.specs.Makes.{HasCode, sent_by_router}
 use Rattle.graft_runs.proofs.Numbers.{there}
 use Rattle.graft_actors.specs.Acts.{acts}
 use Rattle.graft_actors.specs.Emissions.{Tally}
 use Rattle.graft_actors.specs.Items.{thing_of, MayGo}
-use Rattle.graft_actors.specs.Notes.{deed_of, WroteOne}
+use Rattle.graft_actors.specs.Notes.{deed_of}
 use Rattle.router_core.specs.Parts.{router_part, own_part, carried}
-use Rattle.router_core.specs.Rounds.{AreOf, CarefulRouter, router_tally, RouterRound, SameRouter, Did}
+use Rattle.router_core.specs.Rounds.{AreOf, CarefulRouter, router_tally, RouterRound, SameRouter, Did, Writes}
 use Rattle.router_core.specs.declared.fields.Fields.{Fields}
 
 -- ---- what a router is
@@ -74,16 +75,20 @@ did_then a b c p q r t u w es fs x y = record {
 
 -- ---- one event
 
+-- what is written of an event has its code
+pub has_code : (p : Post (Item RunningSession)) (event : RouterEvent) (taken : Option (ℕ × Item RunningSession)) (sent : List (ℕ × Item RunningSession)) → HasCode (router_code event) (deed_of p (router_code event) taken sent).entry
+has_code p event taken sent = record { kind = refl; a = refl; b = refl; c = refl }
+
 -- An event that takes nothing and sends nothing.
-pub did_one : (f g : Fields) (p q : Post (Item RunningSession)) (t : ℕ → Tally) (event : RouterEvent) (kind a b c : ℕ) → SameRouter f g → WroteOne p kind a b c [] q
-    → HasCode (router_code event) (deed_of p kind a b c None []).entry → router_row f.known.setup f.number.0 event (router_part f) None [] (router_part g) → CarefulRouter f.known.setup f.number.0 (router_part f) event
+pub did_one : (f g : Fields) (p q : Post (Item RunningSession)) (t : ℕ → Tally) (event : RouterEvent) → SameRouter f g → Writes p event [] q
+    → router_row f.known.setup f.number.0 event (router_part f) None [] (router_part g) → CarefulRouter f.known.setup f.number.0 (router_part f) event
     → Did f p t (event ∷ []) g q (router_tally (router_part f) event t)
-did_one f g p q t event kind a b c same wrote code row careful = record {
+did_one f g p q t event same wrote row careful = record {
   router = same;
-  deeds = deed_of p kind a b c None [] ∷ [];
+  deeds = deed_of p (router_code event) None [] ∷ [];
   wrote = wrote None;
   none = (refl, tt);
-  coded = (code, tt);
+  coded = (has_code p event None [], tt);
   replay = (
     own_part g,
     record {
@@ -91,7 +96,7 @@ did_one f g p q t event kind a b c same wrote code row careful = record {
       name = ap (λ k. Router k.0) same.number;
       does = inl (record {
         welcome = tt;
-        row = record { event = event; coded = code; took = None; gave = []; holds = row; is_taken = refl; is_sent = refl; there = tt };
+        row = record { event = event; coded = has_code p event None []; took = None; gave = []; holds = row; is_taken = refl; is_sent = refl; there = tt };
         fit = tt;
       });
     },
@@ -121,15 +126,15 @@ sends_is f to item sent s = λ i. (
 )
 
 -- An event that takes nothing and sends one item.
-pub did_sent : (f g : Fields) (p q : Post (Item RunningSession)) (t : ℕ → Tally) (event : RouterEvent) (kind a b c to : ℕ) (item : Item RunningSession) (sent : RouterSent) → SameRouter f g → WroteOne p kind a b c ((to, item) ∷ []) q
-    → HasCode (router_code event) (deed_of p kind a b c None []).entry → Sends f to item sent → router_row f.known.setup f.number.0 event (router_part f) None (sent ∷ []) (router_part g) → CarefulRouter f.known.setup f.number.0 (router_part f) event
+pub did_sent : (f g : Fields) (p q : Post (Item RunningSession)) (t : ℕ → Tally) (event : RouterEvent) (to : ℕ) (item : Item RunningSession) (sent : RouterSent) → SameRouter f g → Writes p event ((to, item) ∷ []) q
+    → Sends f to item sent → router_row f.known.setup f.number.0 event (router_part f) None (sent ∷ []) (router_part g) → CarefulRouter f.known.setup f.number.0 (router_part f) event
     → Did f p t (event ∷ []) g q (router_tally (router_part f) event t)
-did_sent f g p q t event kind a b c to item sent same wrote code sends row careful = record {
+did_sent f g p q t event to item sent same wrote sends row careful = record {
   router = same;
-  deeds = deed_of p kind a b c None ((to, item) ∷ []) ∷ [];
+  deeds = deed_of p (router_code event) None ((to, item) ∷ []) ∷ [];
   wrote = wrote None;
   none = (refl, tt);
-  coded = (code, tt);
+  coded = (has_code p event None [], tt);
   replay = (
     own_part g,
     record {
@@ -139,7 +144,7 @@ did_sent f g p q t event kind a b c to item sent same wrote code sends row caref
         welcome = tt;
         row = record {
           event = event;
-          coded = code;
+          coded = has_code p event None [];
           took = None;
           gave = sent ∷ [];
           holds = row;

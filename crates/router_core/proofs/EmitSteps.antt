@@ -1,5 +1,5 @@
 -- What sessions emit at their places.
-use Rattle.std.proofs.Common.{◌≡◌, ℕ, ◌+◌, ◌<◌, ◌≤◌, [], ◌∷◌, length, Option, option_map, ◌⊎◌, inl, inr, refl, sym, ap, subst, ◌∙◌, arith, set}
+use Rattle.std.proofs.Common.{◌≡◌, ℕ, ◌+◌, ◌<◌, ◌≤◌, [], ◌∷◌, length, Option, option_map, ◌⊎◌, inl, inr, refl, sym, ap, subst, ◌∙◌, arith, Some}
 use Rattle.ring_net.specs.declared.post.Post.{Post}
 use Rattle.tcp_seq.specs.Endpoint.{Endpoint, PlacedSegment, IsInStreams, EmitsSlice, EmitsEmpty, ready_bytes}
 use Rattle.tcp_seq.specs.Placed.{placed}
@@ -8,7 +8,8 @@ use Rattle.tcp_seq.specs.declared.segment.Way.{Way}
 use Rattle.tcp_seq.specs.declared.segment.Way.TheVariants.{Remote}
 use Rattle.graft_steps.specs.declared.item.Item.{Item}
 use Rattle.graft_steps.specs.declared.item.Item.TheVariants as items
-use Rattle.graft_steps.specs.declared.order.GraftIds.{GraftIds}
+use Rattle.session_places.specs.Places.{with_place}
+use Rattle.router_core.specs.declared.place.Errand.{Errand}
 use Rattle.session_value.specs.Sessions.{SessionValue, unread}
 use Rattle.bgp_session.specs.Running.{RunningSession}
 use Rattle.bgp_session.specs.Steps.{sent_as}
@@ -19,14 +20,13 @@ use Rattle.graft_model.specs.Slices.{EmitsAt}
 use Rattle.graft_model.specs.Parts as model
 use Rattle.graft_model.specs.Parts.{RouterPart, Seg}
 use Rattle.graft_model.specs.RouterRows.{OutwardTo}
-use Rattle.graft_model.specs.Steps.{Emit}
+use Rattle.graft_model.specs.declared.event.RouterEvent.TheVariants.{Emit}
 use Rattle.graft_runs.specs.Actors.{FarSide, OutwardItem}
 use Rattle.graft_actors.specs.Emissions.{IsCareful, Tally, counted}
 use Rattle.graft_actors.specs.Items.{home_first, remote_first, placed_for, segment_of, segment_thing}
-use Rattle.graft_actors.specs.Notes.{WroteOne}
 use Rattle.router_core.specs.Parts.{router_part, Keeps, KeepsPlace, IsOfPeering}
-use Rattle.router_core.specs.Places.{place_of, place_at, order_of}
-use Rattle.router_core.specs.Rounds.{Did, tally_at}
+use Rattle.router_core.specs.Places.{place_of, place_at, errand_of}
+use Rattle.router_core.specs.Rounds.{Did, tally_at, Writes}
 use Rattle.router_core.specs.Visits.{Stage, Visits, SameButPlaces}
 use Rattle.router_core.specs.declared.fields.Fields.{Fields}
 use Rattle.router_core.specs.declared.place.Place.{Place}
@@ -78,50 +78,50 @@ unread_same e f g (inr empty) = ap ready_bytes empty.given
 -- ---- the event
 
 -- The session that is live at a place emits a segment, which is noted and sent.
-module _ (f g : Fields) (p q : Post (Item RunningSession)) (n : ℕ) (s u : RunningSession) (o : Option GraftIds) (segment : Segment) (from len : ℕ)
-    (keeps : Keeps f) (there : n < length f.places.items) (is : place_at f.places.items n ≡ Live s o) (same : SameButPlaces f g) (items_are : g.places.items ≡ set f.places.items n (Live u o))
+module _ (f g : Fields) (p q : Post (Item RunningSession)) (n : ℕ) (s u : RunningSession) (o : Option Errand) (segment : Segment) (from len : ℕ)
+    (keeps : Keeps f) (there : n < length f.places.places) (is : place_at f.places.places n ≡ Some (Live s o)) (same : SameButPlaces f g) (items_are : g.places ≡ with_place f.places n (Some (Live u o)))
     (gives : Gives s.session segment u.session from len) (careful : IsCareful s.session.end from len) (short : length segment.bytes ≤ 1024)
-    (wrote : WroteOne p 2 n from len ((routers_in f.known.setup + n, items.Seg segment) ∷ []) q) where
-  place_is : KeepsPlace f.known.setup f.number.0 n ((rib_of f.rib).entries n) (table_at f.due_out n) (Live s o)
+    (wrote : Writes p (Emit n from len) ((routers_in f.known.setup + n, items.Seg segment) ∷ []) q) where
+  place_is : KeepsPlace f.known.setup f.number.0 n ((rib_of f.rib).entries n) (table_at f.due_out n) (Some (Live s o))
   place_is = subst (KeepsPlace f.known.setup f.number.0 n ((rib_of f.rib).entries n) (table_at f.due_out n)) is (keeps.each n)
 
   peering_there : n < peerings_in f.known.setup
   peering_there = omega (arith, there, keeps.places)
 
-  part_is : (router_part f).places n ≡ model.Live s.session (option_map order_of o)
+  part_is : (router_part f).places n ≡ model.Live s.session (option_map errand_of o)
   part_is = ap place_of is
 
   did_emit : (t : ℕ → Tally) → Did f p t (Emit n from len ∷ []) g q (at t n (counted s.session.end from len (t n)))
   did_emit t = subst (λ (x : model.Place). Did f p t (Emit n from len ∷ []) g q (at t n (tally_at x from len (t n)))) part_is
-      (did_sent f g p q t (Emit n from len) 2 n from len (routers_in f.known.setup + n) (items.Seg segment) (OutwardTo n (Seg (sent_as s.session.config segment)))
-      (record { setup = ap (λ (h : Fields). h.known.setup) same; number = ap (λ (h : Fields). h.number) same }) wrote (record { kind = refl; a = refl; b = refl; c = refl })
+      (did_sent f g p q t (Emit n from len) (routers_in f.known.setup + n) (items.Seg segment) (OutwardTo n (Seg (sent_as s.session.config segment)))
+      (record { setup = ap (λ (h : Fields). h.known.setup) same; number = ap (λ (h : Fields). h.number) same }) wrote
       (sends_segment f n from len s.session u.session segment peering_there place_is.0 gives short)
       (record {
         session = s.session;
-        order = option_map order_of o;
+        errand = option_map errand_of o;
         live = record { is = part_is };
         segment = sent_as s.session.config segment;
         end = gives.end;
         emits = gives.at;
         takes = refl;
         sends = refl;
-        effect = part_at f g n (Live u o) there same items_are ∙ ap (λ (v : SessionValue). let x : RouterPart = record (router_part f) { places = at (router_part f).places n (model.Live v (option_map order_of o)) } in x) gives.effect;
+        effect = part_at f g n (Some (Live u o)) there same items_are ∙ ap (λ (v : SessionValue). let x : RouterPart = record (router_part f) { places = at (router_part f).places n (model.Live v (option_map errand_of o)) } in x) gives.effect;
       })
-      (record { session = s.session; order = option_map order_of o; live = record { is = part_is }; careful = careful }))
+      (record { session = s.session; errand = option_map errand_of o; live = record { is = part_is }; careful = careful }))
 
   pub keeps_emitted : Keeps g
-  keeps_emitted = keeps_at f g n (Live u o) there same items_are keeps
+  keeps_emitted = keeps_at f g n (Some (Live u o)) there same items_are keeps
       (keeps_live f.known.setup f.number.0 n ((rib_of f.rib).entries n) (table_at f.due_out n) s u o place_is (ap (λ (v : SessionValue). v.config) gives.effect) (ap (λ (v : SessionValue). v.story) gives.effect)
       (ap unread gives.effect ∙ unread_same s.session.end gives.end (sent_as s.session.config segment) gives.at.emits))
 
-  pub visits_emitted : (stage : Stage) → stage.Goes [] (Live s o) (Live u o) → ((t : Tally) → counted s.session.end from len t ≡ stage.count (Live s o) t) → stage.Same f g → Visits stage n f p g q
+  pub visits_emitted : (stage : Stage) → stage.Goes [] (Some (Live s o)) (Some (Live u o)) → ((t : Tally) → counted s.session.end from len t ≡ stage.count (Some (Live s o)) t) → stage.Same f g → Visits stage n f p g q
   visits_emitted stage goes count same_rest = record {
     events = Emit n from len ∷ [];
-    did = λ t. subst (λ (x : Place). Did f p t (Emit n from len ∷ []) g q (at t n (stage.count x (t n)))) (sym is)
+    did = λ t. subst (λ (x : Option Place). Did f p t (Emit n from len ∷ []) g q (at t n (stage.count x (t n)))) (sym is)
         (subst (λ (x : Tally). Did f p t (Emit n from len ∷ []) g q (at t n x)) (count (t n)) (did_emit t));
     no_puts = (tt, tt);
-    goes = subst (λ (x : Place). stage.Goes [] x (place_at g.places.items n)) (sym is) (subst (λ (x : Place). stage.Goes [] (Live s o) x) (sym (here f g n (Live u o) there same items_are)) goes);
-    others = λ k not. (elsewhere f g n (Live u o) there same items_are k not, refl);
+    goes = subst (λ (x : Option Place). stage.Goes [] x (place_at g.places.places n)) (sym is) (subst (λ (x : Option Place). stage.Goes [] (Some (Live s o)) x) (sym (here f g n (Some (Live u o)) there same items_are)) goes);
+    others = λ k not. (elsewhere f g n (Some (Live u o)) there same items_are k not, refl);
     same = same_rest;
     keeps = keeps_emitted;
   }

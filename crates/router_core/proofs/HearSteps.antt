@@ -13,11 +13,12 @@ use Rattle.rib_stages.specs.Values.{RibValue, rib_of, table_at}
 use Rattle.graft_model.specs.Parts.{Told}
 use Rattle.graft_model.specs.RouterRows.{MeshIn}
 use Rattle.graft_model.specs.Setups.{routers_in}
-use Rattle.graft_model.specs.Steps.{Hear}
+use Rattle.graft_model.specs.declared.event.RouterEvent.TheVariants.{Hear}
 use Rattle.graft_runs.specs.Actors.{Router, actor_at}
 use Rattle.graft_runs.proofs.Numbers.{there}
-use Rattle.graft_actors.specs.Notes.{WroteOne}
+use Rattle.graft_actors.specs.Notes.{WroteOne, dropped}
 use Rattle.graft_actors.proofs.Welcome.{router_told}
+use Rattle.router_core.specs.Rounds.{Writes}
 use Rattle.router_core.specs.Parts.{router_part, carried, Keeps, KeepsPlace}
 use Rattle.router_core.specs.Places.{place_at}
 use Rattle.router_core.specs.Takes.{TakesIt}
@@ -27,11 +28,11 @@ use Rattle.router_core.proofs.Kept.{at_else, rest_of, keeps_on, with_routes}
 use Rattle.router_core.proofs.Takings.{drops, is_router, all_stay, takes_then}
 
 module _ (f : Fields) (p q : Post (Item RunningSession)) (from : ℕ) (prefix : PrefixValue) (route : Option Route) (keeps : Keeps f) where
-  pub drops_told : f.routers ≤ from → WroteOne p 0 0 0 0 [] q → TakesIt from (items.Told prefix route) f p f q
+  pub drops_told : f.routers ≤ from → WroteOne p dropped [] q → TakesIt from (items.Told prefix route) f p f q
   drops_told past wrote = drops f p q from (items.Told prefix route) keeps wrote
       (λ w. let below : from < routers_in f.known.setup = is_router f.known.setup from ((router_told carried f.known.setup from f.number.0 (router_part f) prefix route).0 w) in omega (arith, below, past, keeps.routers))
 
-  pub hears : (g : Fields) (m : ℕ) → m ≡ from → from < f.routers → WroteOne p 8 from 0 0 [] q → g ≡ record f { rib = g.rib } → SetsTelling (rib_of f.rib) m prefix route (rib_of g.rib) → TakesIt from (items.Told prefix route) f p g q
+  pub hears : (g : Fields) (m : ℕ) → m ≡ from → from < f.routers → Writes p (Hear from) [] q → g ≡ record f { rib = g.rib } → SetsTelling (rib_of f.rib) m prefix route (rib_of g.rib) → TakesIt from (items.Told prefix route) f p g q
   hears g m is below wrote same given =
       let sets : SetsTelling (rib_of f.rib) from prefix route (rib_of g.rib) = subst (λ (n : ℕ). SetsTelling (rib_of f.rib) n prefix route (rib_of g.rib)) is given in
       let known : from < routers_in f.known.setup = omega (arith, below, keeps.routers) in
@@ -39,11 +40,8 @@ module _ (f : Fields) (p q : Post (Item RunningSession)) (from : ℕ) (prefix : 
       takes_then f g g p q q from (items.Told prefix route) (Hear from) []
       (record {
         router = record { setup = ap (λ (h : Fields). h.known.setup) same; number = ap (λ (h : Fields). h.number) same };
-        kind = 8;
-        a = from;
         sent = [];
         wrote = wrote;
-        code = record { kind = refl; a = refl; b = refl; c = refl };
         welcome = (router_told carried f.known.setup from f.number.0 (router_part f) prefix route).1 (from, at);
         name = Router from;
         number = refl;
@@ -72,11 +70,12 @@ module _ (f : Fields) (p q : Post (Item RunningSession)) (from : ℕ) (prefix : 
       (keeps_on f g (rest_of f keeps)
       (subst (λ (h : Fields). h ≡ record f { places = h.places; rib = h.rib; due_in = h.due_in; due_out = h.due_out; turns = h.turns }) (sym same) refl)
       (record {
-        places = ap (λ (h : Fields). length h.places.items) same;
+        places = ap (λ (h : Fields). length h.places.places) same;
+        reserved = ap (λ (h : Fields). h.places.room) same;
         due_in = ap (λ (h : Fields). length h.due_in) same;
         due_out = ap (λ (h : Fields). length h.due_out) same;
         config = ap (λ (v : RibValue). v.config) sets.effect;
         tellings = λ n out. ap (λ (v : RibValue). v.tellings n) sets.effect ∙ at_else (rib_of f.rib).tellings from (with_value ((rib_of f.rib).tellings from) prefix route) n (λ e. let x : ⊥ = omega (arith, e, out, known) in x);
       })
-      (λ n. subst (λ (h : Fields). KeepsPlace f.known.setup f.number.0 n ((rib_of g.rib).entries n) (table_at h.due_out n) (place_at h.places.items n)) (sym same)
-      (subst (λ (es : Entries). KeepsPlace f.known.setup f.number.0 n es (table_at f.due_out n) (place_at f.places.items n)) (sym (ap (λ (v : RibValue). v.entries n) sets.effect)) (keeps.each n))))
+      (λ n. subst (λ (h : Fields). KeepsPlace f.known.setup f.number.0 n ((rib_of g.rib).entries n) (table_at h.due_out n) (place_at h.places.places n)) (sym same)
+      (subst (λ (es : Entries). KeepsPlace f.known.setup f.number.0 n es (table_at f.due_out n) (place_at f.places.places n)) (sym (ap (λ (v : RibValue). v.entries n) sets.effect)) (keeps.each n))))

@@ -1,5 +1,5 @@
 -- What a router keeps while its places, its routes and what is due change.
-use Rattle.std.proofs.Common.{◌≡◌, ◌≢◌, ℕ, ◌<◌, ◌≤◌, List, length, Option, is_some, Bool, refl, sym, ap, subst, ◌∙◌, arith, inl, inr, ◌⊎◌, set}
+use Rattle.std.proofs.Common.{◌≡◌, ◌≢◌, ℕ, ◌<◌, ◌≤◌, List, length, Option, is_some, Bool, refl, sym, ap, subst, ◌∙◌, arith, inl, inr, ◌⊎◌, set, None, Some}
 use Rattle.std.specs.Prelude.{if◌then◌else◌}
 use Rattle.std.specs.FinMap as map
 use Rattle.std.proofs.lemmas.Bool.{cases_lt, eq-eqb, ne_eqb}
@@ -10,7 +10,7 @@ use Rattle.rib_stages.specs.Values.{RibValue, rib_of, table_at}
 use Rattle.graft_model.specs.Points.{at}
 use Rattle.graft_model.specs.Parts.{RouterPart}
 use Rattle.bgp_session.specs.Running.{RunningSession}
-use Rattle.graft_steps.specs.declared.order.GraftIds.{GraftIds}
+use Rattle.router_core.specs.declared.place.Errand.{Errand}
 use Rattle.graft_model.specs.Setups.{routers_in}
 use Rattle.router_core.specs.Configs.{IsRibOf}
 use Rattle.router_core.specs.Parts.{Keeps, KeepsPlace}
@@ -19,7 +19,7 @@ use Rattle.router_core.specs.Reading.{KeepsRest}
 use Rattle.router_core.specs.Takes.{Stays}
 use Rattle.router_core.specs.declared.fields.Fields.{Fields}
 use Rattle.router_core.specs.declared.place.Place.{Place}
-use Rattle.router_core.specs.declared.place.Place.TheVariants.{Vacant, Live}
+use Rattle.router_core.specs.declared.place.Place.TheVariants.{Live}
 
 -- ---- numbers
 
@@ -45,14 +45,14 @@ at_is f g p x here others = λ i q. each q i
 
 -- ---- places
 
-pub placed_here : (places : List Place) (p : ℕ) (x : Place) → p < length places → place_at (set places p x) p ≡ x
-placed_here places p x there = get_or-set_same places p x Vacant there
+pub placed_here : (places : List (Option Place)) (p : ℕ) (x : Option Place) → p < length places → place_at (set places p x) p ≡ x
+placed_here places p x there = get_or-set_same places p x None there
 
-pub placed_else : (places : List Place) (p : ℕ) (x : Place) (q : ℕ) → q ≢ p → place_at (set places p x) q ≡ place_at places q
-placed_else places p x q not = get_or-set_other places p q x Vacant not
+pub placed_else : (places : List (Option Place)) (p : ℕ) (x : Option Place) (q : ℕ) → q ≢ p → place_at (set places p x) q ≡ place_at places q
+placed_else places p x q not = get_or-set_other places p q x None not
 
 -- the places of the part
-pub places_at : (places : List Place) (p : ℕ) (x : Place) → p < length places → (λ q. place_of (place_at (set places p x) q)) ≡ at (λ q. place_of (place_at places q)) p (place_of x)
+pub places_at : (places : List (Option Place)) (p : ℕ) (x : Option Place) → p < length places → (λ q. place_of (place_at (set places p x) q)) ≡ at (λ q. place_of (place_at places q)) p (place_of x)
 places_at places p x there = at_is (λ q. place_of (place_at places q)) (λ q. place_of (place_at (set places p x) q)) p (place_of x) (ap place_of (placed_here places p x there)) (λ q not. ap place_of (placed_else places p x q not))
 
 -- ---- what is kept
@@ -64,6 +64,7 @@ rest_of f k = record {
   few_routers = k.few_routers;
   few_peerings = k.few_peerings;
   room = k.room;
+  reserved = k.reserved;
   home_as = k.home_as;
   policies = k.policies;
   firsts = k.firsts;
@@ -74,13 +75,14 @@ rest_of f k = record {
   tellings = k.tellings;
 }
 
-pub keeps_of : (f : Fields) → KeepsRest f → ((p : ℕ) → KeepsPlace f.known.setup f.number.0 p ((rib_of f.rib).entries p) (table_at f.due_out p) (place_at f.places.items p)) → Keeps f
+pub keeps_of : (f : Fields) → KeepsRest f → ((p : ℕ) → KeepsPlace f.known.setup f.number.0 p ((rib_of f.rib).entries p) (table_at f.due_out p) (place_at f.places.places p)) → Keeps f
 keeps_of f k each = record {
   there = k.there;
   routers = k.routers;
   few_routers = k.few_routers;
   few_peerings = k.few_peerings;
   room = k.room;
+  reserved = k.reserved;
   home_as = k.home_as;
   policies = k.policies;
   firsts = k.firsts;
@@ -98,7 +100,8 @@ IsSteady f g = g ≡ record f { places = g.places; rib = g.rib; due_in = g.due_i
 
 -- and there are as many places and sets, the same configuration of routes, and no more tellings of routers that aren't there
 pub record SameSizes (f g : Fields) : Type 0 where
-  pub places : length g.places.items ≡ length f.places.items
+  pub places : length g.places.places ≡ length f.places.places
+  pub reserved : g.places.room ≡ f.places.room
   pub due_in : length g.due_in ≡ length f.due_in
   pub due_out : length g.due_out ≡ length f.due_out
   pub config : g.rib.config ≡ f.rib.config
@@ -111,6 +114,7 @@ rest_on f g k steady sizes = subst KeepsRest (sym steady) (record {
   few_routers = k.few_routers;
   few_peerings = k.few_peerings;
   room = k.room;
+  reserved = sizes.reserved ∙ k.reserved;
   home_as = k.home_as;
   policies = k.policies;
   firsts = k.firsts;
@@ -121,9 +125,9 @@ rest_on f g k steady sizes = subst KeepsRest (sym steady) (record {
   tellings = λ q from x. ap (λ (t : Tellings). is_some (map.get t x)) (sizes.tellings q from) ∙ k.tellings q from x;
 })
 
-pub keeps_on : (f g : Fields) → KeepsRest f → IsSteady f g → SameSizes f g → ((p : ℕ) → KeepsPlace f.known.setup f.number.0 p ((rib_of g.rib).entries p) (table_at g.due_out p) (place_at g.places.items p)) → Keeps g
+pub keeps_on : (f g : Fields) → KeepsRest f → IsSteady f g → SameSizes f g → ((p : ℕ) → KeepsPlace f.known.setup f.number.0 p ((rib_of g.rib).entries p) (table_at g.due_out p) (place_at g.places.places p)) → Keeps g
 keeps_on f g k steady sizes each = keeps_of g (rest_on f g k steady sizes)
-    (λ p. subst (λ (h : Fields). KeepsPlace h.known.setup h.number.0 p ((rib_of g.rib).entries p) (table_at g.due_out p) (place_at g.places.items p)) (sym steady) (each p))
+    (λ p. subst (λ (h : Fields). KeepsPlace h.known.setup h.number.0 p ((rib_of g.rib).entries p) (table_at g.due_out p) (place_at g.places.places p)) (sym steady) (each p))
 
 -- ---- the part with other routes
 
@@ -132,8 +136,8 @@ with_routes part rib = record part { entries = rib.entries; tellings = rib.telli
 
 -- ---- a session that stays
 
-pub live_is : (places : List Place) (p : ℕ) (s u : RunningSession) (o q : Option GraftIds) → RunsAt places p s o → RunsAt places p u q → u ≡ s
-live_is places p s u o q a b = let e : Live u q ≡ Live s o = sym b.is ∙ a.is in cc
+pub live_is : (places : List (Option Place)) (p : ℕ) (s u : RunningSession) (o q : Option Errand) → RunsAt places p s o → RunsAt places p u q → u ≡ s
+live_is places p s u o q a b = let e : Some (Live u q) ≡ Some (Live s o) = sym b.is ∙ a.is in cc
 
 pub stays_itself : (s u : RunningSession) → u ≡ s → Stays s u
 stays_itself s u e = subst (λ (v : RunningSession). Stays s v) (sym e) (record { acked = omega arith; emitted = refl; at_turn = refl })

@@ -1,20 +1,13 @@
 -- A session that moves here: whether it is taken in, and how it lands.
-use Rattle.std.proofs.Common.{◌≡◌, ℕ, suc, ◌+◌, ◌<◌, ◌≤◌, List, [], ◌∷◌, ◌++◌, length, get_or, Bool, true, false, Option, Some, None, is_some, refl, sym, ap, ◌∙◌, arith}
-use Rattle.std.specs.Prelude.{count_by, fold, filter, is_none, option_map, if◌then◌else◌}
+use Rattle.std.proofs.Common.{◌≡◌, ℕ, suc, ◌+◌, ◌<◌, List, [], ◌∷◌, length, get_or, Bool, true, false, Option, Some, None, is_some, inl, inr, refl, sym, ap, ◌∙◌, arith}
+use Rattle.std.specs.Prelude.{count_by, filter, is_none, nat_le, option_map, if◌then◌else◌}
+use Rattle.std.proofs.lemmas.Bool.{cases_lt, le-leb}
 use Rattle.std.specs.FinMap as map
 use Rattle.std.specs.List.{range_with_len}
-use Rattle.std.proofs.Common.{append_assoc}
-use Rattle.std.proofs.lemmas.Bool.Decides.{nat_tests}
-use Rattle.std.proofs.lemmas.List.Sums.{fold-append}
 use Rattle.bgp_types.specs.Prefixes.{PrefixValue}
 use Rattle.bgp_types.specs.declared.attrs.Attrs.{Attrs}
-use Rattle.ring_net.specs.Deeds.{sent_by}
-use Rattle.ring_net.specs.Posts.{clock_of, waits, for_one, SendsItem}
-use Rattle.ring_net.specs.declared.entry.Stamped.{Stamped}
-use Rattle.ring_net.specs.declared.post.Post.{Post}
-use Rattle.graft_steps.specs.declared.item.Item.{Item}
 use Rattle.graft_steps.specs.Refusals.{admit_refusal}
-use Rattle.bgp_session.specs.Running.{RunningSession}
+use Rattle.graft_steps.specs.declared.refusal.Refusal.TheVariants.{PolicyMissing, RouterFull}
 use Rattle.session_value.specs.Sessions.{SessionValue}
 use Rattle.route_policy.specs.Candidates.{imported}
 use Rattle.route_policy.specs.declared.entry.Entry.{Entry}
@@ -27,29 +20,22 @@ use Rattle.graft_model.specs.Setups.{first_of, unknown}
 use Rattle.tell_plan.proofs.Keys.{keys_any}
 use Rattle.router_core.specs.Entering.{EntersAll, entry_here, missing_by, unknown_by}
 use Rattle.router_core.specs.Parts.{router_part, Keeps, HasNoEntry}
-use Rattle.router_core.specs.Places.{place_of, place_at, is_held, weight}
+use Rattle.router_core.specs.Places.{place_of, place_at}
 use Rattle.router_core.specs.declared.fields.Fields.{Fields}
 use Rattle.router_core.specs.declared.place.Place.{Place}
-use Rattle.router_core.specs.declared.place.Place.TheVariants.{Vacant, Live, Shadow}
-use Rattle.graft_actors.specs.Notes.{deed_of, WroteOne}
+use Rattle.router_core.specs.declared.place.Place.TheVariants.{Live, Shadow}
+use Rattle.router_core.proofs.PlaceLists.{count_first}
 use Rattle.router_core.proofs.Kept.{rest_of}
 use Rattle.router_core.proofs.ReadSteps.{entry_is}
 
 -- ---- how many places are taken
 
-held_is : (place : Place) → is_taken (place_of place) ≡ is_held place
-held_is Vacant = refl
-held_is (Live s o) = refl
-held_is (Shadow away) = refl
+held_is : (place : Option Place) → is_taken (place_of place) ≡ is_some place
+held_is None = refl
+held_is (Some (Live s o)) = refl
+held_is (Some (Shadow away)) = refl
 
-add_from : (xs : List Place) (a b : ℕ) → fold (λ (n : ℕ) (y : Place). n + (if is_held y then 1 else 0)) (a + b) xs ≡ a + fold (λ (n : ℕ) (y : Place). n + (if is_held y then 1 else 0)) b xs
-add_from [] a b = refl
-add_from (y ∷ ys) a b = ap (λ (n : ℕ). fold (λ (m : ℕ) (z : Place). m + (if is_held z then 1 else 0)) n ys) (let e : a + b + (if is_held y then 1 else 0) ≡ a + (b + (if is_held y then 1 else 0)) = omega arith in e) ∙ add_from ys a (b + (if is_held y then 1 else 0))
-
-count_first : (x : Place) (xs : List Place) → count_by is_held (x ∷ xs) ≡ (if is_held x then 1 else 0) + count_by is_held xs
-count_first x xs = ap (λ (n : ℕ). fold (λ (m : ℕ) (z : Place). m + (if is_held z then 1 else 0)) n xs) (let e : 0 + (if is_held x then 1 else 0) ≡ (if is_held x then 1 else 0) + 0 = omega arith in e) ∙ add_from xs (if is_held x then 1 else 0) 0
-
-count_step : (g : ℕ → Bool) (x : Place) (xs : List Place) (k : ℕ) → g k ≡ is_held x → length (filter g (range_with_len (k + 1) (length xs))) ≡ count_by is_held xs → length (filter g (range_with_len k (length (x ∷ xs)))) ≡ count_by is_held (x ∷ xs)
+count_step : (g : ℕ → Bool) (x : Option Place) (xs : List (Option Place)) (k : ℕ) → g k ≡ is_some x → length (filter g (range_with_len (k + 1) (length xs))) ≡ count_by is_some xs → length (filter g (range_with_len k (length (x ∷ xs)))) ≡ count_by is_some (x ∷ xs)
 count_step g x xs k same rest =
     ap (λ (n : ℕ). length (filter g (range_with_len k n))) (let e : length (x ∷ xs) ≡ suc (length xs) = omega arith in e)
     ∙ one (g k) (filter g (range_with_len (k + 1) (length xs))) ∙ (λ i. (if same i then 1 else 0) + rest i) ∙ sym (count_first x xs) where
@@ -57,16 +43,16 @@ count_step g x xs k same rest =
       one true ns = omega arith
       one false ns = omega arith
 
-count_from : (g : ℕ → Bool) (xs : List Place) (k : ℕ) → ((i : ℕ) → i < length xs → g (k + i) ≡ is_held (get_or xs i Vacant)) → length (filter g (range_with_len k (length xs))) ≡ count_by is_held xs
+count_from : (g : ℕ → Bool) (xs : List (Option Place)) (k : ℕ) → ((i : ℕ) → i < length xs → g (k + i) ≡ is_some (get_or xs i None)) → length (filter g (range_with_len k (length xs))) ≡ count_by is_some xs
 count_from g [] k same = refl
 count_from g (x ∷ xs) k same =
     count_step g x xs k (ap g (let e : k ≡ k + 0 = omega arith in e) ∙ same 0 (omega arith))
     (count_from g xs (k + 1) (λ i below. ap g (let e : k + 1 + i ≡ k + suc i = omega arith in e) ∙ same (suc i) (omega (arith, below))))
 
-pub taken_is : (f : Fields) → Keeps f → count_by is_held f.places.items ≡ taken_in f.known.setup (router_part f)
+pub taken_is : (f : Fields) → Keeps f → count_by is_some f.places.places ≡ taken_in f.known.setup (router_part f)
 taken_is f keeps =
-    sym (count_from (λ n. is_taken (place_of (place_at f.places.items n))) f.places.items 0 (λ i below. ap (λ (n : ℕ). is_taken (place_of (place_at f.places.items n))) (let e : 0 + i ≡ i = omega arith in e) ∙ held_is (place_at f.places.items i)))
-    ∙ ap (λ (n : ℕ). length (filter (λ p. is_taken (place_of (place_at f.places.items p))) (range_with_len 0 n))) keeps.places
+    sym (count_from (λ n. is_taken (place_of (place_at f.places.places n))) f.places.places 0 (λ i below. ap (λ (n : ℕ). is_taken (place_of (place_at f.places.places n))) (let e : 0 + i ≡ i = omega arith in e) ∙ held_is (place_at f.places.places i)))
+    ∙ ap (λ (n : ℕ). length (filter (λ p. is_taken (place_of (place_at f.places.places p))) (range_with_len 0 n))) keeps.places
 
 -- ---- why a session isn't taken in
 
@@ -74,7 +60,7 @@ unknown_is : (f : Fields) (name : Option (List ℕ)) → Keeps f → unknown_by 
 unknown_is f None keeps = refl
 unknown_is f (Some name) keeps = ap (λ (o : Option (List Rule)). if is_none o then Some name else None) (keeps.policies.each name)
 
-pub refusal_is : (f : Fields) (s : SessionValue) → Keeps f → admit_refusal (count_by is_held f.places.items) f.room (missing_by f.policies s.config) ≡ refusal_of f.known.setup f.number.0 (router_part f) s
+pub refusal_is : (f : Fields) (s : SessionValue) → Keeps f → admit_refusal (count_by is_some f.places.places) f.room (missing_by f.policies s.config) ≡ refusal_of f.known.setup f.number.0 (router_part f) s
 refusal_is f s keeps = λ i. admit_refusal (taken_is f keeps i) (keeps.room i) (first_of (unknown_is f s.config.import keeps i) (unknown_is f s.config.export keeps i))
 
 -- ---- what lands brings in
@@ -94,31 +80,10 @@ brings_in f s after keeps none entered x = by_test (is_some (map.get s.heard x))
     by_test true e = entered.each x (keys_any s.heard x ∙ e) ∙ entry_is f s x (rest_of f keeps)
     by_test false e = entered.others x (keys_any s.heard x ∙ e) ∙ no_value (map.get ((rib_of f.rib).entries s.config.peering.0) x) (none x) ∙ sym (none_brought f s x (no_value (map.get s.heard x) e))
 
--- ---- the counts of a loop
-
-pub count_more : (xs : List Place) (x : Place) → count_by is_held (xs ++ x ∷ []) ≡ count_by is_held xs + weight x
-count_more xs x = fold-append (λ (a : ℕ) (y : Place). a + (if is_held y then 1 else 0)) 0 xs (x ∷ [])
-
-pub weight_few : (x : Place) → weight x ≤ 1
-weight_few Vacant = omega arith
-weight_few (Live s o) = omega arith
-weight_few (Shadow away) = omega arith
-
--- ---- one item more is sent
-
-pub wrote_more : (p q r : Post (Item RunningSession)) (kind a t u : ℕ) (x y : Item RunningSession) → WroteOne p kind a 0 0 ((t, x) ∷ []) q → SendsItem q u y r → WroteOne p kind a 0 0 ((t, x) ∷ (u, y) ∷ []) r
-wrote_more p q r kind a t u x y wrote s taken =
-    let w = wrote taken in
-    let clock : clock_of q ≡ clock_of p + 1 = w.clocks.1 in record {
-      actor = s.actor ∙ w.actor;
-      own = w.own;
-      clocks = (w.clocks.0, s.clock ∙ w.clocks.1);
-      entries = s.entries ∙ w.entries;
-      edges = λ b. s.edges b ∙ w.edges b;
-      boxes = λ b l. s.boxes b (w.edges b ∙ l) ∙ (λ i. w.boxes b l i ++ for_one u (record { stamp = record { 0 = clock i }; item = y }) b)
-          ∙ append_assoc (waits p b) (sent_by b (deed_of p kind a 0 0 taken ((t, x) ∷ []) ∷ [])) (for_one u (record { stamp = record { 0 = clock_of p + 1 }; item = y }) b)
-          ∙ ap (λ (xs : List (Stamped (Item RunningSession))). waits p b ++ xs) (two b);
-    }
+-- a session that isn't refused finds room
+pub has_room : (held room : ℕ) (missing : Option (List ℕ)) → admit_refusal held room missing ≡ None → held < room
+has_room held room missing none = by_test (nat_le room held) refl none
   where
-    two : (b : ℕ) → sent_by b (deed_of p kind a 0 0 taken ((t, x) ∷ []) ∷ []) ++ for_one u (record { stamp = record { 0 = clock_of p + 1 }; item = y }) b ≡ sent_by b (deed_of p kind a 0 0 taken ((t, x) ∷ (u, y) ∷ []) ∷ [])
-    two b = grind (arith, nat_tests)
+    by_test : (b : Bool) → nat_le room held ≡ b → (if b then Some (RouterFull room) else option_map PolicyMissing missing) ≡ None → held < room
+    by_test true e passes = absurd (let x : ⊥ = cc in x)
+    by_test false e passes = elim (cases_lt held room) [ inl below ↦ below | inr from ↦ absurd (let y : ◌≡◌ {A = Bool} true false = sym (le-leb room held from) ∙ e in let x : ⊥ = cc in x) ]

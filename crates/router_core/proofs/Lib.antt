@@ -8,6 +8,7 @@ pub mod EmitSteps
 pub mod SendSteps
 pub mod EachPlace
 pub mod LeaveSteps
+mod ConfirmSteps
 pub mod DecideSteps
 pub mod TellSteps
 pub mod BeginSteps
@@ -20,6 +21,7 @@ pub mod HearSteps
 pub mod GraftSteps
 pub mod EnterSteps
 pub mod PrefixSets
+pub mod PlaceLists
 pub mod PlaceTests
 pub mod ReadSteps
 pub mod ReadRows

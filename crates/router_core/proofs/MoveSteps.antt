@@ -5,49 +5,54 @@ use Rattle.ring_net.specs.declared.post.Post.{Post}
 use Rattle.graft_steps.specs.declared.item.Item.{Item}
 use Rattle.graft_steps.specs.declared.item.Item.TheVariants as items
 use Rattle.graft_steps.specs.declared.order.GraftIds.{GraftIds}
+use Rattle.router_core.specs.Rounds.{Writes}
+use Rattle.router_core.specs.declared.place.Errand.{Errand}
+use Rattle.router_core.specs.declared.place.Errand.TheVariants.{Owing}
 use Rattle.graft_steps.specs.declared.refusal.Refusal.{Refusal}
 use Rattle.bgp_session.specs.Running.{RunningSession}
 use Rattle.rib_stages.specs.Values.{RibValue, rib_of, table_at}
 use Rattle.session_value.specs.Sets.{Entries, Prefixes}
+use Rattle.graft_model.specs.Points.{at}
 use Rattle.graft_model.specs.GraftRows.{Comes, refusal_of}
 use Rattle.graft_model.specs.Parts as model
-use Rattle.graft_model.specs.Parts.{RouterPart, Moved, Back, Done, PointAt}
+use Rattle.graft_model.specs.Parts.{RouterPart, Moved, Back, PointAt}
 use Rattle.graft_model.specs.RouterRows.{MeshIn, MeshTo, OutwardTo}
 use Rattle.graft_model.specs.Setups.{routers_in, peerings_in}
-use Rattle.graft_model.specs.Steps.{Land, TurnBack}
-use Rattle.graft_runs.specs.Actors.{Router, FarSide, MeshItem, OutwardItem, actor_at}
+use Rattle.graft_model.specs.declared.event.RouterEvent.TheVariants.{Land, TurnBack}
+use Rattle.graft_runs.specs.Actors.{Router, FarSide, OutwardItem, actor_at}
 use Rattle.graft_runs.proofs.Numbers.{there as is_there}
 use Rattle.graft_actors.specs.Items.{IsOnItsWay}
-use Rattle.graft_actors.specs.Notes.{WroteOne}
+use Rattle.graft_actors.specs.Notes.{WroteOne, dropped}
 use Rattle.graft_actors.proofs.Welcome.{router_moved}
 use Rattle.router_core.specs.Parts.{router_part, carried, Keeps, KeepsPlace, HasNoEntry}
-use Rattle.router_core.specs.Places.{place_of, place_at}
+use Rattle.router_core.specs.Places.{place_of, place_at, word_of}
 use Rattle.router_core.specs.Reading.{KeepsBut, ReadsAll, SettlesIn}
 use Rattle.router_core.specs.Takes.{TakesIt}
 use Rattle.router_core.specs.declared.fields.Fields.{Fields}
 use Rattle.router_core.specs.declared.place.Place.{Place}
-use Rattle.router_core.specs.declared.place.Place.TheVariants.{Vacant, Live, Shadow}
+use Rattle.router_core.specs.declared.place.Place.TheVariants.{Live, Shadow}
 use Rattle.router_core.proofs.Dids.{did_same, same_router}
 use Rattle.router_core.proofs.Kept.{one_or_other, at_is, at_else, places_at, placed_here, placed_else, rest_of, rest_on, with_routes, live_is, stays_itself}
 use Rattle.router_core.proofs.LandSteps.{brings_in}
+use Rattle.router_core.proofs.PlaceLists.{listed, rooms}
 use Rattle.router_core.proofs.Takings.{drops, is_router, all_stay, takes_then}
 
-vacant_of : (place : Place) → place_of place ≡ model.Vacant → place ≡ Vacant
-vacant_of Vacant e = refl
-vacant_of (Live s o) e = absurd (let x : ⊥ = cc in x)
-vacant_of (Shadow away) e = absurd (let x : ⊥ = cc in x)
+vacant_of : (place : Option Place) → place_of place ≡ model.Vacant → place ≡ None
+vacant_of None e = refl
+vacant_of (Some (Live s o)) e = absurd (let x : ⊥ = cc in x)
+vacant_of (Some (Shadow away)) e = absurd (let x : ⊥ = cc in x)
 
 -- a session that isn't a router's, or whose place is taken, or that isn't on its way
 pub drops_moved : (f : Fields) (a b : Post (Item RunningSession)) (from k : ℕ) (s : RunningSession) → Keeps f
-    → (from < f.routers → s.session.config.peering.0 < length f.places.items → place_at f.places.items s.session.config.peering.0 ≡ Vacant → IsOnItsWay f.known.setup s.session → ⊥) → WroteOne a 0 0 0 0 [] b → TakesIt from (items.Moved k s) f a f b
+    → (from < f.routers → s.session.config.peering.0 < length f.places.places → place_at f.places.places s.session.config.peering.0 ≡ None → IsOnItsWay f.known.setup s.session → ⊥) → WroteOne a dropped [] b → TakesIt from (items.Moved k s) f a f b
 drops_moved f a b from k s keeps not wrote = drops f a b from (items.Moved k s) keeps wrote
     (λ w.
     let is = (router_moved carried f.known.setup from f.number.0 k (router_part f) s).0 w in
     let known : from < routers_in f.known.setup = is_router f.known.setup from is.0 in
-    not (omega (arith, known, keeps.routers)) (omega (arith, is.2, keeps.places)) (vacant_of (place_at f.places.items s.session.config.peering.0) is.3) is.1)
+    not (omega (arith, known, keeps.routers)) (omega (arith, is.2, keeps.places)) (vacant_of (place_at f.places.places s.session.config.peering.0) is.3) is.1)
 
 module _ (f : Fields) (a b : Post (Item RunningSession)) (from k : ℕ) (s : RunningSession) (keeps : Keeps f)
-    (below : from < f.routers) (there : s.session.config.peering.0 < length f.places.items) (vacant : place_at f.places.items s.session.config.peering.0 ≡ Vacant) (way : IsOnItsWay f.known.setup s.session) where
+    (below : from < f.routers) (there : s.session.config.peering.0 < length f.places.places) (vacant : place_at f.places.places s.session.config.peering.0 ≡ None) (way : IsOnItsWay f.known.setup s.session) where
   abbrev p : ℕ
   p = s.session.config.peering.0
 
@@ -64,15 +69,12 @@ module _ (f : Fields) (a b : Post (Item RunningSession)) (from k : ℕ) (s : Run
   comes = record { graft = k; peering = p; session = s.session; takes = refl; known = peering_known; vacant = ap place_of vacant }
 
   -- it is sent back
-  pub turns_back : (refusal : Refusal) → refusal_of f.known.setup f.number.0 (router_part f) s.session ≡ Some refusal → WroteOne a 14 from 0 0 ((from, items.Back k s refusal) ∷ []) b → TakesIt from (items.Moved k s) f a f b
+  pub turns_back : (refusal : Refusal) → refusal_of f.known.setup f.number.0 (router_part f) s.session ≡ Some refusal → Writes a (TurnBack from) ((from, items.Back k s refusal) ∷ []) b → TakesIt from (items.Moved k s) f a f b
   turns_back refusal cause wrote = takes_then f f f a b b from (items.Moved k s) (TurnBack from) []
       (record {
         router = same_router f;
-        kind = 14;
-        a = from;
         sent = (from, items.Back k s refusal) ∷ [];
         wrote = wrote;
-        code = record { kind = refl; a = refl; b = refl; c = refl };
         welcome = (router_moved carried f.known.setup from f.number.0 k (router_part f) s).1 ((from, at_from), way, peering_known, ap place_of vacant);
         name = Router from;
         number = refl;
@@ -94,25 +96,29 @@ module _ (f : Fields) (a b : Post (Item RunningSession)) (from k : ℕ) (s : Run
       keeps
 
   -- it lands
-  module _ (mid h : Fields) (c : Post (Item RunningSession)) (far : ℕ) (settles : SettlesIn f s mid) (far_is : far ≡ f.routers + p) (admitted : refusal_of f.known.setup f.number.0 (router_part f) s.session ≡ None)
-      (wrote : WroteOne a 13 from 0 0 ((far, items.PointAt k) ∷ (from, items.Done k s.session.config.peering) ∷ []) b) where
-    here : place_at mid.places.items p ≡ Live s None
-    here = ap (λ (xs : List Place). place_at xs p) settles.held ∙ placed_here f.places.items p (Live s None) there
+  module _ (mid h : Fields) (c : Post (Item RunningSession)) (far : ℕ) (landed : GraftIds) (settles : SettlesIn f s landed mid) (landed_is : landed ≡ record { graft = k; peering = s.session.config.peering; source = record { 0 = from }; target = f.number }) (far_is : far ≡ f.routers + p) (admitted : refusal_of f.known.setup f.number.0 (router_part f) s.session ≡ None)
+      (wrote : Writes a (Land from) ((far, items.PointAt k) ∷ []) b) where
+    abbrev held : Option Place
+    held = Some (Live s (Some (Owing landed)))
 
-    elsewhere : (n : ℕ) → n ≢ p → place_at mid.places.items n ≡ place_at f.places.items n
-    elsewhere n not = ap (λ (xs : List Place). place_at xs n) settles.held ∙ placed_else f.places.items p (Live s None) n not
+    here : place_at mid.places.places p ≡ held
+    here = ap (λ (xs : List (Option Place)). place_at xs p) (listed settles.held) ∙ placed_here f.places.places p held there
+
+    elsewhere : (n : ℕ) → n ≢ p → place_at mid.places.places n ≡ place_at f.places.places n
+    elsewhere n not = ap (λ (xs : List (Option Place)). place_at xs n) (listed settles.held) ∙ placed_else f.places.places p held n not
 
     entries_else : (n : ℕ) → n ≢ p → (rib_of mid.rib).entries n ≡ (rib_of f.rib).entries n
     entries_else n not = ap (λ (v : RibValue). v.entries n) settles.entered.effect ∙ at_else (rib_of f.rib).entries p ((rib_of mid.rib).entries p) n not
 
     no_entry : HasNoEntry ((rib_of f.rib).entries p)
-    no_entry = (subst (λ (x : Place). KeepsPlace f.known.setup f.number.0 p ((rib_of f.rib).entries p) (table_at f.due_out p) x) vacant (keeps.each p)).0
+    no_entry = (subst (λ (x : Option Place). KeepsPlace f.known.setup f.number.0 p ((rib_of f.rib).entries p) (table_at f.due_out p) x) vacant (keeps.each p)).0
 
     pub keeps_land : KeepsBut p mid
     keeps_land = subst (KeepsBut p) (sym settles.same) (record {
       rest = rest_on f (record f { places = mid.places; rib = mid.rib; due_out = mid.due_out }) (rest_of f keeps) refl
           (record {
-            places = ap length settles.held ∙ length-set f.places.items p (Live s None);
+            places = ap length (listed settles.held) ∙ length-set f.places.places p held;
+            reserved = rooms settles.held;
             due_in = refl;
             due_out = settles.sets.length;
             config = ap (λ (v : RibValue). v.config) settles.entered.effect;
@@ -120,17 +126,25 @@ module _ (f : Fields) (a b : Post (Item RunningSession)) (from k : ℕ) (s : Run
           });
       here = record {
         session = s;
-        order = None;
+        errand = Some (Owing landed);
         live = record { is = here };
         own = record { peering = refl; sends = way.sends; receives = way.receives };
-        ordered = tt;
+        for_graft = record {
+          peering = ap (λ (ids : GraftIds). ids.peering.0) landed_is;
+          source = subst (λ (ids : GraftIds). ids.source.0 < routers_in f.known.setup) (sym landed_is) known;
+          target = ap (λ (ids : GraftIds). ids.target.0) landed_is;
+        };
         due = λ x has. way.established;
       };
       others = λ n not.
-          subst (λ (x : Place). KeepsPlace f.known.setup f.number.0 n ((rib_of mid.rib).entries n) (table_at mid.due_out n) x) (sym (elsewhere n not))
-          (subst (λ (es : Entries). KeepsPlace f.known.setup f.number.0 n es (table_at mid.due_out n) (place_at f.places.items n)) (sym (entries_else n not))
-          (subst (λ (d : Prefixes). KeepsPlace f.known.setup f.number.0 n ((rib_of f.rib).entries n) d (place_at f.places.items n)) (sym (settles.sets.others n not)) (keeps.each n)));
+          subst (λ (x : Option Place). KeepsPlace f.known.setup f.number.0 n ((rib_of mid.rib).entries n) (table_at mid.due_out n) x) (sym (elsewhere n not))
+          (subst (λ (es : Entries). KeepsPlace f.known.setup f.number.0 n es (table_at mid.due_out n) (place_at f.places.places n)) (sym (entries_else n not))
+          (subst (λ (d : Prefixes). KeepsPlace f.known.setup f.number.0 n ((rib_of f.rib).entries n) d (place_at f.places.places n)) (sym (settles.sets.others n not)) (keeps.each n)));
     })
+
+    -- the place as the model has it
+    lands_at : at (router_part f).places p (place_of held) ≡ at (router_part f).places p (model.Live s.session (Some (model.Owing (record { graft = k; source = from }))))
+    lands_at = ap (λ (ids : GraftIds). at (router_part f).places p (model.Live s.session (Some (model.Owing (word_of ids))))) landed_is
 
     pub lands : ReadsAll p mid b h c → TakesIt from (items.Moved k s) f a h c
     lands reads =
@@ -138,17 +152,14 @@ module _ (f : Fields) (a b : Post (Item RunningSession)) (from k : ℕ) (s : Run
         takes_then f mid h a b c from (items.Moved k s) (Land from) reads.events
         (record {
           router = record { setup = ap (λ (x : Fields). x.known.setup) settles.same; number = ap (λ (x : Fields). x.number) settles.same };
-          kind = 13;
-          a = from;
-          sent = (far, items.PointAt k) ∷ (from, items.Done k s.session.config.peering) ∷ [];
+          sent = (far, items.PointAt k) ∷ [];
           wrote = wrote;
-          code = record { kind = refl; a = refl; b = refl; c = refl };
           welcome = (router_moved carried f.known.setup from f.number.0 k (router_part f) s).1 ((from, at_from), way, peering_known, ap place_of vacant);
           name = Router from;
           number = refl;
           took = MeshIn from (Moved k p s.session);
           thing = refl;
-          gave = OutwardTo p (PointAt k) ∷ MeshTo from (Done k p) ∷ [];
+          gave = OutwardTo p (PointAt k) ∷ [];
           row = record {
             comes = comes;
             admitted = admitted;
@@ -158,13 +169,13 @@ module _ (f : Fields) (a b : Post (Item RunningSession)) (from k : ℕ) (s : Run
             due = record { members = settles.due.members };
             effect = ap router_part settles.same
                 ∙ (λ i. let v : RouterPart = record (with_routes (router_part f) (settles.entered.effect i)) {
-                  places = (ap (λ (xs : List Place). (λ n. place_of (place_at xs n))) settles.held ∙ places_at f.places.items p (Live s None) there) i;
+                  places = (ap (λ (xs : List (Option Place)). (λ n. place_of (place_at xs n))) (listed settles.held) ∙ places_at f.places.places p held there ∙ lands_at) i;
                   due_out = at_is (table_at f.due_out) (table_at mid.due_out) p (table_at mid.due_out p) refl (λ n not. settles.sets.others n not) i;
                 } in v);
           };
-          sends = ap (λ (n : ℕ). (n, OutwardItem (PointAt k)) ∷ (from, MeshItem (Done k p)) ∷ []) to_far;
-          known = (peering_known, (known, tt));
-          fit = ((FarSide p, ap (actor_at f.known.setup) to_far ∙ is_there f.known.setup (FarSide p) peering_known, tt), ((Router from, at_from, tt), tt));
+          sends = ap (λ (n : ℕ). (n, OutwardItem (PointAt k)) ∷ []) to_far;
+          known = (peering_known, tt);
+          fit = ((FarSide p, ap (actor_at f.known.setup) to_far ∙ is_there f.known.setup (FarSide p) peering_known, tt), tt);
           careful = tt;
           still = λ t. refl;
         })
@@ -172,11 +183,11 @@ module _ (f : Fields) (a b : Post (Item RunningSession)) (from k : ℕ) (s : Run
         reads.no_rounds
         (tt, reads.no_puts)
         (λ n v w m q x y. elim (one_or_other p n) [
-          | inl e ↦ absurd (no_live v m (sym vacant ∙ ap (place_at f.places.items) (sym e) ∙ x.is))
-          | inr not ↦ stays_itself v w (live_is f.places.items n v w m q x (record { is = sym (reads.stays.others n not ∙ elsewhere n not) ∙ y.is }))
+          | inl e ↦ absurd (no_live v m (sym vacant ∙ ap (place_at f.places.places) (sym e) ∙ x.is))
+          | inr not ↦ stays_itself v w (live_is f.places.places n v w m q x (record { is = sym (reads.stays.others n not ∙ elsewhere n not) ∙ y.is }))
         ])
         (ap (λ (x : Fields). x.turns) reads.stays.same ∙ ap (λ (x : Fields). x.turns) settles.same)
         reads.keeps
       where
-        no_live : (v : RunningSession) (m : Option GraftIds) → Vacant ≡ Live v m → ⊥
+        no_live : (v : RunningSession) (m : Option Errand) → None ≡ Some (Live v m) → ⊥
         no_live v m e = cc

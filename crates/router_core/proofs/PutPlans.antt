@@ -6,7 +6,7 @@ use Rattle.bgp_types.specs.declared.message.SessionState.TheVariants.{Establishe
 use Rattle.bgp_types.specs.Prefixes.{PrefixValue}
 use Rattle.bgp_story.specs.Legal.{is_wide}
 use Rattle.bgp_story.specs.Readings.{Routes}
-use Rattle.graft_steps.specs.declared.order.GraftIds.{GraftIds}
+use Rattle.router_core.specs.declared.place.Errand.{Errand}
 use Rattle.route_policy.specs.Telling.{OutSide, tell_out}
 use Rattle.route_policy.specs.declared.rule.Rule.{Rule}
 use Rattle.session_value.specs.Sessions.{state, peering_of}
@@ -32,17 +32,17 @@ rules_are : (setup : Setup) (r : ℕ) (policies : List NamedPolicy) (name : Opti
 rules_are setup r policies None are = refl
 rules_are setup r policies (Some name) are = are.each name
 
-module _ (f : Fields) (n : ℕ) (s : RunningSession) (o : Option GraftIds) (keeps : Keeps f) (is : place_at f.places.items n ≡ Live s o) where
+module _ (f : Fields) (n : ℕ) (s : RunningSession) (o : Option Errand) (keeps : Keeps f) (is : place_at f.places.places n ≡ Some (Live s o)) where
   -- a session that isn't established is told of nothing
-  pub none_planned : (state s.session ≡ Established → ⊥) → PlannedAt f.known.setup f.number.0 (router_part f) n (Live s o) []
+  pub none_planned : (state s.session ≡ Established → ⊥) → PlannedAt f.known.setup f.number.0 (router_part f) n (Some (Live s o)) []
   none_planned not x to_tell = not (established f n s o keeps is x to_tell.0.0)
 
   pub planned : (due : Prefixes) (told : Routes) (wide : Bool) (out : OutSide) (batches : List Batch) → due ≡ table_at f.due_out n → told ≡ s.session.told → wide ≡ is_wide (peering_of s.session.config) s.session.story
-      → out ≡ record { peering = s.session.config.peering; local_address = s.session.config.local_address; export_rules = rules_by f.policies s.session.config.export }
-      → IsPlan (plans.IsToTell due f.rib.dirty told (plans.to_tell (rib_of f.rib) out)) (plans.to_tell (rib_of f.rib) out) wide batches → PlannedAt f.known.setup f.number.0 (router_part f) n (Live s o) batches
+      → out ≡ record { peering = s.session.config.peering; remote_as = s.session.config.remote_as; local_address = s.session.config.local_address; export_rules = rules_by f.policies s.session.config.export }
+      → IsPlan (plans.IsToTell due f.rib.dirty told (plans.to_tell (rib_of f.rib) out)) (plans.to_tell (rib_of f.rib) out) wide batches → PlannedAt f.known.setup f.number.0 (router_part f) n (Some (Live s o)) batches
   planned due told wide out batches due_is told_is wide_is out_is plan =
       let rules = rules_are f.known.setup f.number.0 f.policies s.session.config.export keeps.policies in
-      let out_same : out ≡ out_side f.known.setup f.number.0 s.session.config = out_is ∙ ap (λ (x : Option (List Rule)). let y : OutSide = record { peering = s.session.config.peering; local_address = s.session.config.local_address; export_rules = x } in y) rules in
+      let out_same : out ≡ out_side f.known.setup f.number.0 s.session.config = out_is ∙ ap (λ (x : Option (List Rule)). let y : OutSide = record { peering = s.session.config.peering; remote_as = s.session.config.remote_as; local_address = s.session.config.local_address; export_rules = x } in y) rules in
       let tells : plans.to_tell (rib_of f.rib) out ≡ to_tell f.known.setup f.number.0 (router_part f) s.session = λ i x. tell_out (keeps.rib.home_as i) (out_same i) x (map.get f.rib.best x) in
       subst (λ (t : PrefixValue → Option Attrs). IsPlan (plans.IsToTell (table_at f.due_out n) f.rib.dirty s.session.told t) t (is_wide (peering_of s.session.config) s.session.story) batches) tells
       (subst (λ (w : Bool). IsPlan (plans.IsToTell (table_at f.due_out n) f.rib.dirty s.session.told (plans.to_tell (rib_of f.rib) out)) (plans.to_tell (rib_of f.rib) out) w batches) wide_is

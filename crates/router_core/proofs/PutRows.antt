@@ -1,5 +1,5 @@
 -- One UPDATE is put, or what was told as it is to be is due no more.
-use Rattle.std.proofs.Common.{◌≡◌, ◌≢◌, ℕ, ◌<◌, List, [], ◌∷◌, ◌++◌, length, Option, option_map, None, Bool, true, false, cond, ◌||◌, ◌&&◌, not, is_some, refl, sym, ap, subst, ◌∙◌, set, inl, inr}
+use Rattle.std.proofs.Common.{◌≡◌, ◌≢◌, ℕ, ◌<◌, List, [], ◌∷◌, ◌++◌, length, Option, option_map, None, Bool, true, false, cond, ◌||◌, ◌&&◌, not, is_some, refl, sym, ap, subst, ◌∙◌, set, inl, inr, Some}
 use Rattle.std.specs.Prelude.{fold}
 use Rattle.std.specs.FinMap as map
 use Rattle.std.specs.List.{list_any, All}
@@ -9,7 +9,8 @@ use Rattle.std.proofs.lemmas.Bool.{false≢true}
 use Rattle.std.proofs.lemmas.List.Sums.{fold-append}
 use Rattle.ring_net.specs.declared.post.Post.{Post}
 use Rattle.graft_steps.specs.declared.item.Item.{Item}
-use Rattle.graft_steps.specs.declared.order.GraftIds.{GraftIds}
+use Rattle.session_places.specs.Places.{with_place}
+use Rattle.router_core.specs.declared.place.Errand.{Errand}
 use Rattle.bgp_types.specs.declared.message.Message.TheVariants.{UpdateMsg}
 use Rattle.bgp_types.specs.declared.message.SessionState.TheVariants.{OpenSent, Established}
 use Rattle.bgp_types.specs.Prefixes.{PrefixValue, IsPrefix, same_prefix}
@@ -37,13 +38,13 @@ use Rattle.graft_model.specs.Parts.{RouterPart}
 use Rattle.graft_model.specs.RouterRows.{IsToTell, PutsSome, RouterTaken, RouterSent}
 use Rattle.graft_model.specs.Setups.{Setup}
 use Rattle.graft_model.specs.Decisions.{to_tell}
-use Rattle.graft_model.specs.Steps.{Put, puts}
+use Rattle.graft_model.specs.declared.event.RouterEvent.TheVariants.{Put}
+use Rattle.graft_model.specs.Steps.{puts}
 use Rattle.graft_actors.specs.Emissions.{Tally}
-use Rattle.graft_actors.specs.Notes.{WroteOne}
 use Rattle.router_core.specs.Parts.{router_part, Keeps, KeepsPlace}
-use Rattle.router_core.specs.Places.{place_of, place_at, order_of}
+use Rattle.router_core.specs.Places.{place_of, place_at, errand_of}
 use Rattle.router_core.specs.Putting.{CanOffer, WasPut, PlannedAt, PutsSomeAt}
-use Rattle.router_core.specs.Rounds.{CarefulRouter, Did, PutsNext, SameRouter}
+use Rattle.router_core.specs.Rounds.{CarefulRouter, Did, PutsNext, SameRouter, Writes}
 use Rattle.router_core.specs.Stages.{PlaceGoes, PutsMore}
 use Rattle.router_core.specs.Updates.{IsNextUpdate}
 use Rattle.router_core.specs.Visits.{SameButLeaving}
@@ -53,6 +54,7 @@ use Rattle.router_core.specs.declared.place.Place.TheVariants.{Live}
 use Rattle.router_core.proofs.Dids.{did_one}
 use Rattle.router_core.proofs.Standing.{keeps_on}
 use Rattle.std.proofs.lemmas.List.{length-set}
+use Rattle.router_core.proofs.PlaceLists.{listed, rooms}
 use Rattle.router_core.proofs.VisitSteps.{same_or_not, at_here, at_other, set_here, set_other, set_at}
 
 -- ---- a session that has put an UPDATE
@@ -134,19 +136,19 @@ some_careful setup r p [] part some next = absurd (some refl)
 some_careful setup r p (x ∷ xs) part some next = next
 
 -- the places of f with another session at n, and less due on n, are those of g
-module _ (f g : Fields) (p q : Post (Item RunningSession)) (n : ℕ) (s u : RunningSession) (o : Option GraftIds) (batch : Batch) (keeps : Keeps f) (there : n < length f.places.items)
-    (is : place_at f.places.items n ≡ Live s o) (next : IsNextUpdate f.known.setup f.number.0 (router_part f) n s.session batch) (put : WasPut s (update_for batch.attrs batch.prefixes) u)
-    (items : g.places.items ≡ set f.places.items n (Live u o)) (due : table_at g.due_out ≡ at (table_at f.due_out) n (fold map.remove (table_at f.due_out n) batch.prefixes))
+module _ (f g : Fields) (p q : Post (Item RunningSession)) (n : ℕ) (s u : RunningSession) (o : Option Errand) (batch : Batch) (keeps : Keeps f) (there : n < length f.places.places)
+    (is : place_at f.places.places n ≡ Some (Live s o)) (next : IsNextUpdate f.known.setup f.number.0 (router_part f) n s.session batch) (put : WasPut s (update_for batch.attrs batch.prefixes) u)
+    (items : g.places ≡ with_place f.places n (Some (Live u o))) (due : table_at g.due_out ≡ at (table_at f.due_out) n (fold map.remove (table_at f.due_out n) batch.prefixes))
     (same : SameButLeaving f g) where
   same_router_then : SameRouter f g
   same_router_then = record { setup = ap (λ (h : Fields). h.known.setup) same; number = ap (λ (h : Fields). h.number) same }
 
-  part_then : router_part g ≡ record (router_part f) { places = at (router_part f).places n (place_of (Live u o)); due_out = at (router_part f).due_out n ((router_part g).due_out n) }
+  part_then : router_part g ≡ record (router_part f) { places = at (router_part f).places n (place_of (Some (Live u o))); due_out = at (router_part f).due_out n ((router_part g).due_out n) }
   part_then =
       let here : table_at g.due_out n ≡ fold map.remove (table_at f.due_out n) batch.prefixes = ap (λ (d : ℕ → Prefixes). d n) due ∙ at_here (table_at f.due_out) n (fold map.remove (table_at f.due_out n) batch.prefixes) n refl in
       ap router_part same
       ∙ (λ i. record (router_part f) {
-        places = λ k. (ap (λ (xs : List Place). place_of (place_at xs k)) items ∙ set_at f.places.items n (Live u o) there k) i;
+        places = λ k. (ap (λ (xs : List (Option Place)). place_of (place_at xs k)) (listed items) ∙ set_at f.places.places n (Some (Live u o)) there k) i;
         due_out = (due ∙ ap (at (table_at f.due_out) n) (sym here)) i;
       })
 
@@ -154,7 +156,7 @@ module _ (f g : Fields) (p q : Post (Item RunningSession)) (n : ℕ) (s u : Runn
   row = record {
     alone = (refl, refl);
     session = s.session;
-    order = option_map order_of o;
+    errand = option_map errand_of o;
     live = record { is = ap place_of is };
     first = next.first;
     is_to_tell = next.least.is;
@@ -174,10 +176,10 @@ module _ (f g : Fields) (p q : Post (Item RunningSession)) (n : ℕ) (s u : Runn
     effect = part_then;
   }
 
-  pub did_put : (t : ℕ → Tally) → WroteOne p 1 n (length batch.prefixes) 0 [] q → Did f p t (Put n (length batch.prefixes) ∷ []) g q t
-  did_put t wrote = did_one f g p q t (Put n (length batch.prefixes)) 1 n (length batch.prefixes) 0 same_router_then wrote (record { kind = refl; a = refl; b = refl; c = refl })
+  pub did_put : (t : ℕ → Tally) → Writes p (Put n (length batch.prefixes)) [] q → Did f p t (Put n (length batch.prefixes) ∷ []) g q t
+  did_put t wrote = did_one f g p q t (Put n (length batch.prefixes)) same_router_then wrote
       (some_row f.known.setup f.number.0 n batch.prefixes (router_part f) None [] (router_part g) next.some row)
-      (some_careful f.known.setup f.number.0 n batch.prefixes (router_part f) next.some (record { session = s.session; order = option_map order_of o; live = record { is = ap place_of is }; batch = batch; next = next; size = refl }))
+      (some_careful f.known.setup f.number.0 n batch.prefixes (router_part f) next.some (record { session = s.session; errand = option_map errand_of o; live = record { is = ap place_of is }; batch = batch; next = next; size = refl }))
 
   abbrev then : Fields
   then = record f { places = g.places; due_out = g.due_out }
@@ -195,9 +197,9 @@ module _ (f g : Fields) (p q : Post (Item RunningSession)) (n : ℕ) (s u : Runn
       ∙ (ap (λ (d : Prefixes). has d x) (at_here (table_at f.due_out) n (fold map.remove (table_at f.due_out n) batch.prefixes) n refl) ∙ less_due batch.prefixes (table_at f.due_out n) x)
 
   -- what is left of the plan is the plan then
-  pub rest_then : (batches : List Batch) → PlannedAt f.known.setup f.number.0 (router_part f) n (Live s o) (batch ∷ batches) → PlannedAt g.known.setup g.number.0 (router_part g) n (Live u o) batches
+  pub rest_then : (batches : List Batch) → PlannedAt f.known.setup f.number.0 (router_part f) n (Some (Live s o)) (batch ∷ batches) → PlannedAt g.known.setup g.number.0 (router_part g) n (Some (Live u o)) batches
   rest_then batches plan =
-      subst (λ (h : Fields). PlannedAt h.known.setup h.number.0 (router_part h) n (Live u o) batches) (sym same)
+      subst (λ (h : Fields). PlannedAt h.known.setup h.number.0 (router_part h) n (Some (Live u o)) batches) (sym same)
       (subst (λ (w : Bool). IsPlan (IsToTell f.known.setup f.number.0 (router_part then) n u.session) (to_tell f.known.setup f.number.0 (router_part then) u.session) w batches) (sym (wide_then s.session u.session batch put.puts))
       (subst (λ (v : SessionValue). IsPlan (IsToTell f.known.setup f.number.0 (router_part then) n v) (to_tell f.known.setup f.number.0 (router_part then) v) (is_wide (peering_of s.session.config) s.session.story) batches) (sym put.puts.effect)
       (rest (table_at f.due_out n) (table_at g.due_out n) f.rib.dirty s.session.told (to_tell f.known.setup f.number.0 (router_part f) s.session) (is_wide (peering_of s.session.config) s.session.story) batch less_due_then batches plan)))
@@ -218,7 +220,7 @@ module _ (f g : Fields) (p q : Post (Item RunningSession)) (n : ℕ) (s u : Runn
   of_both true b e = refl
   of_both false b e = e
 
-  keeps_here : KeepsPlace f.known.setup f.number.0 n ((rib_of f.rib).entries n) (table_at f.due_out n) (Live s o) → KeepsPlace f.known.setup f.number.0 n ((rib_of f.rib).entries n) (table_at g.due_out n) (Live u o)
+  keeps_here : KeepsPlace f.known.setup f.number.0 n ((rib_of f.rib).entries n) (table_at f.due_out n) (Some (Live s o)) → KeepsPlace f.known.setup f.number.0 n ((rib_of f.rib).entries n) (table_at g.due_out n) (Some (Live u o))
   keeps_here k = (
     record {
       peering = ap (λ (c : SessionConfig). c.peering.0) (config_then s.session u.session batch put.puts) ∙ k.0.peering;
@@ -230,18 +232,18 @@ module _ (f g : Fields) (p q : Post (Item RunningSession)) (n : ℕ) (s u : Runn
     λ x has_it. state_then s.session u.session batch put.puts ∙ k.3 x (of_both (has (table_at f.due_out n) x) (not (list_any (same_prefix x) batch.prefixes)) (sym (less_due_then x) ∙ has_it)),
   )
 
-  place_here : place_at g.places.items n ≡ Live u o
-  place_here = ap (λ (xs : List Place). place_at xs n) items ∙ set_here f.places.items n (Live u o) there
+  place_here : place_at g.places.places n ≡ Some (Live u o)
+  place_here = ap (λ (xs : List (Option Place)). place_at xs n) (listed items) ∙ set_here f.places.places n (Some (Live u o)) there
 
-  place_other : (k : ℕ) → k ≢ n → place_at g.places.items k ≡ place_at f.places.items k
-  place_other k not = ap (λ (xs : List Place). place_at xs k) items ∙ set_other f.places.items n (Live u o) there k not
+  place_other : (k : ℕ) → k ≢ n → place_at g.places.places k ≡ place_at f.places.places k
+  place_other k not = ap (λ (xs : List (Option Place)). place_at xs k) (listed items) ∙ set_other f.places.places n (Some (Live u o)) there k not
 
-  each_then : (k : ℕ) → KeepsPlace f.known.setup f.number.0 k ((rib_of f.rib).entries k) (table_at g.due_out k) (place_at g.places.items k)
+  each_then : (k : ℕ) → KeepsPlace f.known.setup f.number.0 k ((rib_of f.rib).entries k) (table_at g.due_out k) (place_at g.places.places k)
   each_then k = elim (same_or_not n k) [
-    | inl e ↦ subst (λ (m : ℕ). KeepsPlace f.known.setup f.number.0 m ((rib_of f.rib).entries m) (table_at g.due_out m) (place_at g.places.items m)) (sym e)
+    | inl e ↦ subst (λ (m : ℕ). KeepsPlace f.known.setup f.number.0 m ((rib_of f.rib).entries m) (table_at g.due_out m) (place_at g.places.places m)) (sym e)
         (subst (KeepsPlace f.known.setup f.number.0 n ((rib_of f.rib).entries n) (table_at g.due_out n)) (sym place_here)
         (keeps_here (subst (KeepsPlace f.known.setup f.number.0 n ((rib_of f.rib).entries n) (table_at f.due_out n)) is (keeps.each n))))
-    | inr not ↦ subst (λ (d : Prefixes). KeepsPlace f.known.setup f.number.0 k ((rib_of f.rib).entries k) d (place_at g.places.items k)) (sym (other_due k not))
+    | inr not ↦ subst (λ (d : Prefixes). KeepsPlace f.known.setup f.number.0 k ((rib_of f.rib).entries k) d (place_at g.places.places k)) (sym (other_due k not))
         (subst (KeepsPlace f.known.setup f.number.0 k ((rib_of f.rib).entries k) (table_at f.due_out k)) (sym (place_other k not)) (keeps.each k))
   ]
 
@@ -249,20 +251,21 @@ module _ (f g : Fields) (p q : Post (Item RunningSession)) (n : ℕ) (s u : Runn
   keeps_then sizes = keeps_on f g keeps
       (subst (λ (h : Fields). h ≡ record f { places = h.places; rib = h.rib; due_in = h.due_in; due_out = h.due_out; turns = h.turns }) (sym same) refl)
       (record {
-        places = ap length items ∙ length-set f.places.items n (Live u o);
+        places = ap length (listed items) ∙ length-set f.places.places n (Some (Live u o));
+        reserved = rooms items;
         due_in = ap (λ (h : Fields). length h.due_in) same;
         due_out = sizes;
         config = ap (λ (h : Fields). h.rib.config) same;
         tellings = ap (λ (h : Fields). (rib_of h.rib).tellings) same;
       })
-      (λ k. subst (λ (h : Fields). KeepsPlace f.known.setup f.number.0 k ((rib_of h.rib).entries k) (table_at g.due_out k) (place_at g.places.items k)) (sym same) (each_then k))
+      (λ k. subst (λ (h : Fields). KeepsPlace f.known.setup f.number.0 k ((rib_of h.rib).entries k) (table_at g.due_out k) (place_at g.places.places k)) (sym same) (each_then k))
 
-  pub puts_some : length g.due_out ≡ length f.due_out → WroteOne p 1 n (length batch.prefixes) 0 [] q → PutsSomeAt n f p g q
+  pub puts_some : length g.due_out ≡ length f.due_out → Writes p (Put n (length batch.prefixes)) [] q → PutsSomeAt n f p g q
   puts_some sizes wrote = record {
     events = Put n (length batch.prefixes) ∷ [];
     did = λ t. did_put t wrote;
     no_rounds = λ k. refl;
-    goes = subst (λ (x : Place). PlaceGoes PutsMore x (place_at g.places.items n)) (sym is) (u, place_here, puts_more);
+    goes = subst (λ (x : Option Place). PlaceGoes PutsMore x (place_at g.places.places n)) (sym is) (u, place_here, puts_more);
     others = λ k not. (place_other k not, other_due k not);
     same = same;
     keeps = keeps_then sizes;

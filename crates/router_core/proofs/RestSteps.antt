@@ -53,19 +53,19 @@ none_behind sets n k all from (p, there) = false_true (sym (ap (λ (t : Prefixes
 
 -- ---- places
 
-pub no_stream_behind : (places : List Place) (n k : ℕ) → length places ≤ n → n ≤ k → HasStream (place_of (place_at places k)) → ⊥
-no_stream_behind places n k all from so = subst (λ (x : Place). HasStream (place_of x)) (place_at_end places k (omega (arith, all, from))) so
+pub no_stream_behind : (places : List (Option Place)) (n k : ℕ) → length places ≤ n → n ≤ k → HasStream (place_of (place_at places k)) → ⊥
+no_stream_behind places n k all from so = subst (λ (x : Option Place). HasStream (place_of x)) (place_at_end places k (omega (arith, all, from))) so
 
 -- ---- grafts
 
 -- the lowest number of a graft at the first so many places
-abbrev pub LowestBelow : List Place → ℕ → Option ℕ → Type 0
+abbrev pub LowestBelow : List (Option Place) → ℕ → Option ℕ → Type 0
 LowestBelow places n lowest = IsLowestOf (λ k. (p : ℕ) × (p < n) × (graft_at (place_of (place_at places p)) ≡ Some k)) lowest
 
-pub lowest_first : (places : List Place) → LowestBelow places 0 None
+pub lowest_first : (places : List (Option Place)) → LowestBelow places 0 None
 lowest_first places k has = let (p, below, is) = has in let x : ⊥ = omega (arith, below) in x
 
-module _ (places : List Place) (n : ℕ) where
+module _ (places : List (Option Place)) (n : ℕ) where
   -- what is at one of n + 1 places is at one of n, or at the last of them
   cut : (p k : ℕ) → p < n + 1 → graft_at (place_of (place_at places p)) ≡ Some k → (p < n) ⊎ (graft_at (place_of (place_at places n)) ≡ Some k)
   cut p k below is = elim (same_or_not n p) [
@@ -101,12 +101,12 @@ module _ (places : List Place) (n : ℕ) where
   lowest_all None all lowest = λ k has. let (p, at) = has in elim (cases_lt p n) [ inl below ↦ lowest k (p, below, at) | inr from ↦ behind p k from at ]
     where
       behind : (p k : ℕ) → n ≤ p → graft_at (place_of (place_at places p)) ≡ Some k → ⊥
-      behind p k from at = let f : ◌≡◌ {A = Option ℕ} None (Some k) = sym (ap (λ (x : Place). graft_at (place_of x)) (place_at_end places p (omega (arith, all, from)))) ∙ at in (let x : ⊥ = cc in x)
+      behind p k from at = let f : ◌≡◌ {A = Option ℕ} None (Some k) = sym (ap (λ (x : Option Place). graft_at (place_of x)) (place_at_end places p (omega (arith, all, from)))) ∙ at in (let x : ⊥ = cc in x)
   lowest_all (Some m) all lowest = (
     (lowest.0.0, lowest.0.2),
     λ k has. let (p, at) = has in elim (cases_lt p n) [
       | inl below ↦ lowest.1 k (p, below, at)
-      | inr from ↦ absurd (let f : ◌≡◌ {A = Option ℕ} None (Some k) = sym (ap (λ (x : Place). graft_at (place_of x)) (place_at_end places p (omega (arith, all, from)))) ∙ at in (let x : ⊥ = cc in x))
+      | inr from ↦ absurd (let f : ◌≡◌ {A = Option ℕ} None (Some k) = sym (ap (λ (x : Option Place). graft_at (place_of x)) (place_at_end places p (omega (arith, all, from)))) ∙ at in (let x : ⊥ = cc in x))
     ],
   )
 

@@ -1,6 +1,6 @@
 -- The rounds and puts among events.
 use Rattle.std.proofs.Common.{◌≡◌, ℕ, List, [], ◌∷◌, ◌++◌, refl, sym, ap, ◌∙◌, append_assoc}
-use Rattle.graft_model.specs.Steps.{RouterEvent}
+use Rattle.graft_model.specs.declared.event.RouterEvent.{RouterEvent}
 use Rattle.router_core.specs.Turned.{NoPuts, rounds_on, round_on}
 
 pub rounds_on-append : (p : ℕ) (es fs : List RouterEvent) → rounds_on p (es ++ fs) ≡ rounds_on p es ++ rounds_on p fs

@@ -1,5 +1,5 @@
 -- A round passes on a session, and the router follows it.
-use Rattle.std.proofs.Common.{◌≡◌, ◌≢◌, ℕ, ◌+◌, ◌<◌, ◌≤◌, List, [], ◌∷◌, ◌++◌, length, Option, Some, None, option_map, is_some, Bool, true, false, ◌⊎◌, inl, inr, refl, sym, ap, subst, ◌∙◌, arith, set}
+use Rattle.std.proofs.Common.{◌≡◌, ◌≢◌, ℕ, ◌+◌, ◌<◌, ◌≤◌, List, [], ◌∷◌, ◌++◌, length, Option, Some, None, option_map, is_some, Bool, true, false, ◌⊎◌, inl, inr, refl, sym, ap, subst, ◌∙◌, arith}
 use Rattle.std.specs.Prelude.{if◌then◌else◌, nat_lt, Result, OnOk}
 use Rattle.std.proofs.lemmas.Result.{on_ok_weaker}
 use Rattle.std.specs.FinMap as map
@@ -16,7 +16,8 @@ use Rattle.bgp_story.specs.Legal.{is_up, silence}
 use Rattle.bgp_story.specs.Readings.{Routes, unless_closed}
 use Rattle.ring_net.specs.declared.post.Post.{Post}
 use Rattle.graft_steps.specs.declared.item.Item.{Item}
-use Rattle.graft_steps.specs.declared.order.GraftIds.{GraftIds}
+use Rattle.session_places.specs.Places.{with_place}
+use Rattle.router_core.specs.declared.place.Errand.{Errand}
 use Rattle.session_value.specs.declared.config.SessionConfig.{SessionConfig}
 use Rattle.session_value.specs.Cases.{PassesRound}
 use Rattle.session_value.specs.Fronts.{BeginsNothing}
@@ -34,15 +35,13 @@ use Rattle.graft_model.specs.Decisions.{entry_of}
 use Rattle.graft_model.specs.Parts.{RouterPart}
 use Rattle.graft_model.specs.RouterRows as rows
 use Rattle.graft_model.specs.RouterRows.{DueThen, FollowsHeard}
-use Rattle.graft_model.specs.Steps.{RouterEvent}
-use Rattle.graft_model.specs.Steps as events
+use Rattle.graft_model.specs.declared.event.RouterEvent.TheVariants as events
 use Rattle.graft_actors.specs.Emissions.{Tally}
-use Rattle.graft_actors.specs.Notes.{WroteOne}
 use Rattle.tell_plan.proofs.Keys.{keys_any}
 use Rattle.router_core.specs.Parts.{router_part, Keeps, KeepsPlace}
-use Rattle.router_core.specs.Places.{order_of, place_of, place_at, RunsAt}
+use Rattle.router_core.specs.Places.{errand_of, place_of, place_at, RunsAt}
 use Rattle.router_core.specs.Reading.{DueBy, FollowsStep, prefixes_in}
-use Rattle.router_core.specs.Rounds.{Did}
+use Rattle.router_core.specs.Rounds.{Did, Writes}
 use Rattle.router_core.specs.Sending.{AtPlace}
 use Rattle.router_core.specs.Stages.{PassesRounds, PassesWhereItMay, PlaceGoes, PutsMore}
 use Rattle.router_core.specs.Ticking.{Ticked, followed}
@@ -50,13 +49,14 @@ use Rattle.router_core.specs.Turned.{rounds_on}
 use Rattle.router_core.specs.Visits.{SameButPlaces, SameButSessions, Visited, Visits, passing_rounds}
 use Rattle.router_core.specs.declared.fields.Fields.{Fields}
 use Rattle.router_core.specs.declared.place.Place.{Place}
-use Rattle.router_core.specs.declared.place.Place.TheVariants.{Vacant, Live, Shadow}
+use Rattle.router_core.specs.declared.place.Place.TheVariants.{Live, Shadow}
 use Rattle.router_core.proofs.Dids.{did_one}
 use Rattle.router_core.proofs.Kept.{at_is, places_at, rest_of, with_routes}
 use Rattle.router_core.proofs.PlaceSteps.{at_own}
 use Rattle.router_core.proofs.ReadSteps.{entry_is}
 use Rattle.router_core.proofs.SendSteps.{some_none, visits_idle}
 use Rattle.router_core.proofs.Standing.{keeps_on, none_in}
+use Rattle.router_core.proofs.PlaceLists.{listed, rooms}
 use Rattle.router_core.proofs.VisitSteps.{place_at_end, same_or_not, set_here, set_other, at_other}
 
 -- ---- the session
@@ -152,17 +152,17 @@ module _ (s u : SessionValue) (round : ℕ) (tied : IsTied s) (passes : PassesRo
 
 -- ---- the event
 
-module _ (f g : Fields) (p : ℕ) (a b : Post (Item RunningSession)) (s u : RunningSession) (o : Option GraftIds) (step : TickStep) (keeps : Keeps f) (is : place_at f.places.items p ≡ Live s o) (there : p < length f.places.items)
-    (may : MayPass s.session f.turns) (tied : IsTied s.session) (ticks : Ticks step s f.turns u) (items : g.places.items ≡ set f.places.items p (Live u o)) (wrote : WroteOne a 31 p f.turns 0 [] b)
+module _ (f g : Fields) (p : ℕ) (a b : Post (Item RunningSession)) (s u : RunningSession) (o : Option Errand) (step : TickStep) (keeps : Keeps f) (is : place_at f.places.places p ≡ Some (Live s o)) (there : p < length f.places.places)
+    (may : MayPass s.session f.turns) (tied : IsTied s.session) (ticks : Ticks step s f.turns u) (items : g.places ≡ with_place f.places p (Some (Live u o))) (wrote : Writes a (events.Tick p f.turns) [] b)
     (follows : FollowsStep (record f { places = g.places }) p u (followed step) g) where
   same : g ≡ record f { places = g.places; rib = g.rib; due_out = g.due_out }
   same = follows.same
 
-  here : place_at g.places.items p ≡ Live u o
-  here = ap (λ (xs : List Place). place_at xs p) items ∙ set_here f.places.items p (Live u o) there
+  here : place_at g.places.places p ≡ Some (Live u o)
+  here = ap (λ (xs : List (Option Place)). place_at xs p) (listed items) ∙ set_here f.places.places p (Some (Live u o)) there
 
-  elsewhere : (n : ℕ) → n ≢ p → place_at g.places.items n ≡ place_at f.places.items n
-  elsewhere n not = ap (λ (xs : List Place). place_at xs n) items ∙ set_other f.places.items p (Live u o) there n not
+  elsewhere : (n : ℕ) → n ≢ p → place_at g.places.places n ≡ place_at f.places.places n
+  elsewhere n not = ap (λ (xs : List (Option Place)). place_at xs n) (listed items) ∙ set_other f.places.places p (Some (Live u o)) there n not
 
   entries_else : (n : ℕ) → n ≢ p → (rib_of g.rib).entries n ≡ (rib_of f.rib).entries n
   entries_else n not = ap (λ (v : RibValue). v.entries n) follows.entered.effect ∙ at_other (rib_of f.rib).entries p ((rib_of g.rib).entries p) n not
@@ -171,7 +171,7 @@ module _ (f g : Fields) (p : ℕ) (a b : Post (Item RunningSession)) (s u : Runn
   row = record {
     alone = (refl, refl);
     session = s.session;
-    order = option_map order_of o;
+    errand = option_map errand_of o;
     live = record { is = ap place_of is };
     next = u.session;
     passes = ticks.passes;
@@ -182,19 +182,19 @@ module _ (f g : Fields) (p : ℕ) (a b : Post (Item RunningSession)) (s u : Runn
       due = due_round s.session u.session f.turns tied ticks.passes f.rib.best (table_at f.due_out p) (table_at g.due_out p) step ticks.tells follows.due;
       effect = ap router_part same
           ∙ (λ i. let v : RouterPart = record (with_routes (router_part f) (follows.entered.effect i)) {
-            places = (ap (λ (xs : List Place). (λ n. place_of (place_at xs n))) items ∙ places_at f.places.items p (Live u o) there) i;
+            places = (ap (λ (xs : List (Option Place)). (λ n. place_of (place_at xs n))) (listed items) ∙ places_at f.places.places p (Some (Live u o)) there) i;
             due_out = at_is (table_at f.due_out) (table_at g.due_out) p (table_at g.due_out p) refl (λ n not. follows.sets.others n not) i;
           } in v);
     };
   }
 
-  place_is : KeepsPlace f.known.setup f.number.0 p ((rib_of f.rib).entries p) (table_at f.due_out p) (Live s o)
+  place_is : KeepsPlace f.known.setup f.number.0 p ((rib_of f.rib).entries p) (table_at f.due_out p) (Some (Live s o))
   place_is = subst (KeepsPlace f.known.setup f.number.0 p ((rib_of f.rib).entries p) (table_at f.due_out p)) is (keeps.each p)
 
   config_is : u.session.config ≡ s.session.config
   config_is = ap (λ (v : SessionValue). v.config) ticks.passes.effect
 
-  place_then : KeepsPlace f.known.setup f.number.0 p ((rib_of g.rib).entries p) (table_at g.due_out p) (Live u o)
+  place_then : KeepsPlace f.known.setup f.number.0 p ((rib_of g.rib).entries p) (table_at g.due_out p) (Some (Live u o))
   place_then = (
     record {
       peering = ap (λ (c : SessionConfig). c.peering.0) config_is ∙ place_is.0.peering;
@@ -209,7 +209,8 @@ module _ (f g : Fields) (p : ℕ) (a b : Post (Item RunningSession)) (s u : Runn
   keeps_then : Keeps g
   keeps_then = keeps_on f g keeps (subst (λ (h : Fields). h ≡ record f { places = h.places; rib = h.rib; due_in = h.due_in; due_out = h.due_out; turns = h.turns }) (sym same) refl)
       (record {
-        places = ap length items ∙ length-set f.places.items p (Live u o);
+        places = ap length (listed items) ∙ length-set f.places.places p (Some (Live u o));
+        reserved = rooms items;
         due_in = ap (λ (h : Fields). length h.due_in) same;
         due_out = follows.sets.length;
         config = ap (λ (v : RibValue). v.config) follows.entered.effect;
@@ -217,12 +218,12 @@ module _ (f g : Fields) (p : ℕ) (a b : Post (Item RunningSession)) (s u : Runn
       })
       (λ n. elim (same_or_not p n) [
         | inl e ↦
-            subst (λ (m : ℕ). KeepsPlace f.known.setup f.number.0 m ((rib_of g.rib).entries m) (table_at g.due_out m) (place_at g.places.items m)) (sym e)
-            (subst (λ (x : Place). KeepsPlace f.known.setup f.number.0 p ((rib_of g.rib).entries p) (table_at g.due_out p) x) (sym here) place_then)
+            subst (λ (m : ℕ). KeepsPlace f.known.setup f.number.0 m ((rib_of g.rib).entries m) (table_at g.due_out m) (place_at g.places.places m)) (sym e)
+            (subst (λ (x : Option Place). KeepsPlace f.known.setup f.number.0 p ((rib_of g.rib).entries p) (table_at g.due_out p) x) (sym here) place_then)
         | inr not ↦
-            subst (λ (x : Place). KeepsPlace f.known.setup f.number.0 n ((rib_of g.rib).entries n) (table_at g.due_out n) x) (sym (elsewhere n not))
-            (subst (λ (es : Entries). KeepsPlace f.known.setup f.number.0 n es (table_at g.due_out n) (place_at f.places.items n)) (sym (entries_else n not))
-            (subst (λ (d : Prefixes). KeepsPlace f.known.setup f.number.0 n ((rib_of f.rib).entries n) d (place_at f.places.items n)) (sym (follows.sets.others n not)) (keeps.each n)))
+            subst (λ (x : Option Place). KeepsPlace f.known.setup f.number.0 n ((rib_of g.rib).entries n) (table_at g.due_out n) x) (sym (elsewhere n not))
+            (subst (λ (es : Entries). KeepsPlace f.known.setup f.number.0 n es (table_at g.due_out n) (place_at f.places.places n)) (sym (entries_else n not))
+            (subst (λ (d : Prefixes). KeepsPlace f.known.setup f.number.0 n ((rib_of f.rib).entries n) d (place_at f.places.places n)) (sym (follows.sets.others n not)) (keeps.each n)))
       ])
 
   round_here : rounds_on p (events.Tick p f.turns ∷ []) ≡ f.turns ∷ []
@@ -238,55 +239,55 @@ module _ (f g : Fields) (p : ℕ) (a b : Post (Item RunningSession)) (s u : Runn
   ticks_at = record {
     events = events.Tick p f.turns ∷ [];
     did = λ t. subst (λ (v : ℕ → Tally). Did f a t (events.Tick p f.turns ∷ []) g b v) (λ i n. sym (at_own t p (t p) refl n) i)
-        (did_one f g a b t (events.Tick p f.turns) 31 p f.turns 0 (record { setup = ap (λ (h : Fields). h.known.setup) same; number = ap (λ (h : Fields). h.number) same }) wrote (record { kind = refl; a = refl; b = refl; c = refl }) row tt);
+        (did_one f g a b t (events.Tick p f.turns) (record { setup = ap (λ (h : Fields). h.known.setup) same; number = ap (λ (h : Fields). h.number) same }) wrote row tt);
     no_puts = (tt, tt);
-    goes = subst (λ (xs : List ℕ). PlaceGoes (PassesWhereItMay f.turns xs) (place_at f.places.items p) (place_at g.places.items p)) (sym round_here)
-        (subst (λ (x : Place). PlaceGoes (PassesWhereItMay f.turns (f.turns ∷ [])) x (place_at g.places.items p)) (sym is) (u, here, (more, inl (may, refl))));
+    goes = subst (λ (xs : List ℕ). PlaceGoes (PassesWhereItMay f.turns xs) (place_at f.places.places p) (place_at g.places.places p)) (sym round_here)
+        (subst (λ (x : Option Place). PlaceGoes (PassesWhereItMay f.turns (f.turns ∷ [])) x (place_at g.places.places p)) (sym is) (u, here, (more, inl (may, refl))));
     others = λ n not. (elsewhere n not, round_else n not);
     same = same;
     keeps = keeps_then;
   }
 
 -- the router with the session after its round, which it follows then
-module _ {T E : Type 0} (r : Result T E) (f k g : Fields) (p : ℕ) (a b : Post (Item RunningSession)) (x : Place) (step : TickStep) (keeps : Keeps f) (there : p < length f.places.items) (same : k ≡ record f { places = k.places }) (items : k.places.items ≡ set f.places.items p x)
-    (wrote : WroteOne a 31 p f.turns 0 [] b) (follows : (s : RunningSession) (o : Option GraftIds) → RunsAt k.places.items p s o → s.session.config.peering.0 ≡ p → OnOk r (FollowsStep k p s (followed step) g)) where
-  ticks_live : (s u : RunningSession) (o : Option GraftIds) → place_at f.places.items p ≡ Live s o → x ≡ Live u o → MayPass s.session f.turns → IsTied s.session → Ticks step s f.turns u → OnOk r (Visits (passing_rounds f.turns) p f a g b)
+module _ {T E : Type 0} (r : Result T E) (f k g : Fields) (p : ℕ) (a b : Post (Item RunningSession)) (x : Option Place) (step : TickStep) (keeps : Keeps f) (there : p < length f.places.places) (same : k ≡ record f { places = k.places }) (items : k.places ≡ with_place f.places p x)
+    (wrote : Writes a (events.Tick p f.turns) [] b) (follows : (s : RunningSession) (o : Option Errand) → RunsAt k.places.places p s o → s.session.config.peering.0 ≡ p → OnOk r (FollowsStep k p s (followed step) g)) where
+  ticks_live : (s u : RunningSession) (o : Option Errand) → place_at f.places.places p ≡ Some (Live s o) → x ≡ Some (Live u o) → MayPass s.session f.turns → IsTied s.session → Ticks step s f.turns u → OnOk r (Visits (passing_rounds f.turns) p f a g b)
   ticks_live s u o is x_is may tied ticks =
-      let own : KeepsPlace f.known.setup f.number.0 p ((rib_of f.rib).entries p) (table_at f.due_out p) (Live s o) = subst (KeepsPlace f.known.setup f.number.0 p ((rib_of f.rib).entries p) (table_at f.due_out p)) is (keeps.each p) in
+      let own : KeepsPlace f.known.setup f.number.0 p ((rib_of f.rib).entries p) (table_at f.due_out p) (Some (Live s o)) = subst (KeepsPlace f.known.setup f.number.0 p ((rib_of f.rib).entries p) (table_at f.due_out p)) is (keeps.each p) in
       on_ok_weaker r
       (λ (done : FollowsStep k p u (followed step) g).
       let done' : FollowsStep (record f { places = k.places }) p u (followed step) g = subst (λ (h : Fields). FollowsStep h p u (followed step) g) same done in
       let places_are : k.places ≡ g.places = sym (ap (λ (h : Fields). h.places) done.same) in
-      ticks_at f g p a b s u o step keeps is there may tied ticks (ap (λ (h : Fields). h.places.items) done.same ∙ items ∙ ap (set f.places.items p) x_is) wrote
+      ticks_at f g p a b s u o step keeps is there may tied ticks (ap (λ (h : Fields). h.places) done.same ∙ items ∙ ap (with_place f.places p) x_is) wrote
       (subst (λ v. FollowsStep (record f { places = v }) p u (followed step) g) places_are done'))
-      (follows u o (record { is = ap (λ (xs : List Place). place_at xs p) items ∙ set_here f.places.items p x there ∙ x_is }) (ap (λ (v : SessionValue). v.config.peering.0) ticks.passes.effect ∙ own.0.peering))
+      (follows u o (record { is = ap (λ (xs : List (Option Place)). place_at xs p) (listed items) ∙ set_here f.places.places p x there ∙ x_is }) (ap (λ (v : SessionValue). v.config.peering.0) ticks.passes.effect ∙ own.0.peering))
 
-  pub ticks_some : (y : Place) → place_at f.places.items p ≡ y → AtPlace (Ticked f.turns) y (Some step) x → OnOk r (Visits (passing_rounds f.turns) p f a g b)
-  ticks_some Vacant is ticked = absurd (some_none step ticked.0)
-  ticks_some (Live s o) is (u, x_is, ticked) = ticks_live s u o is x_is ticked.0 ticked.1 ticked.2
-  ticks_some (Shadow away) is ticked = absurd (some_none step ticked.0)
+  pub ticks_some : (y : Option Place) → place_at f.places.places p ≡ y → AtPlace (Ticked f.turns) y (Some step) x → OnOk r (Visits (passing_rounds f.turns) p f a g b)
+  ticks_some None is ticked = absurd (some_none step ticked.0)
+  ticks_some (Some (Live s o)) is (u, x_is, ticked) = ticks_live s u o is x_is ticked.0 ticked.1 ticked.2
+  ticks_some (Some (Shadow away)) is ticked = absurd (some_none step ticked.0)
 
 -- ---- where none may pass
 
 stays_put : (s : RunningSession) → PutsMore s s
 stays_put s = record { acked = refl; emitted = refl; at_turn = refl }
 
-module _ (f g : Fields) (a : Post (Item RunningSession)) (p : ℕ) (x : Place) (keeps : Keeps f) (there : p < length f.places.items) (same : SameButPlaces f g) (items : g.places.items ≡ set f.places.items p x) where
+module _ (f g : Fields) (a : Post (Item RunningSession)) (p : ℕ) (x : Option Place) (keeps : Keeps f) (there : p < length f.places.places) (same : SameButPlaces f g) (items : g.places ≡ with_place f.places p x) where
   same_rest : SameButSessions f g
   same_rest = subst (λ (h : Fields). h ≡ record f { places = h.places; rib = h.rib; due_out = h.due_out }) (sym same) refl
 
-  pub ticks_none : (y : Place) → place_at f.places.items p ≡ y → AtPlace (Ticked f.turns) y None x → Visits (passing_rounds f.turns) p f a g a
-  ticks_none Vacant is ticked = visits_idle f g a a p x keeps there same items (passing_rounds f.turns) same_rest Vacant is ticked.1 refl (λ t. refl)
-  ticks_none (Live s o) is (u, x_is, ticked) =
-      visits_idle f g a a p x keeps there same items (passing_rounds f.turns) same_rest (Live s o) is (x_is ∙ ap (λ (v : RunningSession). Live v o) ticked.1) (s, refl, (stays_put s, inr (ticked.0, refl, refl))) (λ t. refl)
-  ticks_none (Shadow away) is ticked = visits_idle f g a a p x keeps there same items (passing_rounds f.turns) same_rest (Shadow away) is ticked.1 refl (λ t. refl)
+  pub ticks_none : (y : Option Place) → place_at f.places.places p ≡ y → AtPlace (Ticked f.turns) y None x → Visits (passing_rounds f.turns) p f a g a
+  ticks_none None is ticked = visits_idle f g a a p x keeps there same items (passing_rounds f.turns) same_rest None is ticked.1 refl (λ t. refl)
+  ticks_none (Some (Live s o)) is (u, x_is, ticked) =
+      visits_idle f g a a p x keeps there same items (passing_rounds f.turns) same_rest (Some (Live s o)) is (x_is ∙ ap (λ (v : RunningSession). Some (Live v o)) ticked.1) (s, refl, (stays_put s, inr (ticked.0, refl, refl))) (λ t. refl)
+  ticks_none (Some (Shadow away)) is ticked = visits_idle f g a a p x keeps there same items (passing_rounds f.turns) same_rest (Some (Shadow away)) is ticked.1 refl (λ t. refl)
 
 -- ---- all places
 
 pub sessions_then : (a b c : Fields) → SameButSessions a b → SameButSessions b c → SameButSessions a c
 sessions_then a b c x y = y ∙ ap (λ (f : Fields). let g : Fields = record f { places = c.places; rib = c.rib; due_out = c.due_out } in g) x
 
-pub passes_all : (f g : Fields) (a b : Post (Item RunningSession)) (n : ℕ) → length f.places.items ≤ n → Visited (passing_rounds f.turns) n f a g b → PassesRounds f a g b
+pub passes_all : (f g : Fields) (a b : Post (Item RunningSession)) (n : ℕ) → length f.places.places ≤ n → Visited (passing_rounds f.turns) n f a g b → PassesRounds f a g b
 passes_all f g a b n last v = record {
   events = v.events;
   did = λ t. subst (λ (w : ℕ → Tally). Did f a t v.events g b w) (λ i k. both (nat_lt k n) (t k) i) (v.did t);
@@ -294,9 +295,9 @@ passes_all f g a b n last v = record {
   places = λ k. elim (cases_lt k n) [
     | inl below ↦ v.done k below
     | inr from ↦
-        let end : place_at f.places.items k ≡ Vacant = place_at_end f.places.items k (omega (arith, last, from)) in
-        subst (PlaceGoes (PassesWhereItMay f.turns (rounds_on k v.events)) (place_at f.places.items k)) (sym (v.left k from).0)
-        (subst (λ (x : Place). PlaceGoes (PassesWhereItMay f.turns (rounds_on k v.events)) x x) (sym end) refl)
+        let end : place_at f.places.places k ≡ None = place_at_end f.places.places k (omega (arith, last, from)) in
+        subst (PlaceGoes (PassesWhereItMay f.turns (rounds_on k v.events)) (place_at f.places.places k)) (sym (v.left k from).0)
+        (subst (λ (x : Option Place). PlaceGoes (PassesWhereItMay f.turns (rounds_on k v.events)) x x) (sym end) refl)
   ];
   same = v.same;
   keeps = v.keeps;

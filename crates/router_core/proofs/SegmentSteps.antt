@@ -1,10 +1,12 @@
 -- The segments that a router takes.
-use Rattle.std.proofs.Common.{◌≡◌, ◌≢◌, ℕ, ◌+◌, ◌<◌, ◌≤◌, List, [], length, Bool, true, false, Option, Some, option_map, refl, sym, ap, subst, ◌∙◌, arith, inl, inr, set}
+use Rattle.std.proofs.Common.{◌≡◌, ◌≢◌, ℕ, ◌+◌, ◌<◌, ◌≤◌, List, [], length, Bool, true, false, Option, Some, option_map, refl, sym, ap, subst, ◌∙◌, arith, inl, inr, None}
 use Rattle.std.proofs.lemmas.List.{length-set}
 use Rattle.ring_net.specs.declared.post.Post.{Post}
 use Rattle.graft_steps.specs.declared.item.Item.{Item}
 use Rattle.graft_steps.specs.declared.item.Item.TheVariants as items
-use Rattle.graft_steps.specs.declared.order.GraftIds.{GraftIds}
+use Rattle.session_places.specs.Places.{with_place}
+use Rattle.router_core.specs.Rounds.{Writes}
+use Rattle.router_core.specs.declared.place.Errand.{Errand}
 use Rattle.tcp_end.specs.declared.arrival.Arrival.{Arrival}
 use Rattle.tcp_seq.specs.Endpoint.{PlacedSegment, IsInStreams, TakesSegment}
 use Rattle.tcp_seq.specs.Placed.{placed}
@@ -20,40 +22,41 @@ use Rattle.graft_model.specs.Parts as model
 use Rattle.graft_model.specs.Parts.{RouterPart}
 use Rattle.graft_model.specs.RouterRows.{SegmentIn}
 use Rattle.graft_model.specs.Setups.{routers_in, peerings_in}
-use Rattle.graft_model.specs.Steps.{Arrive, Stray}
+use Rattle.graft_model.specs.declared.event.RouterEvent.TheVariants.{Arrive, Stray}
 use Rattle.graft_runs.specs.Actors.{FarSide, actor_at}
 use Rattle.graft_runs.proofs.Numbers.{there as is_there, of_number}
 use Rattle.graft_actors.specs.Items.{home_first, remote_first, placed_for, segment_of, segment_thing, IsSegmentOf}
-use Rattle.graft_actors.specs.Notes.{WroteOne}
+use Rattle.graft_actors.specs.Notes.{WroteOne, dropped}
 use Rattle.graft_actors.proofs.Welcome.{router_segment}
 use Rattle.router_core.specs.Parts.{router_part, own_part, carried, Keeps, KeepsPlace, IsOfPeering}
-use Rattle.router_core.specs.Places.{order_of, place_of, place_at, RunsAt}
+use Rattle.router_core.specs.Places.{errand_of, place_of, place_at, RunsAt}
 use Rattle.router_core.specs.Reading.{ArrivesAt, FitsPlace, FitsSession, KeepsBut, ReadsAll}
 use Rattle.router_core.specs.Takes.{Stays, TakesIt}
 use Rattle.router_core.specs.declared.fields.Fields.{Fields}
 use Rattle.router_core.specs.declared.place.Place.{Place}
-use Rattle.router_core.specs.declared.place.Place.TheVariants.{Vacant, Live, Shadow}
+use Rattle.router_core.specs.declared.place.Place.TheVariants.{Live, Shadow}
 use Rattle.router_core.proofs.Dids.{did_same, same_router}
 use Rattle.router_core.proofs.Kept.{one_or_other, places_at, placed_here, placed_else, rest_of, rest_on, live_is, stays_itself}
+use Rattle.router_core.proofs.PlaceLists.{listed, rooms, same_there}
 use Rattle.router_core.proofs.Takings.{drops, takes_then}
 
 module _ (f : Fields) (a b : Post (Item RunningSession)) (from p : ℕ) (g : Segment) (keeps : Keeps f) where
   -- a segment of no far side
-  pub drops_stranger : (from < f.routers → ⊥) → f.routers + length f.places.items ≤ from → WroteOne a 0 0 0 0 [] b → TakesIt from (items.Seg g) f a f b
+  pub drops_stranger : (from < f.routers → ⊥) → f.routers + length f.places.places ≤ from → WroteOne a dropped [] b → TakesIt from (items.Seg g) f a f b
   drops_stranger not past wrote = drops f a b from (items.Seg g) keeps wrote
       (λ w.
       let is = (router_segment carried f.known.setup from f.number.0 (router_part f) g).0 w in
       let at_it = of_number f.known.setup from (FarSide is.0) is.1 in omega (arith, at_it.0, at_it.1, past, keeps.routers, keeps.places))
 
   -- a segment of a router
-  pub drops_router : from < f.routers → WroteOne a 0 0 0 0 [] b → TakesIt from (items.Seg g) f a f b
+  pub drops_router : from < f.routers → WroteOne a dropped [] b → TakesIt from (items.Seg g) f a f b
   drops_router below wrote = drops f a b from (items.Seg g) keeps wrote
       (λ w.
       let is = (router_segment carried f.known.setup from f.number.0 (router_part f) g).0 w in
       let at_it = of_number f.known.setup from (FarSide is.0) is.1 in omega (arith, at_it.1, below, keeps.routers))
 
   -- one that isn't of its sender's peering
-  pub drops_other : from ≡ f.routers + p → (IsSegmentOf f.known.setup p Home g → ⊥) → WroteOne a 0 0 0 0 [] b → TakesIt from (items.Seg g) f a f b
+  pub drops_other : from ≡ f.routers + p → (IsSegmentOf f.known.setup p Home g → ⊥) → WroteOne a dropped [] b → TakesIt from (items.Seg g) f a f b
   drops_other number not wrote = drops f a b from (items.Seg g) keeps wrote
       (λ w.
       let is = (router_segment carried f.known.setup from f.number.0 (router_part f) g).0 w in
@@ -63,7 +66,7 @@ module _ (f : Fields) (a b : Post (Item RunningSession)) (from p : ℕ) (g : Seg
 
 -- ---- a segment of the peering
 
-module _ (f : Fields) (a b : Post (Item RunningSession)) (from p : ℕ) (g : Segment) (keeps : Keeps f) (number : from ≡ f.routers + p) (there : p < length f.places.items) (is : IsSegmentOf f.known.setup p Home g) where
+module _ (f : Fields) (a b : Post (Item RunningSession)) (from p : ℕ) (g : Segment) (keeps : Keeps f) (number : from ≡ f.routers + p) (there : p < length f.places.places) (is : IsSegmentOf f.known.setup p Home g) where
   abbrev setup_ : Rattle.graft_model.specs.Setups.Setup
   setup_ = f.known.setup
 
@@ -76,10 +79,10 @@ module _ (f : Fields) (a b : Post (Item RunningSession)) (from p : ℕ) (g : Seg
       let known : p < peerings_in f.known.setup = omega (arith, there, keeps.places) in
       ap (actor_at f.known.setup) number_is ∙ is_there f.known.setup (FarSide p) known
 
-  own_of : (s : RunningSession) (o : Option GraftIds) → RunsAt f.places.items p s o → IsOfPeering f.known.setup p s.session
-  own_of s o live = (subst (λ (x : Place). KeepsPlace f.known.setup f.number.0 p ((rib_of f.rib).entries p) (table_at f.due_out p) x) live.is (keeps.each p)).0
+  own_of : (s : RunningSession) (o : Option Errand) → RunsAt f.places.places p s o → IsOfPeering f.known.setup p s.session
+  own_of s o live = (subst (λ (x : Option Place). KeepsPlace f.known.setup f.number.0 p ((rib_of f.rib).entries p) (table_at f.due_out p) x) live.is (keeps.each p)).0
 
-  seg_is : (s : RunningSession) (o : Option GraftIds) → RunsAt f.places.items p s o → seg ≡ received_as s.session.config g
+  seg_is : (s : RunningSession) (o : Option Errand) → RunsAt f.places.places p s o → seg ≡ received_as s.session.config g
   seg_is s o live =
       let own : IsOfPeering f.known.setup p s.session = own_of s o live in
       ap (λ (w : Way). placed_for w (home_first f.known.setup g.peering.0) (remote_first f.known.setup g.peering.0) g) is.way
@@ -87,7 +90,7 @@ module _ (f : Fields) (a b : Post (Item RunningSession)) (from p : ℕ) (g : Seg
       ∙ ap (λ (n : ℕ). placed n (home_first f.known.setup p) g) (sym own.receives)
       ∙ ap (λ (n : ℕ). placed s.session.config.receive_first.0 n g) (sym own.sends)
 
-  fits_session : (s : RunningSession) (o : Option GraftIds) → RunsAt f.places.items p s o → FitsSession s.session.config g
+  fits_session : (s : RunningSession) (o : Option Errand) → RunsAt f.places.places p s o → FitsSession s.session.config g
   fits_session s o live =
       let own : IsOfPeering f.known.setup p s.session = own_of s o live in
       record {
@@ -97,33 +100,31 @@ module _ (f : Fields) (a b : Post (Item RunningSession)) (from p : ℕ) (g : Seg
         in_streams = subst IsInStreams (seg_is s o live) is.placed;
       }
 
-  pub fits_place : FitsPlace (place_at f.places.items p) g
-  fits_place = by_place (place_at f.places.items p) refl where
-    by_place : (x : Place) → place_at f.places.items p ≡ x → FitsPlace x g
-    by_place Vacant e = tt
-    by_place (Live s o) e = fits_session s o (record { is = e })
-    by_place (Shadow away) e = tt
+  pub fits_place : FitsPlace (place_at f.places.places p) g
+  fits_place = by_place (place_at f.places.places p) refl where
+    by_place : (x : Option Place) → place_at f.places.places p ≡ x → FitsPlace x g
+    by_place None e = tt
+    by_place (Some (Live s o)) e = fits_session s o (record { is = e })
+    by_place (Some (Shadow away)) e = tt
 
   -- no session is live there
-  pub strays : (h : Fields) → h ≡ record f { places = h.places } → h.places.items ≡ set f.places.items p (place_at f.places.items p) → ((s : RunningSession) (o : Option GraftIds) → place_at f.places.items p ≡ Live s o → ⊥) → WroteOne a 4 p 0 0 [] b → TakesIt from (items.Seg g) f a h b
+  pub strays : (h : Fields) → h ≡ record f { places = h.places } → h.places ≡ with_place f.places p (place_at f.places.places p) → ((s : RunningSession) (o : Option Errand) → place_at f.places.places p ≡ Some (Live s o) → ⊥) → Writes a (Stray p) [] b → TakesIt from (items.Seg g) f a h b
   strays h same held absent wrote =
-      let unchanged : h.places.items ≡ f.places.items = held ∙ Rattle.std.proofs.lemmas.List.set-get_or f.places.items p Vacant in
-      let part : router_part h ≡ router_part f = ap router_part same ∙ ap (λ (xs : List Place). let v : RouterPart = record (router_part f) { places = λ n. place_of (place_at xs n) } in v) unchanged in
+      let kept : h.places ≡ f.places = held ∙ same_there f.places p in
+      let unchanged : h.places.places ≡ f.places.places = listed kept in
+      let part : router_part h ≡ router_part f = ap router_part same ∙ ap (λ (xs : List (Option Place)). let v : RouterPart = record (router_part f) { places = λ n. place_of (place_at xs n) } in v) unchanged in
       takes_then f h h a b b from (items.Seg g) (Stray p) []
       (record {
         router = record { setup = ap (λ (k : Fields). k.known.setup) same; number = ap (λ (k : Fields). k.number) same };
-        kind = 4;
-        a = p;
         sent = [];
         wrote = wrote;
-        code = record { kind = refl; a = refl; b = refl; c = refl };
         welcome = (router_segment carried f.known.setup from f.number.0 (router_part f) g).1 (p, from_is, is);
         name = FarSide p;
         number = omega (arith, number, keeps.routers);
         took = SegmentIn p seg;
         thing = ap (λ (w : Way). (FarSide p, segment_thing w seg)) (sym is.way);
         gave = [];
-        row = record { absent = λ s o live. no_live (place_at f.places.items p) refl s o live.is; segment = seg; takes = refl; sends = refl; stays = part };
+        row = record { absent = λ s o live. no_live (place_at f.places.places p) refl s o live.is; segment = seg; takes = refl; sends = refl; stays = part };
         sends = refl;
         known = tt;
         fit = tt;
@@ -133,50 +134,51 @@ module _ (f : Fields) (a b : Post (Item RunningSession)) (from p : ℕ) (g : Seg
       (λ t. did_same h h b t (same_router h) refl)
       (λ k. refl)
       (tt, tt)
-      (λ n u v o w x y. stays_itself u v (live_is f.places.items n u v o w x (record { is = ap (λ (xs : List Place). place_at xs n) (sym unchanged) ∙ y.is })))
+      (λ n u v o w x y. stays_itself u v (live_is f.places.places n u v o w x (record { is = ap (λ (xs : List (Option Place)). place_at xs n) (sym unchanged) ∙ y.is })))
       (ap (λ (k : Fields). k.turns) same)
       (Rattle.router_core.proofs.Kept.keeps_on f h (rest_of f keeps)
       (subst (λ (k : Fields). k ≡ record f { places = k.places; rib = k.rib; due_in = k.due_in; due_out = k.due_out; turns = k.turns }) (sym same) refl)
       (record {
         places = ap length unchanged;
+        reserved = rooms kept;
         due_in = ap (λ (k : Fields). length k.due_in) same;
         due_out = ap (λ (k : Fields). length k.due_out) same;
         config = ap (λ (k : Fields). k.rib.config) same;
         tellings = λ n out. ap (λ (k : Fields). (rib_of k.rib).tellings n) same;
       })
-      (λ n. subst (λ (k : Fields). KeepsPlace f.known.setup f.number.0 n ((rib_of k.rib).entries n) (table_at k.due_out n) (place_at h.places.items n)) (sym same)
-      (subst (λ (xs : List Place). KeepsPlace f.known.setup f.number.0 n ((rib_of f.rib).entries n) (table_at f.due_out n) (place_at xs n)) (sym unchanged) (keeps.each n))))
+      (λ n. subst (λ (k : Fields). KeepsPlace f.known.setup f.number.0 n ((rib_of k.rib).entries n) (table_at k.due_out n) (place_at h.places.places n)) (sym same)
+      (subst (λ (xs : List (Option Place)). KeepsPlace f.known.setup f.number.0 n ((rib_of f.rib).entries n) (table_at f.due_out n) (place_at xs n)) (sym unchanged) (keeps.each n))))
     where
-      no_live : (x : Place) → place_at f.places.items p ≡ x → (s : SessionValue) (o : Option model.Order) → place_of x ≡ model.Live s o → ⊥
-      no_live Vacant e s o l = cc
-      no_live (Live u w) e s o l = absent u w e
-      no_live (Shadow away) e s o l = cc
+      no_live : (x : Option Place) → place_at f.places.places p ≡ x → (s : SessionValue) (o : Option model.Errand) → place_of x ≡ model.Live s o → ⊥
+      no_live None e s o l = cc
+      no_live (Some (Live u w)) e s o l = absent u w e
+      no_live (Some (Shadow away)) e s o l = cc
 
   -- it arrives at the session that is live there
-  module _ (mid : Fields) (s u : RunningSession) (o : Option GraftIds) (arrival : Arrival) (live : RunsAt f.places.items p s o) (arr : Arrives arrival s g u)
-      (same : mid ≡ record f { places = mid.places }) (held : mid.places.items ≡ set f.places.items p (Live u o)) where
-    here : place_at mid.places.items p ≡ Live u o
-    here = ap (λ (xs : List Place). place_at xs p) held ∙ placed_here f.places.items p (Live u o) there
+  module _ (mid : Fields) (s u : RunningSession) (o : Option Errand) (arrival : Arrival) (live : RunsAt f.places.places p s o) (arr : Arrives arrival s g u)
+      (same : mid ≡ record f { places = mid.places }) (held : mid.places ≡ with_place f.places p (Some (Live u o))) where
+    here : place_at mid.places.places p ≡ Some (Live u o)
+    here = ap (λ (xs : List (Option Place)). place_at xs p) (listed held) ∙ placed_here f.places.places p (Some (Live u o)) there
 
-    elsewhere : (n : ℕ) → n ≢ p → place_at mid.places.items n ≡ place_at f.places.items n
-    elsewhere n not = ap (λ (xs : List Place). place_at xs n) held ∙ placed_else f.places.items p (Live u o) n not
+    elsewhere : (n : ℕ) → n ≢ p → place_at mid.places.places n ≡ place_at f.places.places n
+    elsewhere n not = ap (λ (xs : List (Option Place)). place_at xs n) (listed held) ∙ placed_else f.places.places p (Some (Live u o)) n not
 
-    keeps_live : KeepsPlace f.known.setup f.number.0 p ((rib_of f.rib).entries p) (table_at f.due_out p) (Live s o)
-    keeps_live = subst (λ (x : Place). KeepsPlace f.known.setup f.number.0 p ((rib_of f.rib).entries p) (table_at f.due_out p) x) live.is (keeps.each p)
+    keeps_live : KeepsPlace f.known.setup f.number.0 p ((rib_of f.rib).entries p) (table_at f.due_out p) (Some (Live s o))
+    keeps_live = subst (λ (x : Option Place). KeepsPlace f.known.setup f.number.0 p ((rib_of f.rib).entries p) (table_at f.due_out p) x) live.is (keeps.each p)
 
     pub keeps_arrival : KeepsBut p mid
     keeps_arrival = subst (KeepsBut p) (sym same) (record {
       rest = rest_on f (record f { places = mid.places }) (rest_of f keeps) refl
-          (record { places = ap length held ∙ length-set f.places.items p (Live u o); due_in = refl; due_out = refl; config = refl; tellings = λ n out. refl });
+          (record { places = ap length (listed held) ∙ length-set f.places.places p (Some (Live u o)); reserved = rooms held; due_in = refl; due_out = refl; config = refl; tellings = λ n out. refl });
       here = record {
         session = u;
-        order = o;
+        errand = o;
         live = record { is = here };
         own = subst (λ (v : RunningSession). IsOfPeering f.known.setup p v.session) (sym arr.effect) (record { peering = keeps_live.0.peering; sends = keeps_live.0.sends; receives = keeps_live.0.receives });
-        ordered = keeps_live.2;
+        for_graft = keeps_live.2;
         due = subst (λ (v : RunningSession). Rattle.router_core.specs.Parts.IsDueWhileUp v.session (table_at f.due_out p)) (sym arr.effect) keeps_live.3;
       };
-      others = λ n not. subst (λ (x : Place). KeepsPlace f.known.setup f.number.0 n ((rib_of f.rib).entries n) (table_at f.due_out n) x) (sym (elsewhere n not)) (keeps.each n);
+      others = λ n not. subst (λ (x : Option Place). KeepsPlace f.known.setup f.number.0 n ((rib_of f.rib).entries n) (table_at f.due_out n) x) (sym (elsewhere n not)) (keeps.each n);
     })
 
     rises : s.session.end.acked ≤ u.session.end.acked
@@ -193,16 +195,13 @@ module _ (f : Fields) (a b : Post (Item RunningSession)) (from p : ℕ) (g : Seg
     stays_one : Stays s u
     stays_one = record { acked = rises; emitted = emits_none; at_turn = ap (λ (v : RunningSession). v.acked_at_turn) arr.effect }
 
-    pub arrives : (h : Fields) (c : Post (Item RunningSession)) → WroteOne a 3 p 0 0 [] b → ReadsAll p mid b h c → TakesIt from (items.Seg g) f a h c
+    pub arrives : (h : Fields) (c : Post (Item RunningSession)) → Writes a (Arrive p) [] b → ReadsAll p mid b h c → TakesIt from (items.Seg g) f a h c
     arrives h c wrote reads =
         takes_then f mid h a b c from (items.Seg g) (Arrive p) reads.events
         (record {
           router = record { setup = ap (λ (k : Fields). k.known.setup) same; number = ap (λ (k : Fields). k.number) same };
-          kind = 3;
-          a = p;
           sent = [];
           wrote = wrote;
-          code = record { kind = refl; a = refl; b = refl; c = refl };
           welcome = (router_segment carried f.known.setup from f.number.0 (router_part f) g).1 (p, from_is, is);
           name = FarSide p;
           number = omega (arith, number, keeps.routers);
@@ -211,7 +210,7 @@ module _ (f : Fields) (a b : Post (Item RunningSession)) (from p : ℕ) (g : Seg
           gave = [];
           row = record {
             session = s.session;
-            order = option_map order_of o;
+            errand = option_map errand_of o;
             live = record { is = ap place_of live.is };
             segment = seg;
             takes = refl;
@@ -219,9 +218,9 @@ module _ (f : Fields) (a b : Post (Item RunningSession)) (from p : ℕ) (g : Seg
             end = arr.end;
             arrives = subst (λ (x : PlacedSegment). TakesSegment s.session.end x arr.end) (sym (seg_is s o live)) arr.takes;
             effect = ap router_part same
-                ∙ ap (λ (xs : List Place). let v : RouterPart = record (router_part f) { places = λ n. place_of (place_at xs n) } in v) held
-                ∙ ap (λ (ps : ℕ → model.Place). let v : RouterPart = record (router_part f) { places = ps } in v) (places_at f.places.items p (Live u o) there)
-                ∙ ap (λ (w : RunningSession). let v : RouterPart = record (router_part f) { places = at (router_part f).places p (model.Live w.session (option_map order_of o)) } in v) arr.effect;
+                ∙ ap (λ (xs : List (Option Place)). let v : RouterPart = record (router_part f) { places = λ n. place_of (place_at xs n) } in v) (listed held)
+                ∙ ap (λ (ps : ℕ → model.Place). let v : RouterPart = record (router_part f) { places = ps } in v) (places_at f.places.places p (Some (Live u o)) there)
+                ∙ ap (λ (w : RunningSession). let v : RouterPart = record (router_part f) { places = at (router_part f).places p (model.Live w.session (option_map errand_of o)) } in v) arr.effect;
           };
           sends = refl;
           known = tt;
@@ -233,39 +232,39 @@ module _ (f : Fields) (a b : Post (Item RunningSession)) (from p : ℕ) (g : Seg
         reads.no_rounds
         (tt, reads.no_puts)
         (λ n v w m k x y. elim (one_or_other p n) [
-          | inl e ↦ at_it v w m k (record { is = ap (place_at f.places.items) (sym e) ∙ x.is }) (record { is = ap (place_at h.places.items) (sym e) ∙ y.is })
-          | inr not ↦ stays_itself v w (live_is f.places.items n v w m k x (record { is = sym (reads.stays.others n not ∙ elsewhere n not) ∙ y.is }))
+          | inl e ↦ at_it v w m k (record { is = ap (place_at f.places.places) (sym e) ∙ x.is }) (record { is = ap (place_at h.places.places) (sym e) ∙ y.is })
+          | inr not ↦ stays_itself v w (live_is f.places.places n v w m k x (record { is = sym (reads.stays.others n not ∙ elsewhere n not) ∙ y.is }))
         ])
         (ap (λ (k : Fields). k.turns) reads.stays.same ∙ ap (λ (k : Fields). k.turns) same)
         reads.keeps
       where
-        at_it : (v w : RunningSession) (m k : Option GraftIds) → RunsAt f.places.items p v m → RunsAt h.places.items p w k → Stays v w
+        at_it : (v w : RunningSession) (m k : Option Errand) → RunsAt f.places.places p v m → RunsAt h.places.places p w k → Stays v w
         at_it v w m k x y =
-            let e : s ≡ v = live_is f.places.items p v s m o x live in
+            let e : s ≡ v = live_is f.places.places p v s m o x live in
             let later : Stays u w = reads.stays.stays u w o k (record { is = here }) y in
             subst (λ (z : RunningSession). Stays z w) e (record { acked = omega (arith, rises, later.acked); emitted = later.emitted ∙ emits_none; at_turn = later.at_turn ∙ stays_one.at_turn })
 
 -- ---- what a place answers to a segment
 
-pub record Stands (place new : Place) : Type 0 where
+pub record Stands (place new : Option Place) : Type 0 where
   pub same : new ≡ place
-  pub absent : (s : RunningSession) (o : Option GraftIds) → place ≡ Live s o → ⊥
+  pub absent : (s : RunningSession) (o : Option Errand) → place ≡ Some (Live s o) → ⊥
 
-pub stands : (place new : Place) (g : Segment) (live : Bool) → ArrivesAt live place g new → live ≡ false → Stands place new
-stands Vacant new g live r e = record { same = r.1; absent = λ s o f. let x : ⊥ = cc in x }
-stands (Live s o) new g live r e = absurd (let x : true ≡ false = sym r.0 ∙ e in let y : ⊥ = cc in y)
-stands (Shadow away) new g live r e = record { same = r.1; absent = λ s o f. let x : ⊥ = cc in x }
+pub stands : (place new : Option Place) (g : Segment) (live : Bool) → ArrivesAt live place g new → live ≡ false → Stands place new
+stands None new g live r e = record { same = r.1; absent = λ s o f. let x : ⊥ = cc in x }
+stands (Some (Live s o)) new g live r e = absurd (let x : true ≡ false = sym r.0 ∙ e in let y : ⊥ = cc in y)
+stands (Some (Shadow away)) new g live r e = record { same = r.1; absent = λ s o f. let x : ⊥ = cc in x }
 
-pub record TookIn (place new : Place) (g : Segment) : Type 0 where
+pub record TookIn (place new : Option Place) (g : Segment) : Type 0 where
   pub session : RunningSession
-  pub order : Option GraftIds
+  pub errand : Option Errand
   pub later : RunningSession
   pub arrival : Arrival
-  pub live : place ≡ Live session order
+  pub live : place ≡ Some (Live session errand)
   pub arrives : Arrives arrival session g later
-  pub is : new ≡ Live later order
+  pub is : new ≡ Some (Live later errand)
 
-pub took_in : (place new : Place) (g : Segment) (live : Bool) → ArrivesAt live place g new → live ≡ true → TookIn place new g
-took_in Vacant new g live r e = absurd (let x : false ≡ true = sym r.0 ∙ e in let y : ⊥ = cc in y)
-took_in (Live s o) new g live (is_live, arrival, u, arrives, is) e = record { session = s; order = o; later = u; arrival = arrival; live = refl; arrives = arrives; is = is }
-took_in (Shadow away) new g live r e = absurd (let x : false ≡ true = sym r.0 ∙ e in let y : ⊥ = cc in y)
+pub took_in : (place new : Option Place) (g : Segment) (live : Bool) → ArrivesAt live place g new → live ≡ true → TookIn place new g
+took_in None new g live r e = absurd (let x : false ≡ true = sym r.0 ∙ e in let y : ⊥ = cc in y)
+took_in (Some (Live s o)) new g live (is_live, arrival, u, arrives, is) e = record { session = s; errand = o; later = u; arrival = arrival; live = refl; arrives = arrives; is = is }
+took_in (Some (Shadow away)) new g live r e = absurd (let x : false ≡ true = sym r.0 ∙ e in let y : ⊥ = cc in y)

@@ -1,5 +1,5 @@
 -- The retransmission turn, the new slices and the answer of the session at a place.
-use Rattle.std.proofs.Common.{◌≡◌, ℕ, ◌+◌, ◌<◌, ◌≤◌, [], ◌∷◌, length, Option, option_map, Some, None, Bool, true, false, ◌⊎◌, inl, inr, refl, sym, ap, subst, ◌∙◌, arith, set}
+use Rattle.std.proofs.Common.{◌≡◌, ℕ, ◌+◌, ◌<◌, ◌≤◌, [], ◌∷◌, length, Option, option_map, Some, None, Bool, true, false, ◌⊎◌, inl, inr, refl, sym, ap, subst, ◌∙◌, arith}
 use Rattle.std.specs.Prelude.{nat_lt, if◌then◌else◌, IsNone, IfNone, ◌↔◌, Result, Ok, Err, IfOk, OnOk}
 use Rattle.std.proofs.lemmas.Bool.{cases_lt, lt-ltb, le-ltb}
 use Rattle.ring_net.specs.declared.post.Post.{Post}
@@ -8,7 +8,10 @@ use Rattle.tcp_seq.specs.Numbers.{offset_from}
 use Rattle.tcp_seq.specs.declared.segment.Segment.{Segment}
 use Rattle.graft_steps.specs.declared.item.Item.{Item}
 use Rattle.graft_steps.specs.declared.item.Item.TheVariants as items
-use Rattle.graft_steps.specs.declared.order.GraftIds.{GraftIds}
+use Rattle.graft_model.specs.declared.event.RouterEvent.TheVariants.{Emit}
+use Rattle.session_places.specs.Places.{with_place}
+use Rattle.router_core.specs.Rounds.{Writes}
+use Rattle.router_core.specs.declared.place.Errand.{Errand}
 use Rattle.session_value.specs.Sessions.{SessionValue, unread}
 use Rattle.bgp_session.specs.Running.{RunningSession}
 use Rattle.bgp_session.specs.Steps.{Emits, EmitsBy, sent_as}
@@ -16,16 +19,15 @@ use Rattle.graft_model.specs.Setups.{routers_in}
 use Rattle.graft_model.specs.Slices.{EmitsAt}
 use Rattle.graft_model.specs.Parts as model
 use Rattle.graft_actors.specs.Emissions.{Tally, reach_of}
-use Rattle.graft_actors.specs.Notes.{WroteOne}
 use Rattle.rib_stages.specs.Values.{rib_of, table_at}
 use Rattle.router_core.specs.Parts.{Keeps, KeepsPlace, IsOfPeering}
-use Rattle.router_core.specs.Places.{place_of, place_at, order_of}
+use Rattle.router_core.specs.Places.{place_of, place_at, errand_of}
 use Rattle.router_core.specs.Sending.{AtPlace, SentAgain, SentNext, SentAnswer, IsOutletOf}
 use Rattle.router_core.specs.Stages.{IsLevel, again_at, answer_at}
 use Rattle.router_core.specs.Visits.{Stage, Visits, SameButPlaces, Answers, SlicesOut, AllNewOut, answering, sending_again, slicing}
 use Rattle.router_core.specs.declared.fields.Fields.{Fields}
 use Rattle.router_core.specs.declared.place.Place.{Place}
-use Rattle.router_core.specs.declared.place.Place.TheVariants.{Vacant, Live, Shadow}
+use Rattle.router_core.specs.declared.place.Place.TheVariants.{Live, Shadow}
 use Rattle.router_core.specs.declared.stages.send.Outlet.{Outlet}
 use Rattle.graft_actors.proofs.Careful.{at_again, at_answer, at_next, careful_again, careful_next, counted_again, counted_next}
 use Rattle.router_core.proofs.EmitSteps.{Gives, visits_emitted}
@@ -42,17 +44,17 @@ some_none x e = let y : ⊥ = cc in y
 
 -- what an outlet notes and sends
 abbrev pub WroteBy : Outlet → Segment → Post (Item RunningSession) → Post (Item RunningSession) → Type 0
-WroteBy outlet segment p q = WroteOne p 2 outlet.place (offset_from segment.seq.0 outlet.first.0) (length segment.bytes) ((outlet.to, items.Seg segment) ∷ []) q
+WroteBy outlet segment p q = Writes p (Emit outlet.place (offset_from segment.seq.0 outlet.first.0) (length segment.bytes)) ((outlet.to, items.Seg segment) ∷ []) q
 
 module _ (f : Fields) (n : ℕ) (outlet : Outlet) (is : IsOutletOf f n outlet) (p q : Post (Item RunningSession)) (segment : Segment) where
   pub wrote_by : (s : SessionValue) (from len : ℕ) → IsOfPeering f.known.setup n s → (sent_as s.config segment).place ≡ from → length segment.bytes ≡ len → WroteBy outlet segment p q
-      → WroteOne p 2 n from len ((routers_in f.known.setup + n, items.Seg segment) ∷ []) q
+      → Writes p (Emit n from len) ((routers_in f.known.setup + n, items.Seg segment) ∷ []) q
   wrote_by s from len of place size wrote =
       let seen : offset_from segment.seq.0 outlet.first.0 ≡ from = ap (offset_from segment.seq.0) (is.first ∙ sym of.sends) ∙ place in
-      subst (λ (m : ℕ). WroteOne p 2 n from m ((routers_in f.known.setup + n, items.Seg segment) ∷ []) q) size
-      (subst (λ (m : ℕ). WroteOne p 2 n m (length segment.bytes) ((routers_in f.known.setup + n, items.Seg segment) ∷ []) q) seen
-      (subst (λ (m : ℕ). WroteOne p 2 n (offset_from segment.seq.0 outlet.first.0) (length segment.bytes) ((m, items.Seg segment) ∷ []) q) is.to
-      (subst (λ (m : ℕ). WroteOne p 2 m (offset_from segment.seq.0 outlet.first.0) (length segment.bytes) ((outlet.to, items.Seg segment) ∷ []) q) is.place wrote)))
+      subst (λ (m : ℕ). Writes p (Emit n from m) ((routers_in f.known.setup + n, items.Seg segment) ∷ []) q) size
+      (subst (λ (m : ℕ). Writes p (Emit n m (length segment.bytes)) ((routers_in f.known.setup + n, items.Seg segment) ∷ []) q) seen
+      (subst (λ (m : ℕ). Writes p (Emit n (offset_from segment.seq.0 outlet.first.0) (length segment.bytes)) ((m, items.Seg segment) ∷ []) q) is.to
+      (subst (λ (m : ℕ). Writes p (Emit m (offset_from segment.seq.0 outlet.first.0) (length segment.bytes)) ((outlet.to, items.Seg segment) ∷ []) q) is.place wrote)))
 
 -- by a step and the slice that it emits
 pub gives_slice : (Step : Endpoint → PlacedSegment → Endpoint → Type 0) (s u : SessionValue) (segment : Segment) (from len : ℕ)
@@ -75,17 +77,17 @@ running_is u v n session turn = λ i. record { session = session i; acked_at_tur
 
 -- what a place keeps, where it is what it was
 module _ (f : Fields) (n : ℕ) (keeps : Keeps f) where
-  keeps_here : (x : Place) → place_at f.places.items n ≡ x → KeepsPlace f.known.setup f.number.0 n ((rib_of f.rib).entries n) (table_at f.due_out n) x
+  keeps_here : (x : Option Place) → place_at f.places.places n ≡ x → KeepsPlace f.known.setup f.number.0 n ((rib_of f.rib).entries n) (table_at f.due_out n) x
   keeps_here x is = subst (KeepsPlace f.known.setup f.number.0 n ((rib_of f.rib).entries n) (table_at f.due_out n)) is (keeps.each n)
 
 -- ---- the retransmission turn
 
-again_is : (s : RunningSession) (o : Option GraftIds) → s.session.end.acked ≤ s.acked_at_turn → 0 < again_length s.session.end → again_at (Live s o) ≡ 1
+again_is : (s : RunningSession) (o : Option Errand) → s.session.end.acked ≤ s.acked_at_turn → 0 < again_length s.session.end → again_at (Some (Live s o)) ≡ 1
 again_is s o late some =
     ap (λ (b : Bool). let n : ℕ = if b then 0 else (if nat_lt 0 (again_length s.session.end) then 1 else 0) in n) (le-ltb s.acked_at_turn s.session.end.acked late)
     ∙ ap (λ (b : Bool). let n : ℕ = if b then 1 else 0 in n) (lt-ltb 0 (again_length s.session.end) some)
 
-none_is : (s : RunningSession) (o : Option GraftIds) → (again_length s.session.end ≡ 0) ⊎ (s.acked_at_turn < s.session.end.acked) → again_at (Live s o) ≡ 0
+none_is : (s : RunningSession) (o : Option Errand) → (again_length s.session.end ≡ 0) ⊎ (s.acked_at_turn < s.session.end.acked) → again_at (Some (Live s o)) ≡ 0
 none_is s o (inr raised) = ap (λ (b : Bool). let n : ℕ = if b then 0 else (if nat_lt 0 (again_length s.session.end) then 1 else 0) in n) (lt-ltb s.acked_at_turn s.session.end.acked raised)
 none_is s o (inl none) = by_flag (nat_lt s.acked_at_turn s.session.end.acked)
   where
@@ -107,29 +109,29 @@ plus_answers : (t : Tally) (n : ℕ) → n ≡ 0 → (let u : Tally = record t {
 plus_answers t n is = ap (λ (m : ℕ). let u : Tally = record t { answers = m } in u) (let e : t.answers + n ≡ t.answers = omega (arith, is) in e)
 
 -- the places of f with x at n are those of g
-module _ (f g : Fields) (p q : Post (Item RunningSession)) (n : ℕ) (x : Place) (keeps : Keeps f) (there : n < length f.places.items) (same : SameButPlaces f g) (items_are : g.places.items ≡ set f.places.items n x) where
-  items_for : (y : Place) → x ≡ y → g.places.items ≡ set f.places.items n y
-  items_for y is = items_are ∙ ap (set f.places.items n) is
+module _ (f g : Fields) (p q : Post (Item RunningSession)) (n : ℕ) (x : Option Place) (keeps : Keeps f) (there : n < length f.places.places) (same : SameButPlaces f g) (items_are : g.places ≡ with_place f.places n x) where
+  items_for : (y : Option Place) → x ≡ y → g.places ≡ with_place f.places n y
+  items_for y is = items_are ∙ ap (with_place f.places n) is
 
   -- the place is what it was
   module _ (stage : Stage) (same_rest : stage.Same f g) where
-    pub visits_idle : (y : Place) → place_at f.places.items n ≡ y → x ≡ y → stage.Goes [] y y → ((t : Tally) → stage.count y t ≡ t) → Visits stage n f p g p
+    pub visits_idle : (y : Option Place) → place_at f.places.places n ≡ y → x ≡ y → stage.Goes [] y y → ((t : Tally) → stage.count y t ≡ t) → Visits stage n f p g p
     visits_idle y is x_is goes count =
         visits_same f g n x there same items_are stage p keeps (ap place_of (x_is ∙ sym is))
-        (subst (λ (z : Place). stage.Goes [] z x) (sym is) (subst (stage.Goes [] y) (sym x_is) goes))
-        (λ t. ap (λ (z : Place). stage.count z t) is ∙ count t) same_rest (subst (KeepsPlace f.known.setup f.number.0 n ((rib_of f.rib).entries n) (table_at f.due_out n)) (sym x_is) (keeps_here f n keeps y is))
+        (subst (λ (z : Option Place). stage.Goes [] z x) (sym is) (subst (stage.Goes [] y) (sym x_is) goes))
+        (λ t. ap (λ (z : Option Place). stage.count z t) is ∙ count t) same_rest (subst (KeepsPlace f.known.setup f.number.0 n ((rib_of f.rib).entries n) (table_at f.due_out n)) (sym x_is) (keeps_here f n keeps y is))
 
     -- its session is another one that the model doesn't tell from it
-    visits_alike : (s u : RunningSession) (o : Option GraftIds) → place_at f.places.items n ≡ Live s o → x ≡ Live u o → u.session ≡ s.session → stage.Goes [] (Live s o) (Live u o) → ((t : Tally) → stage.count (Live s o) t ≡ t) → Visits stage n f p g p
+    visits_alike : (s u : RunningSession) (o : Option Errand) → place_at f.places.places n ≡ Some (Live s o) → x ≡ Some (Live u o) → u.session ≡ s.session → stage.Goes [] (Some (Live s o)) (Some (Live u o)) → ((t : Tally) → stage.count (Some (Live s o)) t ≡ t) → Visits stage n f p g p
     visits_alike s u o is x_is alike goes count =
-        visits_same f g n x there same items_are stage p keeps (ap place_of x_is ∙ ap (λ (v : SessionValue). model.Live v (option_map order_of o)) alike ∙ sym (ap place_of is))
-        (subst (λ (z : Place). stage.Goes [] z x) (sym is) (subst (stage.Goes [] (Live s o)) (sym x_is) goes))
-        (λ t. ap (λ (z : Place). stage.count z t) is ∙ count t) same_rest
+        visits_same f g n x there same items_are stage p keeps (ap place_of x_is ∙ ap (λ (v : SessionValue). model.Live v (option_map errand_of o)) alike ∙ sym (ap place_of is))
+        (subst (λ (z : Option Place). stage.Goes [] z x) (sym is) (subst (stage.Goes [] (Some (Live s o))) (sym x_is) goes))
+        (λ t. ap (λ (z : Option Place). stage.count z t) is ∙ count t) same_rest
         (subst (KeepsPlace f.known.setup f.number.0 n ((rib_of f.rib).entries n) (table_at f.due_out n)) (sym x_is)
-        (keeps_live f.known.setup f.number.0 n ((rib_of f.rib).entries n) (table_at f.due_out n) s u o (keeps_here f n keeps (Live s o) is) (ap (λ (v : SessionValue). v.config) alike) (ap (λ (v : SessionValue). v.story) alike) (ap unread alike)))
+        (keeps_live f.known.setup f.number.0 n ((rib_of f.rib).entries n) (table_at f.due_out n) s u o (keeps_here f n keeps (Some (Live s o)) is) (ap (λ (v : SessionValue). v.config) alike) (ap (λ (v : SessionValue). v.story) alike) (ap unread alike)))
 
   module _ (outlet : Outlet) (outlet_is : IsOutletOf f n outlet) (segment : Segment) (wrote : WroteBy outlet segment p q) where
-    again_live : (s u : RunningSession) (o : Option GraftIds) → place_at f.places.items n ≡ Live s o → x ≡ Live u o → SentAgain s (Some segment) u → Visits sending_again n f p g q
+    again_live : (s u : RunningSession) (o : Option Errand) → place_at f.places.places n ≡ Some (Live s o) → x ≡ Some (Live u o) → SentAgain s (Some segment) u → Visits sending_again n f p g q
     again_live s u o is x_is sent =
         let e : Endpoint = s.session.end in
         let gives : Gives s.session segment u.session e.acked (again_length e) = gives_slice EmitsAgain s.session u.session segment e.acked (again_length e)
@@ -138,17 +140,17 @@ module _ (f g : Fields) (p q : Post (Item RunningSession)) (n : ℕ) (x : Place)
         let late : e.acked ≤ s.acked_at_turn = late_for s segment sent.none in
         let out : e.acked < e.emitted = omega (arith, some) in
         let level : IsLevel s u = running_is u s.session e.acked (sent.step.effect ∙ ap (λ (d : Endpoint). let v : SessionValue = record s.session { end = d } in v) sent.step.step.stays) sent.turned in
-        visits_emitted f g p q n s u o segment e.acked (again_length e) keeps there is same (items_for (Live u o) x_is) gives (careful_again e some) sent.slice.step.short
-        (wrote_by f n outlet outlet_is p q segment s.session e.acked (again_length e) (keeps_here f n keeps (Live s o) is).0 gives.at.place gives.at.size wrote)
+        visits_emitted f g p q n s u o segment e.acked (again_length e) keeps there is same (items_for (Some (Live u o)) x_is) gives (careful_again e some) sent.slice.step.short
+        (wrote_by f n outlet outlet_is p q segment s.session e.acked (again_length e) (keeps_here f n keeps (Some (Live s o)) is).0 gives.at.place gives.at.size wrote)
         sending_again (refl, (u, refl, level))
         (λ t. counted_again e (again_length e) t some out ∙ ap (λ (m : ℕ). let v : Tally = record t { again = t.again + m } in v) (sym (again_is s o late some))) same
 
-    pub again_some : (y : Place) → place_at f.places.items n ≡ y → AtPlace SentAgain y (Some segment) x → Visits sending_again n f p g q
-    again_some Vacant is at = absurd (some_none segment at.0)
-    again_some (Live s o) is (u, x_is, sent) = again_live s u o is x_is sent
-    again_some (Shadow away) is at = absurd (some_none segment at.0)
+    pub again_some : (y : Option Place) → place_at f.places.places n ≡ y → AtPlace SentAgain y (Some segment) x → Visits sending_again n f p g q
+    again_some None is at = absurd (some_none segment at.0)
+    again_some (Some (Live s o)) is (u, x_is, sent) = again_live s u o is x_is sent
+    again_some (Some (Shadow away)) is at = absurd (some_none segment at.0)
 
-    next_live : (s u : RunningSession) (o : Option GraftIds) → place_at f.places.items n ≡ Live s o → x ≡ Live u o → SentNext s (Some segment) u → Visits slicing n f p g q
+    next_live : (s u : RunningSession) (o : Option Errand) → place_at f.places.places n ≡ Some (Live s o) → x ≡ Some (Live u o) → SentNext s (Some segment) u → Visits slicing n f p g q
     next_live s u o is x_is sent =
         let e : Endpoint = s.session.end in
         let gives : Gives s.session segment u.session e.emitted (next_length e) = gives_slice EmitsNext s.session u.session segment e.emitted (next_length e)
@@ -158,62 +160,62 @@ module _ (f g : Fields) (p q : Post (Item RunningSession)) (n : ℕ) (x : Place)
         running_is u (record s.session { end = record e { emitted = e.emitted + next_length e } }) s.acked_at_turn
         (sent.step.effect ∙ ap (λ (d : Endpoint). let v : SessionValue = record s.session { end = d } in v) sent.step.step.rises) sent.same_turn in
         let out : SlicesOut s u = subst (SlicesOut s) (sym rises) refl in
-        visits_emitted f g p q n s u o segment e.emitted (next_length e) keeps there is same (items_for (Live u o) x_is) gives (careful_next e some) sent.slice.step.short
-        (wrote_by f n outlet outlet_is p q segment s.session e.emitted (next_length e) (keeps_here f n keeps (Live s o) is).0 gives.at.place gives.at.size wrote)
+        visits_emitted f g p q n s u o segment e.emitted (next_length e) keeps there is same (items_for (Some (Live u o)) x_is) gives (careful_next e some) sent.slice.step.short
+        (wrote_by f n outlet outlet_is p q segment s.session e.emitted (next_length e) (keeps_here f n keeps (Some (Live s o)) is).0 gives.at.place gives.at.size wrote)
         slicing (refl, (u, refl, out)) (λ t. counted_next e (next_length e) t some) same
 
-    pub next_some : (y : Place) → place_at f.places.items n ≡ y → AtPlace SentNext y (Some segment) x → Visits slicing n f p g q
-    next_some Vacant is at = absurd (some_none segment at.0)
-    next_some (Live s o) is (u, x_is, sent) = next_live s u o is x_is sent
-    next_some (Shadow away) is at = absurd (some_none segment at.0)
+    pub next_some : (y : Option Place) → place_at f.places.places n ≡ y → AtPlace SentNext y (Some segment) x → Visits slicing n f p g q
+    next_some None is at = absurd (some_none segment at.0)
+    next_some (Some (Live s o)) is (u, x_is, sent) = next_live s u o is x_is sent
+    next_some (Some (Shadow away)) is at = absurd (some_none segment at.0)
 
-    answer_live : (s u : RunningSession) (o : Option GraftIds) → place_at f.places.items n ≡ Live s o → x ≡ Live u o → SentAnswer s (Some segment) u → Visits answering n f p g q
+    answer_live : (s u : RunningSession) (o : Option Errand) → place_at f.places.places n ≡ Some (Live s o) → x ≡ Some (Live u o) → SentAnswer s (Some segment) u → Visits answering n f p g q
     answer_live s u o is x_is sent =
         let e : Endpoint = s.session.end in
         let at : EmitsAt e.emitted 0 e (sent_as s.session.config segment) sent.step.end = at_answer e sent.step.end (sent_as s.session.config segment) sent.step.step in
         let gives : Gives s.session segment u.session e.emitted 0 = record { end = sent.step.end; at = at; in_streams = sent.step.in_streams; peering = sent.step.peering; way = sent.step.way; effect = sent.step.effect } in
         let given : Answers s u = running_is u (record s.session { end = record e { owed = false } }) s.acked_at_turn
         (sent.step.effect ∙ ap (λ (d : Endpoint). let v : SessionValue = record s.session { end = d } in v) sent.step.step.answer.given) sent.same_turn in
-        let one : answer_at (Live s o) ≡ 1 = ap (λ (b : Bool). let m : ℕ = if b then 1 else 0 in m) sent.step.step.owed in
-        visits_emitted f g p q n s u o segment e.emitted 0 keeps there is same (items_for (Live u o) x_is) gives sent.step.step.owed (omega (arith, at.size))
-        (wrote_by f n outlet outlet_is p q segment s.session e.emitted 0 (keeps_here f n keeps (Live s o) is).0 at.place at.size wrote)
+        let one : answer_at (Some (Live s o)) ≡ 1 = ap (λ (b : Bool). let m : ℕ = if b then 1 else 0 in m) sent.step.step.owed in
+        visits_emitted f g p q n s u o segment e.emitted 0 keeps there is same (items_for (Some (Live u o)) x_is) gives sent.step.step.owed (omega (arith, at.size))
+        (wrote_by f n outlet outlet_is p q segment s.session e.emitted 0 (keeps_here f n keeps (Some (Live s o)) is).0 at.place at.size wrote)
         answering (refl, (u, refl, given)) (λ t. ap (λ (m : ℕ). let v : Tally = record t { answers = t.answers + m } in v) (sym one)) same
 
-    pub answer_some : (y : Place) → place_at f.places.items n ≡ y → AtPlace SentAnswer y (Some segment) x → Visits answering n f p g q
-    answer_some Vacant is at = absurd (some_none segment at.0)
-    answer_some (Live s o) is (u, x_is, sent) = answer_live s u o is x_is sent
-    answer_some (Shadow away) is at = absurd (some_none segment at.0)
+    pub answer_some : (y : Option Place) → place_at f.places.places n ≡ y → AtPlace SentAnswer y (Some segment) x → Visits answering n f p g q
+    answer_some None is at = absurd (some_none segment at.0)
+    answer_some (Some (Live s o)) is (u, x_is, sent) = answer_live s u o is x_is sent
+    answer_some (Some (Shadow away)) is at = absurd (some_none segment at.0)
 
   -- ---- nothing is sent
 
-  pub again_none : (y : Place) → place_at f.places.items n ≡ y → AtPlace SentAgain y None x → Visits sending_again n f p g p
-  again_none Vacant is at = visits_idle sending_again same Vacant is at.1 (refl, refl) (λ t. plus_again t 0 refl)
-  again_none (Live s o) is (u, x_is, sent) = visits_alike sending_again same s u o is x_is sent.step (refl, (u, refl, running_is u s.session s.session.end.acked sent.step sent.turned)) (λ t. plus_again t (again_at (Live s o)) (none_is s o (sent.none.0 refl)))
-  again_none (Shadow away) is at = visits_idle sending_again same (Shadow away) is at.1 (refl, refl) (λ t. plus_again t 0 refl)
+  pub again_none : (y : Option Place) → place_at f.places.places n ≡ y → AtPlace SentAgain y None x → Visits sending_again n f p g p
+  again_none None is at = visits_idle sending_again same None is at.1 (refl, refl) (λ t. plus_again t 0 refl)
+  again_none (Some (Live s o)) is (u, x_is, sent) = visits_alike sending_again same s u o is x_is sent.step (refl, (u, refl, running_is u s.session s.session.end.acked sent.step sent.turned)) (λ t. plus_again t (again_at (Some (Live s o))) (none_is s o (sent.none.0 refl)))
+  again_none (Some (Shadow away)) is at = visits_idle sending_again same (Some (Shadow away)) is at.1 (refl, refl) (λ t. plus_again t 0 refl)
 
-  pub next_none : (y : Place) → place_at f.places.items n ≡ y → AtPlace SentNext y None x → Visits slicing n f p g p
-  next_none Vacant is at = visits_idle slicing same Vacant is at.1 (refl, refl) (λ t. refl)
-  next_none (Live s o) is (u, x_is, sent) = visits_alike slicing same s u o is x_is sent.step (refl, (u, refl, subst (SlicesOut s) (sym (running_is u s.session s.acked_at_turn sent.step sent.same_turn)) refl)) (λ t. refl)
-  next_none (Shadow away) is at = visits_idle slicing same (Shadow away) is at.1 (refl, refl) (λ t. refl)
+  pub next_none : (y : Option Place) → place_at f.places.places n ≡ y → AtPlace SentNext y None x → Visits slicing n f p g p
+  next_none None is at = visits_idle slicing same None is at.1 (refl, refl) (λ t. refl)
+  next_none (Some (Live s o)) is (u, x_is, sent) = visits_alike slicing same s u o is x_is sent.step (refl, (u, refl, subst (SlicesOut s) (sym (running_is u s.session s.acked_at_turn sent.step sent.same_turn)) refl)) (λ t. refl)
+  next_none (Some (Shadow away)) is at = visits_idle slicing same (Some (Shadow away)) is at.1 (refl, refl) (λ t. refl)
 
-  pub answer_none : (y : Place) → place_at f.places.items n ≡ y → AtPlace SentAnswer y None x → Visits answering n f p g p
-  answer_none Vacant is at = visits_idle answering same Vacant is at.1 (refl, refl) (λ t. plus_answers t 0 refl)
-  answer_none (Live s o) is (u, x_is, sent) =
+  pub answer_none : (y : Option Place) → place_at f.places.places n ≡ y → AtPlace SentAnswer y None x → Visits answering n f p g p
+  answer_none None is at = visits_idle answering same None is at.1 (refl, refl) (λ t. plus_answers t 0 refl)
+  answer_none (Some (Live s o)) is (u, x_is, sent) =
       let not : s.session.end.owed ≡ false = by_owed s.session.end.owed refl in
       visits_alike answering same s u o is x_is sent.step
       (refl, (u, refl, running_is u (record s.session { end = record s.session.end { owed = false } }) s.acked_at_turn (sent.step ∙ ap (λ (b : Bool). let v : SessionValue = record s.session { end = record s.session.end { owed = b } } in v) not) sent.same_turn))
-      (λ t. plus_answers t (answer_at (Live s o)) (ap (λ (b : Bool). let m : ℕ = if b then 1 else 0 in m) not))
+      (λ t. plus_answers t (answer_at (Some (Live s o))) (ap (λ (b : Bool). let m : ℕ = if b then 1 else 0 in m) not))
     where
       by_owed : (b : Bool) → s.session.end.owed ≡ b → s.session.end.owed ≡ false
       by_owed true is = absurd (false_true (sent.some.1 is))
       by_owed false is = is
-  answer_none (Shadow away) is at = visits_idle answering same (Shadow away) is at.1 (refl, refl) (λ t. plus_answers t 0 refl)
+  answer_none (Some (Shadow away)) is at = visits_idle answering same (Some (Shadow away)) is at.1 (refl, refl) (λ t. plus_answers t 0 refl)
 
   -- what was emitted where no new slice is left
-  pub next_all : (y : Place) → place_at f.places.items n ≡ y → AtPlace SentNext y None x → AllNewOut x
-  next_all Vacant is at = subst AllNewOut (sym at.1) tt
-  next_all (Live s o) is (u, x_is, sent) = subst AllNewOut (sym x_is) (subst (λ (v : SessionValue). v.end.emitted ≡ reach_of v.end) (sym sent.step) sent.all)
-  next_all (Shadow away) is at = subst AllNewOut (sym at.1) tt
+  pub next_all : (y : Option Place) → place_at f.places.places n ≡ y → AtPlace SentNext y None x → AllNewOut x
+  next_all None is at = subst AllNewOut (sym at.1) tt
+  next_all (Some (Live s o)) is (u, x_is, sent) = subst AllNewOut (sym x_is) (subst (λ (v : SessionValue). v.end.emitted ≡ reach_of v.end) (sym sent.step) sent.all)
+  next_all (Some (Shadow away)) is at = subst AllNewOut (sym at.1) tt
 
 -- ---- what a session's call answers
 
@@ -228,31 +230,31 @@ sent_next_ok s u (Ok a) none all step slice same = record { none = none; all = a
 sent_next_ok s u (Err e) none all step slice same = tt
 
 -- at the place of the session
-pub live_ok : {A E : Type 0} (Does : RunningSession → Option A → RunningSession → Type 0) (s u : RunningSession) (o : Option GraftIds) (x y : Place) (r : Result (Option A) E) → x ≡ Live s o → y ≡ Live u o → IfOk r (λ a. Does s a u) → IfOk r (λ a. AtPlace Does x a y)
-live_ok Does s u o x y (Ok a) is y_is does = subst (λ (z : Place). AtPlace Does z a y) (sym is) (u, y_is, does)
+pub live_ok : {A E : Type 0} (Does : RunningSession → Option A → RunningSession → Type 0) (s u : RunningSession) (o : Option Errand) (x y : Option Place) (r : Result (Option A) E) → x ≡ Some (Live s o) → y ≡ Some (Live u o) → IfOk r (λ a. Does s a u) → IfOk r (λ a. AtPlace Does x a y)
+live_ok Does s u o x y (Ok a) is y_is does = subst (λ (z : Option Place). AtPlace Does z a y) (sym is) (u, y_is, does)
 live_ok Does s u o x y (Err e) is y_is does = tt
 
-pub again_answers : {E : Type 0} (s u : RunningSession) (o : Option GraftIds) (x y : Place) (r : Result (Option Segment) E) → x ≡ Live s o → y ≡ Live u o → s.session.end.emitted ≤ length s.session.end.stream
+pub again_answers : {E : Type 0} (s u : RunningSession) (o : Option Errand) (x y : Option Place) (r : Result (Option Segment) E) → x ≡ Some (Live s o) → y ≡ Some (Live u o) → s.session.end.emitted ≤ length s.session.end.stream
     → IfOk r (λ a. IsNone a ↔ ((again_length s.session.end ≡ 0) ⊎ (s.acked_at_turn < s.session.end.acked)))
     → IfOk r (λ a. EmitsBy EmitsAgain s.session a u.session) → IfOk r (λ a. EmitsBy EmitsSlice s.session a u.session) → OnOk r (u.acked_at_turn ≡ s.session.end.acked) → IfOk r (λ a. AtPlace SentAgain x a y)
 again_answers s u o x y r is y_is within none step slice turned = live_ok SentAgain s u o x y r is y_is (sent_again_ok s u r within none step slice turned)
 
-pub next_answers : {E : Type 0} (s u : RunningSession) (o : Option GraftIds) (x y : Place) (r : Result (Option Segment) E) → x ≡ Live s o → y ≡ Live u o → IfOk r (λ a. IsNone a ↔ (next_length s.session.end ≡ 0)) → IfOk r (λ a. IfNone a (s.session.end.emitted ≡ reach_of s.session.end))
+pub next_answers : {E : Type 0} (s u : RunningSession) (o : Option Errand) (x y : Option Place) (r : Result (Option Segment) E) → x ≡ Some (Live s o) → y ≡ Some (Live u o) → IfOk r (λ a. IsNone a ↔ (next_length s.session.end ≡ 0)) → IfOk r (λ a. IfNone a (s.session.end.emitted ≡ reach_of s.session.end))
     → IfOk r (λ a. EmitsBy EmitsNext s.session a u.session) → IfOk r (λ a. EmitsBy EmitsSlice s.session a u.session) → OnOk r (u.acked_at_turn ≡ s.acked_at_turn) → IfOk r (λ a. AtPlace SentNext x a y)
 next_answers s u o x y r is y_is none all step slice same = live_ok SentNext s u o x y r is y_is (sent_next_ok s u r none all step slice same)
 
 -- what is sent has at most 1,024 bytes
-pub short_again : (y x : Place) (segment : Segment) → AtPlace SentAgain y (Some segment) x → length segment.bytes ≤ 1024
-short_again Vacant x segment at = absurd (some_none segment at.0)
-short_again (Live s o) x segment (u, x_is, sent) = sent.slice.step.short
-short_again (Shadow away) x segment at = absurd (some_none segment at.0)
+pub short_again : (y x : Option Place) (segment : Segment) → AtPlace SentAgain y (Some segment) x → length segment.bytes ≤ 1024
+short_again None x segment at = absurd (some_none segment at.0)
+short_again (Some (Live s o)) x segment (u, x_is, sent) = sent.slice.step.short
+short_again (Some (Shadow away)) x segment at = absurd (some_none segment at.0)
 
-pub short_next : (y x : Place) (segment : Segment) → AtPlace SentNext y (Some segment) x → length segment.bytes ≤ 1024
-short_next Vacant x segment at = absurd (some_none segment at.0)
-short_next (Live s o) x segment (u, x_is, sent) = sent.slice.step.short
-short_next (Shadow away) x segment at = absurd (some_none segment at.0)
+pub short_next : (y x : Option Place) (segment : Segment) → AtPlace SentNext y (Some segment) x → length segment.bytes ≤ 1024
+short_next None x segment at = absurd (some_none segment at.0)
+short_next (Some (Live s o)) x segment (u, x_is, sent) = sent.slice.step.short
+short_next (Some (Shadow away)) x segment at = absurd (some_none segment at.0)
 
-pub short_answer : (y x : Place) (segment : Segment) → AtPlace SentAnswer y (Some segment) x → length segment.bytes ≤ 1024
-short_answer Vacant x segment at = absurd (some_none segment at.0)
-short_answer (Live s o) x segment (u, x_is, sent) = let e : length segment.bytes ≡ 0 = ap (λ (q : PlacedSegment). length q.bytes) sent.step.step.answer.empty in omega (arith, e)
-short_answer (Shadow away) x segment at = absurd (some_none segment at.0)
+pub short_answer : (y x : Option Place) (segment : Segment) → AtPlace SentAnswer y (Some segment) x → length segment.bytes ≤ 1024
+short_answer None x segment at = absurd (some_none segment at.0)
+short_answer (Some (Live s o)) x segment (u, x_is, sent) = let e : length segment.bytes ≡ 0 = ap (λ (q : PlacedSegment). length q.bytes) sent.step.step.answer.empty in omega (arith, e)
+short_answer (Some (Shadow away)) x segment at = absurd (some_none segment at.0)

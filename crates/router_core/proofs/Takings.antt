@@ -7,36 +7,35 @@ use Rattle.ring_net.specs.declared.post.Post.{Post}
 use Rattle.ring_net.proofs.PostLaws.{wrote_then}
 use Rattle.graft_steps.specs.declared.item.Item.{Item}
 use Rattle.graft_steps.specs.declared.item.Item.TheVariants as items
-use Rattle.graft_steps.specs.declared.order.GraftIds.{GraftIds}
+use Rattle.router_core.specs.declared.place.Errand.{Errand}
 use Rattle.bgp_session.specs.Running.{RunningSession}
 use Rattle.graft_model.specs.Setups.{Setup, routers_in}
 use Rattle.graft_model.specs.RouterRows.{RouterTaken, RouterSent}
 use Rattle.graft_model.specs.Codes.{router_code}
-use Rattle.graft_model.specs.Steps.{RouterEvent, router_row}
+use Rattle.graft_model.specs.declared.event.RouterEvent.{RouterEvent}
+use Rattle.graft_model.specs.Steps.{router_row}
 use Rattle.graft_runs.specs.Actors.{ActorName, Router, FarSide, Operator, Thing, number_in, IsActor, actor_at}
-use Rattle.graft_runs.specs.Makes.{HasCode, numbered, taken_by_router, sent_by_router}
+use Rattle.graft_runs.specs.Makes.{numbered, taken_by_router, sent_by_router}
 use Rattle.graft_runs.proofs.Numbers.{of_number}
 use Rattle.graft_actors.specs.Acts.{acts, IsWelcome, MayComeFrom, SendsFit, things}
 use Rattle.graft_actors.specs.Emissions.{Tally, nothing}
 use Rattle.graft_actors.specs.Items.{thing_of}
-use Rattle.graft_actors.specs.Notes.{deed_of, WroteOne}
+use Rattle.graft_actors.specs.Notes.{deed_of, WroteOne, dropped}
 use Rattle.router_core.specs.Parts.{router_part, own_part, carried, Keeps}
 use Rattle.router_core.specs.Places.{RunsAt}
-use Rattle.router_core.specs.Rounds.{CarefulRouter, router_tally, RouterRound, SameRouter, Did}
+use Rattle.router_core.specs.Rounds.{CarefulRouter, router_tally, RouterRound, SameRouter, Did, Writes}
 use Rattle.router_core.specs.Takes.{Stays, TakesIt, IsOther}
 use Rattle.router_core.specs.Turned.{NoPuts, NoRounds}
 use Rattle.router_core.specs.declared.fields.Fields.{Fields}
-use Rattle.router_core.proofs.Dids.{same_router, router_then, round_at}
+use Rattle.router_core.proofs.Dids.{has_code, same_router, router_then, round_at}
+use Rattle.router_core.proofs.PlaceLists.{listed}
 use Rattle.router_core.proofs.Kept.{live_is, stays_itself}
 
 -- the first event of a take: its row, with what it takes and sends
 pub record TakesFirstly (f g : Fields) (p q : Post (Item RunningSession)) (from : ℕ) (item : Item RunningSession) (event : RouterEvent) : Type 0 where
   pub router : SameRouter f g
-  pub kind : ℕ
-  pub a : ℕ
   pub sent : List (ℕ × Item RunningSession)
-  pub wrote : WroteOne p kind a 0 0 sent q
-  pub code : HasCode (router_code event) (deed_of p kind a 0 0 (Some (from, item)) sent).entry
+  pub wrote : Writes p event sent q
   pub welcome : IsWelcome carried (own_part f) from item
   pub name : ActorName
   pub number : from ≡ number_in f.known.setup name
@@ -53,7 +52,7 @@ pub record TakesFirstly (f g : Fields) (p q : Post (Item RunningSession)) (from 
 module _ (f g h : Fields) (p q r : Post (Item RunningSession)) (from : ℕ) (item : Item RunningSession) (event : RouterEvent) (events : List RouterEvent)
     (first : TakesFirstly f g p q from item event) (did : (t : ℕ → Tally) → Did g q t events h r t) where
   abbrev first_deed : Deed (Item RunningSession)
-  first_deed = deed_of p first.kind first.a 0 0 (Some (from, item)) first.sent
+  first_deed = deed_of p (router_code event) (Some (from, item)) first.sent
 
   abbrev none_yet : ℕ → Tally
   none_yet n = nothing
@@ -66,7 +65,7 @@ module _ (f g h : Fields) (p q r : Post (Item RunningSession)) (from : ℕ) (ite
       welcome = first.welcome;
       row = record {
         event = event;
-        coded = first.code;
+        coded = has_code p event (Some (from, item)) first.sent;
         took = Some first.took;
         gave = first.gave;
         holds = first.row;
@@ -90,7 +89,7 @@ module _ (f g h : Fields) (p q r : Post (Item RunningSession)) (from : ℕ) (ite
   )
 
   -- the take whose first event it is
-  pub takes_then : NoRounds (event ∷ events) → NoPuts (event ∷ events) → ((p : ℕ) (s u : RunningSession) (o q : Option GraftIds) → RunsAt f.places.items p s o → RunsAt h.places.items p u q → Stays s u) → h.turns ≡ f.turns → Keeps h → TakesIt from item f p h r
+  pub takes_then : NoRounds (event ∷ events) → NoPuts (event ∷ events) → ((p : ℕ) (s u : RunningSession) (o q : Option Errand) → RunsAt f.places.places p s o → RunsAt h.places.places p u q → Stays s u) → h.turns ≡ f.turns → Keeps h → TakesIt from item f p h r
   takes_then no_rounds no_puts stays turns keeps =
       let d : Did g q none_yet events h r none_yet = did none_yet in
       let one : Wrote p (first_deed ∷ []) q = first.wrote (Some (from, item)) in
@@ -103,7 +102,7 @@ module _ (f g h : Fields) (p q r : Post (Item RunningSession)) (from : ℕ) (ite
           took = record {
             router = router_then f g h first.router d.router;
             turns = turns;
-            rows = λ w. record { events = event ∷ events; coded = (first.code, d.coded); round = round_first; no_rounds = no_rounds; no_puts = no_puts; stays = stays };
+            rows = λ w. record { events = event ∷ events; coded = (has_code p event (Some (from, item)) first.sent, d.coded); round = round_first; no_rounds = no_rounds; no_puts = no_puts; stays = stays };
           };
         };
         keeps = keeps;
@@ -111,10 +110,10 @@ module _ (f g h : Fields) (p q r : Post (Item RunningSession)) (from : ℕ) (ite
 
 -- ---- items that are dropped
 
-pub drops : (f : Fields) (p q : Post (Item RunningSession)) (from : ℕ) (item : Item RunningSession) → Keeps f → WroteOne p 0 0 0 0 [] q → (IsWelcome carried (own_part f) from item → ⊥) → TakesIt from item f p f q
+pub drops : (f : Fields) (p q : Post (Item RunningSession)) (from : ℕ) (item : Item RunningSession) → Keeps f → WroteOne p dropped [] q → (IsWelcome carried (own_part f) from item → ⊥) → TakesIt from item f p f q
 drops f p q from item keeps wrote not = record {
   took = record {
-    deeds = deed_of p 0 0 0 0 (Some (from, item)) [] ∷ [];
+    deeds = deed_of p dropped (Some (from, item)) [] ∷ [];
     wrote = wrote (Some (from, item));
     first = (refl, tt);
     replay = (
@@ -157,5 +156,5 @@ is_router setup n is = let at : (is.0 < routers_in setup) × (n ≡ is.0) = of_n
 
 -- ---- sessions that stay as they are
 
-pub all_stay : (f g : Fields) → g.places ≡ f.places → (p : ℕ) (s u : RunningSession) (o q : Option GraftIds) → RunsAt f.places.items p s o → RunsAt g.places.items p u q → Stays s u
-all_stay f g same p s u o q a b = stays_itself s u (live_is f.places.items p s u o q a (subst (λ xs. RunsAt xs p u q) (ap (λ v. v.items) same) b))
+pub all_stay : (f g : Fields) → g.places ≡ f.places → (p : ℕ) (s u : RunningSession) (o q : Option Errand) → RunsAt f.places.places p s o → RunsAt g.places.places p u q → Stays s u
+all_stay f g same p s u o q a b = stays_itself s u (live_is f.places.places p s u o q a (subst (λ xs. RunsAt xs p u q) (listed same) b))

@@ -16,10 +16,10 @@ use Rattle.graft_model.specs.Points.{at}
 use Rattle.graft_model.specs.Parts.{RouterPart, Told}
 use Rattle.graft_model.specs.RouterRows.{MeshTo}
 use Rattle.graft_model.specs.Setups.{routers_in}
-use Rattle.graft_model.specs.Steps.{Tell}
+use Rattle.graft_model.specs.declared.event.RouterEvent.TheVariants.{Tell}
 use Rattle.graft_runs.specs.Actors.{Router, MeshItem}
-use Rattle.graft_actors.specs.Notes.{WroteOne}
 use Rattle.std.proofs.lemmas.Bool.{cases_lt}
+use Rattle.router_core.specs.Rounds.{Writes}
 use Rattle.router_core.specs.Parts.{router_part, Keeps}
 use Rattle.router_core.specs.Stages.{TellsAll}
 use Rattle.router_core.specs.Tellings.{TellsOne, TellsSome, TellsRouter, TellsFirst}
@@ -36,7 +36,7 @@ not_dirty dirty x none = ap (λ (d : Prefixes). has d x) none ∙ none_in x
 
 module _ (f g : Fields) (p q : Post (Item RunningSession)) (to : ℕ) (prefix : PrefixValue) (route : Option Route) (keeps : Keeps f) (clean : f.rib.dirty ≡ map.empty) (there : to < length f.due_in)
     (due : has (table_at f.due_in to) prefix ≡ true) (is : route ≡ tell_in (map.get f.rib.best prefix)) (same : g ≡ record f { due_in = g.due_in }) (sizes : length g.due_in ≡ length f.due_in)
-    (drops : table_at g.due_in ≡ at (table_at f.due_in) to (map.remove (table_at f.due_in to) prefix)) (wrote : WroteOne p 7 to prefix.address prefix.len ((to, items.Told prefix route) ∷ []) q) where
+    (drops : table_at g.due_in ≡ at (table_at f.due_in) to (map.remove (table_at f.due_in to) prefix)) (wrote : Writes p (Tell to prefix) ((to, items.Told prefix route) ∷ []) q) where
   sends_told : Sends f to (items.Told prefix route) (MeshTo to (Told prefix (tell_in (map.get f.rib.best prefix))))
   sends_told = record {
     name = Router to;
@@ -48,8 +48,8 @@ module _ (f g : Fields) (p q : Post (Item RunningSession)) (to : ℕ) (prefix : 
 
   pub tells_one : TellsOne to prefix f p g q
   tells_one = record {
-    did = λ t. did_sent f g p q t (Tell to prefix) 7 to prefix.address prefix.len to (items.Told prefix route) (MeshTo to (Told prefix (tell_in (map.get f.rib.best prefix))))
-        (record { setup = ap (λ (h : Fields). h.known.setup) same; number = ap (λ (h : Fields). h.number) same }) wrote (record { kind = refl; a = refl; b = refl; c = refl }) sends_told
+    did = λ t. did_sent f g p q t (Tell to prefix) to (items.Told prefix route) (MeshTo to (Told prefix (tell_in (map.get f.rib.best prefix))))
+        (record { setup = ap (λ (h : Fields). h.known.setup) same; number = ap (λ (h : Fields). h.number) same }) wrote sends_told
         (record {
           due = due;
           clean = not_dirty f.rib.dirty prefix clean;

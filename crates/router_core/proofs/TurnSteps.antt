@@ -6,7 +6,7 @@ use Rattle.std.proofs.lemmas.Bool.{lt-ltb, le-ltb}
 use Rattle.tcp_seq.specs.Endpoint.{again_length}
 use Rattle.ring_net.specs.declared.post.Post.{Post}
 use Rattle.graft_steps.specs.declared.item.Item.{Item}
-use Rattle.graft_steps.specs.declared.order.GraftIds.{GraftIds}
+use Rattle.router_core.specs.declared.place.Errand.{Errand}
 use Rattle.session_value.specs.Sessions.{SessionValue}
 use Rattle.session_value.specs.Sets.{Entries, Prefixes}
 use Rattle.bgp_session.specs.Running.{RunningSession}
@@ -14,18 +14,19 @@ use Rattle.bgp_session.specs.Steps.{MayPass}
 use Rattle.graft_model.specs.Setups.{Setup}
 use Rattle.graft_model.specs.Parts as model
 use Rattle.graft_model.specs.Parts.{RouterPart}
-use Rattle.graft_model.specs.Steps.{RouterEvent}
+use Rattle.graft_model.specs.declared.event.RouterEvent.{RouterEvent}
 use Rattle.graft_actors.specs.Emissions.{Tally, IsRested, nothing, reach_of}
 use Rattle.router_core.specs.Parts.{router_part, KeepsPlace}
-use Rattle.router_core.specs.Places.{place_of, place_at, order_of, RunsAt}
+use Rattle.router_core.specs.Places.{place_of, place_at, errand_of, RunsAt}
 use Rattle.router_core.specs.Rested.{IsDone, IsQuietPlace, RestedRouter}
 use Rattle.router_core.specs.Rounds.{Did}
-use Rattle.router_core.specs.Stages.{PlaceGoes, GraftGoes, PutsMore, IsLevel, EmitsAll, PassesWhereItMay, again_at, answer_at, with_again, with_answers, SendsAgain, PassesRounds, BeginsGrafts, DecidesAll, TellsAll, PutsAll, Emits}
+use Rattle.router_core.specs.Stages.{PlaceGoes, GraftGoes, WordGoes, PutsMore, IsLevel, EmitsAll, PassesWhereItMay, again_at, answer_at, with_again, with_answers, SendsAgain, PassesRounds, BeginsGrafts, DecidesAll, TellsAll, ConfirmsAll, PutsAll, Emits}
 use Rattle.router_core.specs.Turned.{rounds_on, TicksFirst, TurnsSession, TurnsOnce}
 use Rattle.router_core.specs.Updates.{IsStuck, IsUnwritable}
 use Rattle.router_core.specs.declared.fields.Fields.{Fields}
+use Rattle.router_core.specs.declared.place.Errand.TheVariants.{Leaving, Owing}
 use Rattle.router_core.specs.declared.place.Place.{Place}
-use Rattle.router_core.specs.declared.place.Place.TheVariants.{Vacant, Live, Shadow}
+use Rattle.router_core.specs.declared.place.Place.TheVariants.{Live, Shadow}
 use Rattle.router_core.proofs.Dids.{did_same, did_then}
 use Rattle.router_core.proofs.RoundLists.{no_puts_then, rounds_on-append}
 
@@ -37,49 +38,70 @@ rounds_before p es fs none = rounds_on-append p es fs ∙ ap (λ (xs : List ℕ)
 
 -- ---- a place through the stages
 
-abbrev NotLive : Place → Type 0
-NotLive Vacant = Unit {0}
-NotLive (Live s o) = ⊥
-NotLive (Shadow away) = Unit {0}
+abbrev NotLive : Option Place → Type 0
+NotLive None = Unit {0}
+NotLive (Some (Live s o)) = ⊥
+NotLive (Some (Shadow away)) = Unit {0}
 
--- no graft is stored for its session
-abbrev NoOrder : Place → Type 0
-NoOrder Vacant = Unit {0}
-NoOrder (Live s o) = o ≡ None
-NoOrder (Shadow away) = Unit {0}
+-- its session is to go nowhere
+abbrev NotLeaving : Option Place → Type 0
+NotLeaving None = Unit {0}
+NotLeaving (Some (Live s None)) = Unit {0}
+NotLeaving (Some (Live s (Some (Leaving ids)))) = ⊥
+NotLeaving (Some (Live s (Some (Owing ids)))) = Unit {0}
+NotLeaving (Some (Shadow away)) = Unit {0}
 
-abbrev AllOut : Place → Type 0
-AllOut Vacant = Unit {0}
-AllOut (Live s o) = IsRested s.session.end
-AllOut (Shadow away) = Unit {0}
+-- nothing is to be done for a graft of its session
+abbrev NoErrand : Option Place → Type 0
+NoErrand None = Unit {0}
+NoErrand (Some (Live s o)) = o ≡ None
+NoErrand (Some (Shadow away)) = Unit {0}
 
-not_live_on : (R : RunningSession → RunningSession → Type 0) (x y : Place) → PlaceGoes R x y → NotLive x → NotLive y
-not_live_on R Vacant y goes not = subst NotLive (sym goes) tt
-not_live_on R (Live s o) y goes not = absurd not
-not_live_on R (Shadow away) y goes not = subst NotLive (sym goes) tt
+abbrev AllOut : Option Place → Type 0
+AllOut None = Unit {0}
+AllOut (Some (Live s o)) = IsRested s.session.end
+AllOut (Some (Shadow away)) = Unit {0}
 
-no_order_first : (x y : Place) → GraftGoes x y → NoOrder y
-no_order_first Vacant y goes = subst NoOrder (sym goes) tt
-no_order_first (Live s None) y goes = subst NoOrder (sym goes) refl
-no_order_first (Live s (Some ids)) y (inl goes) = subst NoOrder (sym goes) refl
-no_order_first (Live s (Some ids)) y (inr goes) = subst NoOrder (sym goes) tt
-no_order_first (Shadow away) y goes = subst NoOrder (sym goes) tt
+not_live_on : (R : RunningSession → RunningSession → Type 0) (x y : Option Place) → PlaceGoes R x y → NotLive x → NotLive y
+not_live_on R None y goes not = subst NotLive (sym goes) tt
+not_live_on R (Some (Live s o)) y goes not = absurd not
+not_live_on R (Some (Shadow away)) y goes not = subst NotLive (sym goes) tt
 
-no_order_on : (R : RunningSession → RunningSession → Type 0) (x y : Place) → PlaceGoes R x y → NoOrder x → NoOrder y
-no_order_on R Vacant y goes none = subst NoOrder (sym goes) tt
-no_order_on R (Live s o) y (u, is, becomes) none = subst NoOrder (sym is) none
-no_order_on R (Shadow away) y goes none = subst NoOrder (sym goes) tt
+not_live_told : (x y : Option Place) → WordGoes x y → NotLive x → NotLive y
+not_live_told None y goes not = subst NotLive (sym goes) tt
+not_live_told (Some (Live s o)) y goes not = absurd not
+not_live_told (Some (Shadow away)) y goes not = subst NotLive (sym goes) tt
 
-all_out : (x y : Place) → PlaceGoes EmitsAll x y → AllOut y
-all_out Vacant y goes = subst AllOut (sym goes) tt
-all_out (Live s o) y (u, is, becomes) = subst AllOut (sym is) (record { emitted = ap (λ (v : RunningSession). v.session.end.emitted) becomes ∙ sym (ap (λ (v : RunningSession). reach_of v.session.end) becomes); answered = ap (λ (v : RunningSession). v.session.end.owed) becomes })
-all_out (Shadow away) y goes = subst AllOut (sym goes) tt
+not_leaving : (x y : Option Place) → GraftGoes x y → NotLeaving y
+not_leaving None y goes = subst NotLeaving (sym goes) tt
+not_leaving (Some (Live s None)) y goes = subst NotLeaving (sym goes) tt
+not_leaving (Some (Live s (Some (Leaving ids)))) y (inl goes) = subst NotLeaving (sym goes) tt
+not_leaving (Some (Live s (Some (Leaving ids)))) y (inr goes) = subst NotLeaving (sym goes) tt
+not_leaving (Some (Live s (Some (Owing ids)))) y goes = subst NotLeaving (sym goes) tt
+not_leaving (Some (Shadow away)) y goes = subst NotLeaving (sym goes) tt
 
-quiet : (setup : Setup) (r p : ℕ) (entries : Entries) (due : Prefixes) (x : Place) → KeepsPlace setup r p entries due x → NoOrder x → AllOut x → IsQuietPlace (place_of x)
-quiet setup r p entries due Vacant keeps none out = tt
-quiet setup r p entries due (Live s None) keeps none out = (refl, keeps.1, out)
-quiet setup r p entries due (Live s (Some ids)) keeps none out = absurd (let e : ⊥ = cc in e)
-quiet setup r p entries due (Shadow away) keeps none out = tt
+no_errand_first : (x y : Option Place) → NotLeaving x → WordGoes x y → NoErrand y
+no_errand_first None y stays goes = subst NoErrand (sym goes) tt
+no_errand_first (Some (Live s None)) y stays goes = subst NoErrand (sym goes) refl
+no_errand_first (Some (Live s (Some (Leaving ids)))) y stays goes = absurd stays
+no_errand_first (Some (Live s (Some (Owing ids)))) y stays goes = subst NoErrand (sym goes) refl
+no_errand_first (Some (Shadow away)) y stays goes = subst NoErrand (sym goes) tt
+
+no_errand_on : (R : RunningSession → RunningSession → Type 0) (x y : Option Place) → PlaceGoes R x y → NoErrand x → NoErrand y
+no_errand_on R None y goes none = subst NoErrand (sym goes) tt
+no_errand_on R (Some (Live s o)) y (u, is, becomes) none = subst NoErrand (sym is) none
+no_errand_on R (Some (Shadow away)) y goes none = subst NoErrand (sym goes) tt
+
+all_out : (x y : Option Place) → PlaceGoes EmitsAll x y → AllOut y
+all_out None y goes = subst AllOut (sym goes) tt
+all_out (Some (Live s o)) y (u, is, becomes) = subst AllOut (sym is) (record { emitted = ap (λ (v : RunningSession). v.session.end.emitted) becomes ∙ sym (ap (λ (v : RunningSession). reach_of v.session.end) becomes); answered = ap (λ (v : RunningSession). v.session.end.owed) becomes })
+all_out (Some (Shadow away)) y goes = subst AllOut (sym goes) tt
+
+quiet : (setup : Setup) (r p : ℕ) (entries : Entries) (due : Prefixes) (x : Option Place) → KeepsPlace setup r p entries due x → NoErrand x → AllOut x → IsQuietPlace (place_of x)
+quiet setup r p entries due None keeps none out = tt
+quiet setup r p entries due (Some (Live s None)) keeps none out = (refl, keeps.1, out)
+quiet setup r p entries due (Some (Live s (Some o))) keeps none out = absurd (let e : ⊥ = cc in e)
+quiet setup r p entries due (Some (Shadow away)) keeps none out = tt
 
 -- what is emitted changes nothing of what is to be told
 stuck_on : (setup : Setup) (r p n : ℕ) (part : RouterPart) (places : ℕ → model.Place) (s : SessionValue) (m : ℕ) (b : Bool) → IsStuck setup r part p s n
@@ -90,34 +112,44 @@ unwritable_on : (setup : Setup) (r p : ℕ) (part : RouterPart) (places : ℕ �
     → IsUnwritable setup r (record part { places = places }) p (record s { end = record s.end { emitted = m; owed = b } })
 unwritable_on setup r p part places s m b h = record { established = h.established; batch = h.batch; next = h.next; unwritable = h.unwritable }
 
-done_live : (setup : Setup) (r p : ℕ) (part : RouterPart) (places : ℕ → model.Place) (s : SessionValue) (o : Option model.Order) (m : ℕ) (b : Bool) → IsDone setup r part p (model.Live s o)
+done_live : (setup : Setup) (r p : ℕ) (part : RouterPart) (places : ℕ → model.Place) (s : SessionValue) (o : Option model.Errand) (m : ℕ) (b : Bool) → IsDone setup r part p (model.Live s o)
     → IsDone setup r (record part { places = places }) p (model.Live (record s { end = record s.end { emitted = m; owed = b } }) o)
 done_live setup r p part places s o m b (inl none) = inl none
 done_live setup r p part places s o m b (inr (inl (n, stuck))) = inr (inl (n, stuck_on setup r p n part places s m b stuck))
 done_live setup r p part places s o m b (inr (inr not)) = inr (inr (unwritable_on setup r p part places s m b not))
 
-done_on : (setup : Setup) (r p : ℕ) (part : RouterPart) (places : ℕ → model.Place) (x y : Place) → PlaceGoes EmitsAll x y → IsDone setup r part p (place_of x) → IsDone setup r (record part { places = places }) p (place_of y)
-done_on setup r p part places Vacant y goes done = subst (λ (z : Place). IsDone setup r (record part { places = places }) p (place_of z)) (sym goes) done
-done_on setup r p part places (Live s o) y (u, is, becomes) done =
-    subst (λ (z : Place). IsDone setup r (record part { places = places }) p (place_of z)) (sym (is ∙ ap (λ (v : RunningSession). Live v o) becomes))
-    (done_live setup r p part places s.session (option_map order_of o) (reach_of s.session.end) false done)
-done_on setup r p part places (Shadow away) y goes done = subst (λ (z : Place). IsDone setup r (record part { places = places }) p (place_of z)) (sym goes) done
+done_on : (setup : Setup) (r p : ℕ) (part : RouterPart) (places : ℕ → model.Place) (x y : Option Place) → PlaceGoes EmitsAll x y → IsDone setup r part p (place_of x) → IsDone setup r (record part { places = places }) p (place_of y)
+done_on setup r p part places None y goes done = subst (λ (z : Option Place). IsDone setup r (record part { places = places }) p (place_of z)) (sym goes) done
+done_on setup r p part places (Some (Live s o)) y (u, is, becomes) done =
+    subst (λ (z : Option Place). IsDone setup r (record part { places = places }) p (place_of z)) (sym (is ∙ ap (λ (v : RunningSession). Some (Live v o)) becomes))
+    (done_live setup r p part places s.session (option_map errand_of o) (reach_of s.session.end) false done)
+done_on setup r p part places (Some (Shadow away)) y goes done = subst (λ (z : Option Place). IsDone setup r (record part { places = places }) p (place_of z)) (sym goes) done
 
 -- ---- a session through the stages
 
-abbrev session_in : RunningSession → Place → RunningSession
-session_in x Vacant = x
-session_in x (Live s o) = s
-session_in x (Shadow away) = x
+abbrev session_in : RunningSession → Option Place → RunningSession
+session_in x None = x
+session_in x (Some (Live s o)) = s
+session_in x (Some (Shadow away)) = x
 
-live_same : (s u : RunningSession) (o q : Option GraftIds) → Live s o ≡ Live u q → s ≡ u
+live_same : (s u : RunningSession) (o q : Option Errand) → Some (Live s o) ≡ Some (Live u q) → s ≡ u
 live_same s u o q e = ap (session_in s) e
 
+-- the session is live at a place, whatever is to be done for its graft
+abbrev IsLiveThere : RunningSession → Option Place → Type 0
+IsLiveThere s y = (o : Option Errand) × (y ≡ Some (Live s o))
+
 -- a session that is still live had no graft that began
-still_live : (s : RunningSession) (o : Option GraftIds) (y : Place) → GraftGoes (Live s o) y → (NotLive y → ⊥) → y ≡ Live s None
-still_live s None y goes live = goes
-still_live s (Some ids) y (inl goes) live = goes
-still_live s (Some ids) y (inr goes) live = absurd (live (subst NotLive (sym goes) tt))
+still_live : (s : RunningSession) (o : Option Errand) (y : Option Place) → GraftGoes (Some (Live s o)) y → (NotLive y → ⊥) → IsLiveThere s y
+still_live s None y goes live = (None, goes)
+still_live s (Some (Leaving ids)) y (inl goes) live = (None, goes)
+still_live s (Some (Leaving ids)) y (inr goes) live = absurd (live (subst NotLive (sym goes) tt))
+still_live s (Some (Owing ids)) y goes live = (Some (Owing ids), goes)
+
+live_told : (s : RunningSession) (o : Option Errand) (y : Option Place) → WordGoes (Some (Live s o)) y → IsLiveThere s y
+live_told s None y goes = (None, goes)
+live_told s (Some (Leaving ids)) y goes = (Some (Leaving ids), goes)
+live_told s (Some (Owing ids)) y goes = (None, goes)
 
 record LivesOn (round : ℕ) (rounds : List ℕ) (s u : RunningSession) : Type 0 where
   acked : u.session.end.acked ≡ s.session.end.acked
@@ -129,45 +161,54 @@ level_rounds : (round : ℕ) (rounds : List ℕ) (s u v : RunningSession) → Is
 level_rounds round rounds s u v level (inl h) = inl (subst (λ (x : SessionValue). MayPass x round) (ap (λ (x : RunningSession). x.session) level) h.0, h.1)
 level_rounds round rounds s u v level (inr h) = inr (subst (λ (x : SessionValue). ¬ MayPass x round) (ap (λ (x : RunningSession). x.session) level) h.0, h.1)
 
+-- the session at the start, after each stage that changes it, and at the end
+lives_with : (round : ℕ) (rounds : List ℕ) (s s1 s2 s3 s4 u : RunningSession) → IsLevel s s1 → PassesWhereItMay round rounds s1 s2 → PutsMore s2 s3 → EmitsAll s3 s4 → s4 ≡ u → LivesOn round rounds s u
+lives_with round rounds s s1 s2 s3 s4 u level passed more all last = record {
+  acked = sym (ap (λ (x : RunningSession). x.session.end.acked) last) ∙ ap (λ (x : RunningSession). x.session.end.acked) all ∙ more.acked ∙ passed.0.acked ∙ ap (λ (x : RunningSession). x.session.end.acked) level;
+  at_turn = sym (ap (λ (x : RunningSession). x.acked_at_turn) last) ∙ ap (λ (x : RunningSession). x.acked_at_turn) all ∙ more.at_turn ∙ passed.0.at_turn ∙ ap (λ (x : RunningSession). x.acked_at_turn) level;
+  ticked = level_rounds round rounds s s1 s2 level passed.1;
+}
+
+-- its place once the source is told, after the later stages, and at the end
+lives_later : (round : ℕ) (rounds : List ℕ) (m h k : Option Place) (s s1 s2 u : RunningSession) (o q : Option Errand) → m ≡ Some (Live s2 o) → k ≡ Some (Live u q) → IsLevel s s1 → PassesWhereItMay round rounds s1 s2 → PlaceGoes PutsMore m h → PlaceGoes EmitsAll h k → LivesOn round rounds s u
+lives_later round rounds m h k s s1 s2 u o q is end level passed puts emits =
+    let (s3, h_is, more) = subst (λ (x : Option Place). PlaceGoes PutsMore x h) is puts in
+    let (s4, k_is, all) = subst (λ (x : Option Place). PlaceGoes EmitsAll x k) h_is emits in
+    lives_with round rounds s s1 s2 s3 s4 u level passed more all (live_same s4 u o q (sym k_is ∙ end))
+
 -- a place before the turn, after each stage that changes places, and at the end
-lives_on : (round : ℕ) (rounds : List ℕ) (a b c d h k : Place) (s u : RunningSession) (o q : Option GraftIds) → a ≡ Live s o → k ≡ Live u q → PlaceGoes IsLevel a b → PlaceGoes (PassesWhereItMay round rounds) b c → GraftGoes c d
-    → PlaceGoes PutsMore d h → PlaceGoes EmitsAll h k → LivesOn round rounds s u
-lives_on round rounds a b c d h k s u o q is end again passes grafts puts emits =
-    let (s1, b_is, level) = subst (λ (x : Place). PlaceGoes IsLevel x b) is again in
-    let (s2, c_is, passed) = subst (λ (x : Place). PlaceGoes (PassesWhereItMay round rounds) x c) b_is passes in
-    let live : NotLive d → ⊥ = λ not. subst NotLive end (not_live_on EmitsAll h k emits (not_live_on PutsMore d h puts not)) in
-    let d_is : d ≡ Live s2 None = still_live s2 o d (subst (λ (x : Place). GraftGoes x d) c_is grafts) live in
-    let (s3, h_is, more) = subst (λ (x : Place). PlaceGoes PutsMore x h) d_is puts in
-    let (s4, k_is, all) = subst (λ (x : Place). PlaceGoes EmitsAll x k) h_is emits in
-    let last : s4 ≡ u = live_same s4 u None q (sym k_is ∙ end) in
-    record {
-      acked = sym (ap (λ (x : RunningSession). x.session.end.acked) last) ∙ ap (λ (x : RunningSession). x.session.end.acked) all ∙ more.acked ∙ passed.0.acked ∙ ap (λ (x : RunningSession). x.session.end.acked) level;
-      at_turn = sym (ap (λ (x : RunningSession). x.acked_at_turn) last) ∙ ap (λ (x : RunningSession). x.acked_at_turn) all ∙ more.at_turn ∙ passed.0.at_turn ∙ ap (λ (x : RunningSession). x.acked_at_turn) level;
-      ticked = level_rounds round rounds s s1 s2 level passed.1;
-    }
+lives_on : (round : ℕ) (rounds : List ℕ) (a b c d m h k : Option Place) (s u : RunningSession) (o q : Option Errand) → a ≡ Some (Live s o) → k ≡ Some (Live u q) → PlaceGoes IsLevel a b → PlaceGoes (PassesWhereItMay round rounds) b c → GraftGoes c d
+    → WordGoes d m → PlaceGoes PutsMore m h → PlaceGoes EmitsAll h k → LivesOn round rounds s u
+lives_on round rounds a b c d m h k s u o q is end again passes grafts confirms puts emits =
+    let (s1, b_is, level) = subst (λ (x : Option Place). PlaceGoes IsLevel x b) is again in
+    let (s2, c_is, passed) = subst (λ (x : Option Place). PlaceGoes (PassesWhereItMay round rounds) x c) b_is passes in
+    let live : NotLive d → ⊥ = λ not. subst NotLive end (not_live_on EmitsAll h k emits (not_live_on PutsMore m h puts (not_live_told d m confirms not))) in
+    let (o1, d_is) = still_live s2 o d (subst (λ (x : Option Place). GraftGoes x d) c_is grafts) live in
+    let (o2, m_is) = live_told s2 o1 m (subst (λ (x : Option Place). WordGoes x m) d_is confirms) in
+    lives_later round rounds m h k s s1 s2 u o2 q m_is end level passed puts emits
 
 -- ---- the tallies
 
-again_few : (x : Place) → 0 + again_at x ≤ 1
-again_few Vacant = omega arith
-again_few (Live s o) = by_flags (nat_lt s.acked_at_turn s.session.end.acked) (nat_lt 0 (again_length s.session.end))
+again_few : (x : Option Place) → 0 + again_at x ≤ 1
+again_few None = omega arith
+again_few (Some (Live s o)) = by_flags (nat_lt s.acked_at_turn s.session.end.acked) (nat_lt 0 (again_length s.session.end))
   where
     by_flags : (b c : Bool) → 0 + (if b then 0 else (if c then 1 else 0)) ≤ 1
     by_flags true c = omega arith
     by_flags false true = omega arith
     by_flags false false = omega arith
-again_few (Shadow away) = omega arith
+again_few (Some (Shadow away)) = omega arith
 
-answer_few : (x : Place) → 0 + answer_at x ≤ 1
-answer_few Vacant = omega arith
-answer_few (Live s o) = by_flag s.session.end.owed
+answer_few : (x : Option Place) → 0 + answer_at x ≤ 1
+answer_few None = omega arith
+answer_few (Some (Live s o)) = by_flag s.session.end.owed
   where
     by_flag : (b : Bool) → 0 + (if b then 1 else 0) ≤ 1
     by_flag true = omega arith
     by_flag false = omega arith
-answer_few (Shadow away) = omega arith
+answer_few (Some (Shadow away)) = omega arith
 
-again_once : (s : RunningSession) (o : Option GraftIds) → s.acked_at_turn ≡ s.session.end.acked → s.session.end.acked < s.session.end.emitted → 0 + again_at (Live s o) ≡ 1
+again_once : (s : RunningSession) (o : Option Errand) → s.acked_at_turn ≡ s.session.end.acked → s.session.end.acked < s.session.end.emitted → 0 + again_at (Some (Live s o)) ≡ 1
 again_once s o level out =
     ap (λ (b : Bool). let n : ℕ = 0 + (if b then 0 else (if nat_lt 0 (again_length s.session.end) then 1 else 0)) in n) (le-ltb s.acked_at_turn s.session.end.acked (omega (arith, level)))
     ∙ ap (λ (b : Bool). let n : ℕ = 0 + (if b then 1 else 0) in n) (lt-ltb 0 (again_length s.session.end) (omega (arith, out)))
@@ -176,8 +217,8 @@ again_once s o level out =
 -- ---- the whole turn
 
 -- f is the router before the turn, a after its turn was counted, and b to k after each stage
-module _ (f a b c d e g h k : Fields) (p0 p1 p2 p3 p4 p5 p6 p7 : Post (Item RunningSession)) (counted : a ≡ record f { turns = f.turns + 1 })
-    (again : SendsAgain a p0 b p1) (rounds : PassesRounds b p1 c p2) (grafts : BeginsGrafts c p2 d p3) (decides : DecidesAll d p3 e p4) (tells : TellsAll e p4 g p5) (puts : PutsAll g p5 h p6) (emits : Emits h p6 k p7) where
+module _ (f a b c d e g m h k : Fields) (p0 p1 p2 p3 p4 p5 p6 p7 p8 : Post (Item RunningSession)) (counted : a ≡ record f { turns = f.turns + 1 })
+    (again : SendsAgain a p0 b p1) (rounds : PassesRounds b p1 c p2) (grafts : BeginsGrafts c p2 d p3) (decides : DecidesAll d p3 e p4) (tells : TellsAll e p4 g p5) (confirms : ConfirmsAll g p5 m p6) (puts : PutsAll m p6 h p7) (emits : Emits h p7 k p8) where
   -- what each stage leaves
   b_same : b ≡ record f { turns = f.turns + 1; places = b.places }
   b_same = again.same ∙ ap (λ (x : Fields). let y : Fields = record x { places = b.places } in y) counted
@@ -194,43 +235,53 @@ module _ (f a b c d e g h k : Fields) (p0 p1 p2 p3 p4 p5 p6 p7 : Post (Item Runn
   g_same : g ≡ record f { turns = f.turns + 1; places = d.places; rib = e.rib; due_in = g.due_in; due_out = e.due_out }
   g_same = tells.same ∙ ap (λ (x : Fields). let y : Fields = record x { due_in = g.due_in } in y) e_same
 
+  m_same : m ≡ record f { turns = f.turns + 1; places = m.places; rib = e.rib; due_in = g.due_in; due_out = e.due_out }
+  m_same = confirms.same ∙ ap (λ (x : Fields). let y : Fields = record x { places = m.places } in y) g_same
+
   h_same : h ≡ record f { turns = f.turns + 1; places = h.places; rib = e.rib; due_in = g.due_in; due_out = h.due_out }
-  h_same = puts.same ∙ ap (λ (x : Fields). let y : Fields = record x { places = h.places; due_out = h.due_out } in y) g_same
+  h_same = puts.same ∙ ap (λ (x : Fields). let y : Fields = record x { places = h.places; due_out = h.due_out } in y) m_same
 
   k_same : k ≡ record f { turns = f.turns + 1; places = k.places; rib = e.rib; due_in = g.due_in; due_out = h.due_out }
   k_same = emits.same ∙ ap (λ (x : Fields). let y : Fields = record x { places = k.places } in y) h_same
 
   -- the places that deciding and telling leave alone
-  g_places : (p : ℕ) → place_at g.places.items p ≡ place_at d.places.items p
-  g_places p = ap (λ (x : Fields). place_at x.places.items p) g_same
+  g_places : (p : ℕ) → place_at g.places.places p ≡ place_at d.places.places p
+  g_places p = ap (λ (x : Fields). place_at x.places.places p) g_same
+
+  confirms_at : (p : ℕ) → WordGoes (place_at d.places.places p) (place_at m.places.places p)
+  confirms_at p = subst (λ (x : Option Place). WordGoes x (place_at m.places.places p)) (g_places p) (confirms.places p)
 
   abbrev events : List RouterEvent
-  events = again.events ++ (rounds.events ++ (grafts.events ++ (decides.events ++ (tells.events ++ (puts.events ++ emits.events)))))
+  events = again.events ++ (rounds.events ++ (grafts.events ++ (decides.events ++ (tells.events ++ (confirms.events ++ (puts.events ++ emits.events))))))
 
   abbrev tally : ℕ → Tally
   tally = with_answers h (with_again a (λ p. nothing))
 
-  did_all : Did f p0 (λ p. nothing) events k p7 tally
+  did_all : Did f p0 (λ p. nothing) events k p8 tally
   did_all =
       let t : ℕ → Tally = with_again a (λ p. nothing) in
-      let rest3 : List RouterEvent = decides.events ++ (tells.events ++ (puts.events ++ emits.events)) in
+      let told : List RouterEvent = confirms.events ++ (puts.events ++ emits.events) in
+      let rest3 : List RouterEvent = decides.events ++ (tells.events ++ told) in
       let counted_did : Did f p0 (λ p. nothing) [] a p0 (λ p. nothing) = did_same f a p0 (λ p. nothing) (record { setup = ap (λ (x : Fields). x.known.setup) counted; number = ap (λ (x : Fields). x.number) counted }) (ap router_part counted) in
-      did_then f a k p0 p0 p7 (λ p. nothing) (λ p. nothing) tally [] events counted_did
-      (did_then a b k p0 p1 p7 (λ p. nothing) t tally again.events (rounds.events ++ (grafts.events ++ rest3)) (again.did (λ p. nothing))
-      (did_then b c k p1 p2 p7 t t tally rounds.events (grafts.events ++ rest3) (rounds.did t)
-      (did_then c d k p2 p3 p7 t t tally grafts.events rest3 (grafts.did t)
-      (did_then d e k p3 p4 p7 t t tally decides.events (tells.events ++ (puts.events ++ emits.events)) (decides.did t)
-      (did_then e g k p4 p5 p7 t t tally tells.events (puts.events ++ emits.events) (tells.did t)
-      (did_then g h k p5 p6 p7 t t tally puts.events emits.events (puts.did t) (emits.did t)))))))
+      did_then f a k p0 p0 p8 (λ p. nothing) (λ p. nothing) tally [] events counted_did
+      (did_then a b k p0 p1 p8 (λ p. nothing) t tally again.events (rounds.events ++ (grafts.events ++ rest3)) (again.did (λ p. nothing))
+      (did_then b c k p1 p2 p8 t t tally rounds.events (grafts.events ++ rest3) (rounds.did t)
+      (did_then c d k p2 p3 p8 t t tally grafts.events rest3 (grafts.did t)
+      (did_then d e k p3 p4 p8 t t tally decides.events (tells.events ++ told) (decides.did t)
+      (did_then e g k p4 p5 p8 t t tally tells.events told (tells.did t)
+      (did_then g m k p5 p6 p8 t t tally confirms.events (puts.events ++ emits.events) (confirms.did t)
+      (did_then m h k p6 p7 p8 t t tally puts.events emits.events (puts.did t) (emits.did t))))))))
 
   -- the events behind the stage of rounds
   abbrev behind : List RouterEvent
-  behind = grafts.events ++ (decides.events ++ (tells.events ++ (puts.events ++ emits.events)))
+  behind = grafts.events ++ (decides.events ++ (tells.events ++ (confirms.events ++ (puts.events ++ emits.events))))
 
   no_rounds_behind : (p : ℕ) → rounds_on p behind ≡ []
   no_rounds_behind p =
-      rounds_before p grafts.events (decides.events ++ (tells.events ++ (puts.events ++ emits.events))) (grafts.no_rounds p) ∙ rounds_before p decides.events (tells.events ++ (puts.events ++ emits.events)) (decides.no_rounds p)
-      ∙ rounds_before p tells.events (puts.events ++ emits.events) (tells.no_rounds p) ∙ rounds_before p puts.events emits.events (puts.no_rounds p) ∙ emits.no_rounds p
+      let told : List RouterEvent = confirms.events ++ (puts.events ++ emits.events) in
+      rounds_before p grafts.events (decides.events ++ (tells.events ++ told)) (grafts.no_rounds p) ∙ rounds_before p decides.events (tells.events ++ told) (decides.no_rounds p)
+      ∙ rounds_before p tells.events told (tells.no_rounds p) ∙ rounds_before p confirms.events (puts.events ++ emits.events) (confirms.no_rounds p)
+      ∙ rounds_before p puts.events emits.events (puts.no_rounds p) ∙ emits.no_rounds p
 
   in_order : TicksFirst events
   in_order = record {
@@ -247,62 +298,61 @@ module _ (f a b c d e g h k : Fields) (p0 p1 p2 p3 p4 p5 p6 p7 : Post (Item Runn
       rounds_before p again.events (rounds.events ++ behind) (again.no_rounds p) ∙ rounds_on-append p rounds.events behind
       ∙ ap (λ (xs : List ℕ). rounds_on p rounds.events ++ xs) (no_rounds_behind p) ∙ append-nil (rounds_on p rounds.events)
 
-  session_turns : (p : ℕ) (s u : RunningSession) (o q : Option GraftIds) → RunsAt f.places.items p s o → RunsAt k.places.items p u q → TurnsSession k.turns p events (tally p) s u
+  session_turns : (p : ℕ) (s u : RunningSession) (o q : Option Errand) → RunsAt f.places.places p s o → RunsAt k.places.places p u q → TurnsSession k.turns p events (tally p) s u
   session_turns p s u o q before after =
-      let start : place_at a.places.items p ≡ Live s o = ap (λ (x : Fields). place_at x.places.items p) counted ∙ before.is in
+      let start : place_at a.places.places p ≡ Some (Live s o) = ap (λ (x : Fields). place_at x.places.places p) counted ∙ before.is in
       let round : b.turns ≡ k.turns = ap (λ (x : Fields). x.turns) b_same ∙ sym (ap (λ (x : Fields). x.turns) k_same) in
-      let passes : PlaceGoes (PassesWhereItMay k.turns (rounds_on p rounds.events)) (place_at b.places.items p) (place_at c.places.items p) =
-      subst (λ (n : ℕ). PlaceGoes (PassesWhereItMay n (rounds_on p rounds.events)) (place_at b.places.items p) (place_at c.places.items p)) round (rounds.places p) in
-      let more : PlaceGoes PutsMore (place_at d.places.items p) (place_at h.places.items p) = subst (λ (x : Place). PlaceGoes PutsMore x (place_at h.places.items p)) (g_places p) (puts.places p) in
-      let on : LivesOn k.turns (rounds_on p rounds.events) s u = lives_on k.turns (rounds_on p rounds.events) (place_at a.places.items p) (place_at b.places.items p) (place_at c.places.items p) (place_at d.places.items p) (place_at h.places.items p) (place_at k.places.items p)
-      s u o q start after.is (again.places p) passes (grafts.places p) more (emits.places p) in
+      let passes : PlaceGoes (PassesWhereItMay k.turns (rounds_on p rounds.events)) (place_at b.places.places p) (place_at c.places.places p) =
+      subst (λ (n : ℕ). PlaceGoes (PassesWhereItMay n (rounds_on p rounds.events)) (place_at b.places.places p) (place_at c.places.places p)) round (rounds.places p) in
+      let on : LivesOn k.turns (rounds_on p rounds.events) s u = lives_on k.turns (rounds_on p rounds.events) (place_at a.places.places p) (place_at b.places.places p) (place_at c.places.places p) (place_at d.places.places p) (place_at m.places.places p) (place_at h.places.places p) (place_at k.places.places p)
+      s u o q start after.is (again.places p) passes (grafts.places p) (confirms_at p) (puts.places p) (emits.places p) in
       record {
         acked = on.acked;
         at_turn = on.at_turn;
-        again = λ level out. ap (λ (x : Place). let n : ℕ = 0 + again_at x in n) start ∙ again_once s o level out;
+        again = λ level out. ap (λ (x : Option Place). let n : ℕ = 0 + again_at x in n) start ∙ again_once s o level out;
         ticked = subst (λ (xs : List ℕ). (MayPass s.session k.turns × (xs ≡ k.turns ∷ [])) ⊎ ((¬ MayPass s.session k.turns) × (xs ≡ []))) (sym (rounds_are p)) on.ticked;
       }
 
-  session_passes : (p : ℕ) (s : RunningSession) (o : Option GraftIds) → RunsAt f.places.items p s o
+  session_passes : (p : ℕ) (s : RunningSession) (o : Option Errand) → RunsAt f.places.places p s o
       → (MayPass s.session k.turns × (rounds_on p events ≡ k.turns ∷ [])) ⊎ ((¬ MayPass s.session k.turns) × (rounds_on p events ≡ []))
   session_passes p s o before =
-      let start : place_at a.places.items p ≡ Live s o = ap (λ (x : Fields). place_at x.places.items p) counted ∙ before.is in
+      let start : place_at a.places.places p ≡ Some (Live s o) = ap (λ (x : Fields). place_at x.places.places p) counted ∙ before.is in
       let round : b.turns ≡ k.turns = ap (λ (x : Fields). x.turns) b_same ∙ sym (ap (λ (x : Fields). x.turns) k_same) in
-      let passes : PlaceGoes (PassesWhereItMay k.turns (rounds_on p rounds.events)) (place_at b.places.items p) (place_at c.places.items p) =
-      subst (λ (n : ℕ). PlaceGoes (PassesWhereItMay n (rounds_on p rounds.events)) (place_at b.places.items p) (place_at c.places.items p)) round (rounds.places p) in
-      let (s1, b_is, level) = subst (λ (x : Place). PlaceGoes IsLevel x (place_at b.places.items p)) start (again.places p) in
-      let (s2, c_is, passed) = subst (λ (x : Place). PlaceGoes (PassesWhereItMay k.turns (rounds_on p rounds.events)) x (place_at c.places.items p)) b_is passes in
+      let passes : PlaceGoes (PassesWhereItMay k.turns (rounds_on p rounds.events)) (place_at b.places.places p) (place_at c.places.places p) =
+      subst (λ (n : ℕ). PlaceGoes (PassesWhereItMay n (rounds_on p rounds.events)) (place_at b.places.places p) (place_at c.places.places p)) round (rounds.places p) in
+      let (s1, b_is, level) = subst (λ (x : Option Place). PlaceGoes IsLevel x (place_at b.places.places p)) start (again.places p) in
+      let (s2, c_is, passed) = subst (λ (x : Option Place). PlaceGoes (PassesWhereItMay k.turns (rounds_on p rounds.events)) x (place_at c.places.places p)) b_is passes in
       subst (λ (xs : List ℕ). (MayPass s.session k.turns × (xs ≡ k.turns ∷ [])) ⊎ ((¬ MayPass s.session k.turns) × (xs ≡ []))) (sym (rounds_are p))
       (level_rounds k.turns (rounds_on p rounds.events) s s1 s2 level passed.1)
 
   -- at the end
-  same_setup : g.known.setup ≡ f.known.setup
-  same_setup = ap (λ (x : Fields). x.known.setup) g_same
+  same_setup : m.known.setup ≡ f.known.setup
+  same_setup = ap (λ (x : Fields). x.known.setup) m_same
 
-  same_number : g.number.0 ≡ f.number.0
-  same_number = ap (λ (x : Fields). x.number.0) g_same
+  same_number : m.number.0 ≡ f.number.0
+  same_number = ap (λ (x : Fields). x.number.0) m_same
 
   done : (p : ℕ) → IsDone f.known.setup f.number.0 (router_part k) p ((router_part k).places p)
   done p =
-      let at_h : IsDone f.known.setup f.number.0 (router_part h) p (place_of (place_at h.places.items p)) =
-      subst (λ (s : Setup). IsDone s f.number.0 (router_part h) p (place_of (place_at h.places.items p))) same_setup
-      (subst (λ (n : ℕ). IsDone g.known.setup n (router_part h) p (place_of (place_at h.places.items p))) same_number (puts.done p)) in
-      subst (λ (x : RouterPart). IsDone f.known.setup f.number.0 x p (place_of (place_at k.places.items p))) (sym (ap router_part emits.same))
-      (done_on f.known.setup f.number.0 p (router_part h) (λ q. place_of (place_at k.places.items q)) (place_at h.places.items p) (place_at k.places.items p) (emits.places p) at_h)
+      let at_h : IsDone f.known.setup f.number.0 (router_part h) p (place_of (place_at h.places.places p)) =
+      subst (λ (s : Setup). IsDone s f.number.0 (router_part h) p (place_of (place_at h.places.places p))) same_setup
+      (subst (λ (n : ℕ). IsDone m.known.setup n (router_part h) p (place_of (place_at h.places.places p))) same_number (puts.done p)) in
+      subst (λ (x : RouterPart). IsDone f.known.setup f.number.0 x p (place_of (place_at k.places.places p))) (sym (ap router_part emits.same))
+      (done_on f.known.setup f.number.0 p (router_part h) (λ q. place_of (place_at k.places.places q)) (place_at h.places.places p) (place_at k.places.places p) (emits.places p) at_h)
 
   rested : RestedRouter f.known.setup f.number.0 (router_part k)
   rested = record {
     clean = ap (λ (x : Fields). x.rib.dirty) k_same ∙ decides.clean;
     due_in = λ q. ap (λ (x : Fields). (router_part x).due_in q) k_same ∙ tells.told q;
-    quiet = λ p. quiet k.known.setup k.number.0 p _ _ (place_at k.places.items p) (emits.keeps.each p)
-        (no_order_on EmitsAll (place_at h.places.items p) (place_at k.places.items p) (emits.places p)
-        (no_order_on PutsMore (place_at g.places.items p) (place_at h.places.items p) (puts.places p)
-        (subst NoOrder (sym (g_places p)) (no_order_first (place_at c.places.items p) (place_at d.places.items p) (grafts.places p)))))
-        (all_out (place_at h.places.items p) (place_at k.places.items p) (emits.places p));
+    quiet = λ p. quiet k.known.setup k.number.0 p _ _ (place_at k.places.places p) (emits.keeps.each p)
+        (no_errand_on EmitsAll (place_at h.places.places p) (place_at k.places.places p) (emits.places p)
+        (no_errand_on PutsMore (place_at m.places.places p) (place_at h.places.places p) (puts.places p)
+        (no_errand_first (place_at d.places.places p) (place_at m.places.places p) (not_leaving (place_at c.places.places p) (place_at d.places.places p) (grafts.places p)) (confirms_at p))))
+        (all_out (place_at h.places.places p) (place_at k.places.places p) (emits.places p));
     done = done;
   }
 
-  pub turns_once : TurnsOnce f p0 k p7
+  pub turns_once : TurnsOnce f p0 k p8
   turns_once = record {
     moved = record {
       deeds = did_all.deeds;
@@ -318,7 +368,7 @@ module _ (f a b c d e g h k : Fields) (p0 p1 p2 p3 p4 p5 p6 p7 : Post (Item Runn
         round = did_all.round;
         in_order = in_order;
         rested = rested;
-        few = λ p. (again_few (place_at a.places.items p), answer_few (place_at h.places.items p));
+        few = λ p. (again_few (place_at a.places.places p), answer_few (place_at h.places.places p));
         passes = session_passes;
         sessions = session_turns;
       };

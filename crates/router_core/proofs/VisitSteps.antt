@@ -1,5 +1,5 @@
 -- A stage goes from place to place.
-use Rattle.std.proofs.Common.{◌≡◌, ◌≢◌, ℕ, zero, suc, ◌+◌, ◌<◌, ◌≤◌, List, [], ◌∷◌, ◌++◌, length, Bool, ◌⊎◌, inl, inr, refl, sym, ap, subst, ◌∙◌, arith, set}
+use Rattle.std.proofs.Common.{◌≡◌, ◌≢◌, ℕ, zero, suc, ◌+◌, ◌<◌, ◌≤◌, List, [], ◌∷◌, ◌++◌, length, Bool, ◌⊎◌, inl, inr, refl, sym, ap, subst, ◌∙◌, arith, set, None, Option}
 use Rattle.std.specs.Prelude.{nat_lt, if◌then◌else◌}
 use Rattle.std.proofs.lemmas.List.{append-nil, get_or-set_same, get_or-set_other}
 use Rattle.std.proofs.lemmas.Bool.{cases_lt, lt-ltb, le-ltb, eq-eqb, ne_eqb}
@@ -15,7 +15,6 @@ use Rattle.router_core.specs.Turned.{NoRounds, rounds_on}
 use Rattle.router_core.specs.Visits.{Stage, Visits, Visited}
 use Rattle.router_core.specs.declared.fields.Fields.{Fields}
 use Rattle.router_core.specs.declared.place.Place.{Place}
-use Rattle.router_core.specs.declared.place.Place.TheVariants.{Vacant}
 use Rattle.router_core.proofs.Dids.{did_same, did_then}
 use Rattle.router_core.proofs.RoundLists.{no_puts_then, rounds_on-append}
 
@@ -30,13 +29,13 @@ same_or_not p q = elim (cases_lt q p) [
 
 -- ---- counts
 
-abbrev counted_by : (stage : Stage) → List Place → (ℕ → Tally) → ℕ → ℕ → Tally
+abbrev counted_by : (stage : Stage) → List (Option Place) → (ℕ → Tally) → ℕ → ℕ → Tally
 counted_by stage places t n p = if nat_lt p n then stage.count (place_at places p) (t p) else t p
 
-counted_below : (stage : Stage) (places : List Place) (t : ℕ → Tally) (n p : ℕ) → p < n → counted_by stage places t n p ≡ stage.count (place_at places p) (t p)
+counted_below : (stage : Stage) (places : List (Option Place)) (t : ℕ → Tally) (n p : ℕ) → p < n → counted_by stage places t n p ≡ stage.count (place_at places p) (t p)
 counted_below stage places t n p below = ap (λ (b : Bool). let x : Tally = if b then stage.count (place_at places p) (t p) else t p in x) (lt-ltb p n below)
 
-counted_from : (stage : Stage) (places : List Place) (t : ℕ → Tally) (n p : ℕ) → n ≤ p → counted_by stage places t n p ≡ t p
+counted_from : (stage : Stage) (places : List (Option Place)) (t : ℕ → Tally) (n p : ℕ) → n ≤ p → counted_by stage places t n p ≡ t p
 counted_from stage places t n p from = ap (λ (b : Bool). let x : Tally = if b then stage.count (place_at places p) (t p) else t p in x) (le-ltb p n from)
 
 pub at_here : {A : Type 0} (f : ℕ → A) (p : ℕ) (x : A) (q : ℕ) → q ≡ p → at f p x q ≡ x
@@ -49,43 +48,43 @@ at_other f p x q not = ap (λ (b : Bool). let y = if b then x else f q in y) (ne
 
 module _ (stage : Stage) (a b c : Fields) (p q r : Post (Item RunningSession)) (n : ℕ) (before : Visited stage n a p b q) (now : Visits stage n b q c r) where
   -- the place had not had its turn
-  fresh : place_at b.places.items n ≡ place_at a.places.items n
+  fresh : place_at b.places.places n ≡ place_at a.places.places n
   fresh = (before.left n (omega arith)).0
 
-  counted_then : (t : ℕ → Tally) (k : ℕ) → at (counted_by stage a.places.items t n) n (stage.count (place_at b.places.items n) (counted_by stage a.places.items t n n)) k ≡ counted_by stage a.places.items t (n + 1) k
+  counted_then : (t : ℕ → Tally) (k : ℕ) → at (counted_by stage a.places.places t n) n (stage.count (place_at b.places.places n) (counted_by stage a.places.places t n n)) k ≡ counted_by stage a.places.places t (n + 1) k
   counted_then t k = elim (same_or_not n k) [
     | inl e ↦
-        at_here (counted_by stage a.places.items t n) n (stage.count (place_at b.places.items n) (counted_by stage a.places.items t n n)) k e
-        ∙ ap (λ (x : Place). stage.count x (counted_by stage a.places.items t n n)) fresh
-        ∙ ap (λ (x : Tally). stage.count (place_at a.places.items n) x) (counted_from stage a.places.items t n n (omega arith))
-        ∙ sym (counted_below stage a.places.items t (n + 1) n (omega arith))
-        ∙ ap (counted_by stage a.places.items t (n + 1)) (sym e)
+        at_here (counted_by stage a.places.places t n) n (stage.count (place_at b.places.places n) (counted_by stage a.places.places t n n)) k e
+        ∙ ap (λ (x : Option Place). stage.count x (counted_by stage a.places.places t n n)) fresh
+        ∙ ap (λ (x : Tally). stage.count (place_at a.places.places n) x) (counted_from stage a.places.places t n n (omega arith))
+        ∙ sym (counted_below stage a.places.places t (n + 1) n (omega arith))
+        ∙ ap (counted_by stage a.places.places t (n + 1)) (sym e)
     | inr not ↦
-        at_other (counted_by stage a.places.items t n) n (stage.count (place_at b.places.items n) (counted_by stage a.places.items t n n)) k not
+        at_other (counted_by stage a.places.places t n) n (stage.count (place_at b.places.places n) (counted_by stage a.places.places t n n)) k not
         ∙ elim (cases_lt k n) [
-          | inl below ↦ counted_below stage a.places.items t n k below ∙ sym (counted_below stage a.places.items t (n + 1) k (omega (arith, below)))
-          | inr from ↦ counted_from stage a.places.items t n k from ∙ sym (counted_from stage a.places.items t (n + 1) k (above k from not))
+          | inl below ↦ counted_below stage a.places.places t n k below ∙ sym (counted_below stage a.places.places t (n + 1) k (omega (arith, below)))
+          | inr from ↦ counted_from stage a.places.places t n k from ∙ sym (counted_from stage a.places.places t (n + 1) k (above k from not))
         ]
   ]
     where
       above : (k : ℕ) → n ≤ k → k ≢ n → n + 1 ≤ k
       above k from not = elim (cases_lt n k) [ inl below ↦ omega (arith, below) | inr to ↦ absurd (not (omega (arith, from, to))) ]
 
-  done_then : (k : ℕ) → k < n + 1 → stage.Goes (rounds_on k (before.events ++ now.events)) (place_at a.places.items k) (place_at c.places.items k)
+  done_then : (k : ℕ) → k < n + 1 → stage.Goes (rounds_on k (before.events ++ now.events)) (place_at a.places.places k) (place_at c.places.places k)
   done_then k below = elim (same_or_not n k) [
     | inl e ↦
-        subst (λ (m : ℕ). stage.Goes (rounds_on m (before.events ++ now.events)) (place_at a.places.items m) (place_at c.places.items m)) (sym e)
-        (subst (λ (xs : List ℕ). stage.Goes xs (place_at a.places.items n) (place_at c.places.items n)) (sym (rounds_on-append n before.events now.events ∙ ap (λ (xs : List ℕ). xs ++ rounds_on n now.events) (before.left n (omega arith)).1))
-        (subst (λ (x : Place). stage.Goes (rounds_on n now.events) x (place_at c.places.items n)) fresh now.goes))
+        subst (λ (m : ℕ). stage.Goes (rounds_on m (before.events ++ now.events)) (place_at a.places.places m) (place_at c.places.places m)) (sym e)
+        (subst (λ (xs : List ℕ). stage.Goes xs (place_at a.places.places n) (place_at c.places.places n)) (sym (rounds_on-append n before.events now.events ∙ ap (λ (xs : List ℕ). xs ++ rounds_on n now.events) (before.left n (omega arith)).1))
+        (subst (λ (x : Option Place). stage.Goes (rounds_on n now.events) x (place_at c.places.places n)) fresh now.goes))
     | inr not ↦
-        subst (λ (xs : List ℕ). stage.Goes xs (place_at a.places.items k) (place_at c.places.items k)) (sym (rounds_on-append k before.events now.events ∙ ap (λ (xs : List ℕ). rounds_on k before.events ++ xs) (now.others k not).1 ∙ append-nil (rounds_on k before.events)))
-        (subst (λ (x : Place). stage.Goes (rounds_on k before.events) (place_at a.places.items k) x) (sym (now.others k not).0) (before.done k (lower k below not)))
+        subst (λ (xs : List ℕ). stage.Goes xs (place_at a.places.places k) (place_at c.places.places k)) (sym (rounds_on-append k before.events now.events ∙ ap (λ (xs : List ℕ). rounds_on k before.events ++ xs) (now.others k not).1 ∙ append-nil (rounds_on k before.events)))
+        (subst (λ (x : Option Place). stage.Goes (rounds_on k before.events) (place_at a.places.places k) x) (sym (now.others k not).0) (before.done k (lower k below not)))
   ]
     where
       lower : (k : ℕ) → k < n + 1 → k ≢ n → k < n
       lower k below not = elim (cases_lt k n) [ inl under ↦ under | inr from ↦ absurd (not (omega (arith, from, below))) ]
 
-  left_then : (k : ℕ) → n + 1 ≤ k → (place_at c.places.items k ≡ place_at a.places.items k) × (rounds_on k (before.events ++ now.events) ≡ [])
+  left_then : (k : ℕ) → n + 1 ≤ k → (place_at c.places.places k ≡ place_at a.places.places k) × (rounds_on k (before.events ++ now.events) ≡ [])
   left_then k from =
       let not : k ≢ n = λ e. let x : ⊥ = omega (arith, from, e) in x in (
         (now.others k not).0 ∙ (before.left k (omega (arith, from))).0,
@@ -95,8 +94,8 @@ module _ (stage : Stage) (a b c : Fields) (p q r : Post (Item RunningSession)) (
   pub visited_next : ((x y z : Fields) → stage.Same x y → stage.Same y z → stage.Same x z) → Visited stage (n + 1) a p c r
   visited_next same_then = record {
     events = before.events ++ now.events;
-    did = λ t. did_then a b c p q r t (counted_by stage a.places.items t n) (counted_by stage a.places.items t (n + 1)) before.events now.events (before.did t)
-        (subst (λ (u : ℕ → Tally). Did b q (counted_by stage a.places.items t n) now.events c r u) (λ i k. counted_then t k i) (now.did (counted_by stage a.places.items t n)));
+    did = λ t. did_then a b c p q r t (counted_by stage a.places.places t n) (counted_by stage a.places.places t (n + 1)) before.events now.events (before.did t)
+        (subst (λ (u : ℕ → Tally). Did b q (counted_by stage a.places.places t n) now.events c r u) (λ i k. counted_then t k i) (now.did (counted_by stage a.places.places t n)));
     no_puts = no_puts_then before.events now.events before.no_puts now.no_puts;
     done = done_then;
     left = left_then;
@@ -107,7 +106,7 @@ module _ (stage : Stage) (a b c : Fields) (p q r : Post (Item RunningSession)) (
 pub visited_first : (stage : Stage) (f : Fields) (p : Post (Item RunningSession)) → stage.Same f f → Keeps f → Visited stage zero f p f p
 visited_first stage f p same keeps = record {
   events = [];
-  did = λ t. subst (λ (u : ℕ → Tally). Did f p t [] f p u) (λ i k. sym (counted_from stage f.places.items t 0 k (omega arith)) i) (did_same f f p t (record { setup = refl; number = refl }) refl);
+  did = λ t. subst (λ (u : ℕ → Tally). Did f p t [] f p u) (λ i k. sym (counted_from stage f.places.places t 0 k (omega arith)) i) (did_same f f p t (record { setup = refl; number = refl }) refl);
   no_puts = tt;
   done = λ k below. absurd (omega (arith, below));
   left = λ k from. (refl, refl);
@@ -117,18 +116,18 @@ visited_first stage f p same keeps = record {
 
 -- ---- places
 
-pub place_at_end : (xs : List Place) (p : ℕ) → length xs ≤ p → place_at xs p ≡ Vacant
+pub place_at_end : (xs : List (Option Place)) (p : ℕ) → length xs ≤ p → place_at xs p ≡ None
 place_at_end [] p from = refl
 place_at_end (x ∷ xs) zero from = absurd (omega (arith, from))
 place_at_end (x ∷ xs) (suc p) from = place_at_end xs p (omega (arith, from))
 
 -- the places with another one at a number
-module _ (xs : List Place) (p : ℕ) (x : Place) (there : p < length xs) where
+module _ (xs : List (Option Place)) (p : ℕ) (x : Option Place) (there : p < length xs) where
   pub set_here : place_at (set xs p x) p ≡ x
-  set_here = get_or-set_same xs p x Vacant there
+  set_here = get_or-set_same xs p x None there
 
   pub set_other : (q : ℕ) → q ≢ p → place_at (set xs p x) q ≡ place_at xs q
-  set_other q not = get_or-set_other xs p q x Vacant not
+  set_other q not = get_or-set_other xs p q x None not
 
   pub set_at : (q : ℕ) → place_of (place_at (set xs p x) q) ≡ at (λ k. place_of (place_at xs k)) p (place_of x) q
   set_at q = elim (same_or_not p q) [
@@ -139,34 +138,34 @@ module _ (xs : List Place) (p : ℕ) (x : Place) (there : p < length xs) where
 -- ---- twice at one place, and all places
 
 module _ (x y z : Stage) (a b c : Fields) (p q r : Post (Item RunningSession)) (n : ℕ) (before : Visits x n a p b q) (now : Visits y n b q c r) where
-  counted_twice : ((k : List ℕ) (u v : Place) (t : Tally) → x.Goes k u v → y.count v (x.count u t) ≡ z.count u t) → (t : ℕ → Tally) (k : ℕ)
-      → at (at t n (x.count (place_at a.places.items n) (t n))) n (y.count (place_at b.places.items n) (at t n (x.count (place_at a.places.items n) (t n)) n)) k ≡ at t n (z.count (place_at a.places.items n) (t n)) k
+  counted_twice : ((k : List ℕ) (u v : Option Place) (t : Tally) → x.Goes k u v → y.count v (x.count u t) ≡ z.count u t) → (t : ℕ → Tally) (k : ℕ)
+      → at (at t n (x.count (place_at a.places.places n) (t n))) n (y.count (place_at b.places.places n) (at t n (x.count (place_at a.places.places n) (t n)) n)) k ≡ at t n (z.count (place_at a.places.places n) (t n)) k
   counted_twice counts t k =
-      let first : Tally = x.count (place_at a.places.items n) (t n) in
+      let first : Tally = x.count (place_at a.places.places n) (t n) in
       elim (same_or_not n k) [
         | inl e ↦
-            at_here (at t n first) n (y.count (place_at b.places.items n) (at t n first n)) k e ∙ ap (y.count (place_at b.places.items n)) (at_here t n first n refl)
-            ∙ counts (rounds_on n before.events) (place_at a.places.items n) (place_at b.places.items n) (t n) before.goes ∙ sym (at_here t n (z.count (place_at a.places.items n) (t n)) k e)
+            at_here (at t n first) n (y.count (place_at b.places.places n) (at t n first n)) k e ∙ ap (y.count (place_at b.places.places n)) (at_here t n first n refl)
+            ∙ counts (rounds_on n before.events) (place_at a.places.places n) (place_at b.places.places n) (t n) before.goes ∙ sym (at_here t n (z.count (place_at a.places.places n) (t n)) k e)
         | inr not ↦
-            at_other (at t n first) n (y.count (place_at b.places.items n) (at t n first n)) k not ∙ at_other t n first k not ∙ sym (at_other t n (z.count (place_at a.places.items n) (t n)) k not)
+            at_other (at t n first) n (y.count (place_at b.places.places n) (at t n first n)) k not ∙ at_other t n first k not ∙ sym (at_other t n (z.count (place_at a.places.places n) (t n)) k not)
       ]
 
-  pub visits_then : ((k l : List ℕ) (u v w : Place) → x.Goes k u v → y.Goes l v w → z.Goes (k ++ l) u w) → ((k : List ℕ) (u v : Place) (t : Tally) → x.Goes k u v → y.count v (x.count u t) ≡ z.count u t) → z.Same a c → Visits z n a p c r
+  pub visits_then : ((k l : List ℕ) (u v w : Option Place) → x.Goes k u v → y.Goes l v w → z.Goes (k ++ l) u w) → ((k : List ℕ) (u v : Option Place) (t : Tally) → x.Goes k u v → y.count v (x.count u t) ≡ z.count u t) → z.Same a c → Visits z n a p c r
   visits_then goes counts same = record {
     events = before.events ++ now.events;
     did = λ t. subst (λ (u : ℕ → Tally). Did a p t (before.events ++ now.events) c r u) (λ i k. counted_twice counts t k i)
-        (did_then a b c p q r t (at t n (x.count (place_at a.places.items n) (t n))) (at (at t n (x.count (place_at a.places.items n) (t n))) n (y.count (place_at b.places.items n) (at t n (x.count (place_at a.places.items n) (t n)) n)))
-        before.events now.events (before.did t) (now.did (at t n (x.count (place_at a.places.items n) (t n)))));
+        (did_then a b c p q r t (at t n (x.count (place_at a.places.places n) (t n))) (at (at t n (x.count (place_at a.places.places n) (t n))) n (y.count (place_at b.places.places n) (at t n (x.count (place_at a.places.places n) (t n)) n)))
+        before.events now.events (before.did t) (now.did (at t n (x.count (place_at a.places.places n) (t n)))));
     no_puts = no_puts_then before.events now.events before.no_puts now.no_puts;
-    goes = subst (λ (k : List ℕ). z.Goes k (place_at a.places.items n) (place_at c.places.items n)) (sym (rounds_on-append n before.events now.events))
-        (goes (rounds_on n before.events) (rounds_on n now.events) (place_at a.places.items n) (place_at b.places.items n) (place_at c.places.items n) before.goes now.goes);
+    goes = subst (λ (k : List ℕ). z.Goes k (place_at a.places.places n) (place_at c.places.places n)) (sym (rounds_on-append n before.events now.events))
+        (goes (rounds_on n before.events) (rounds_on n now.events) (place_at a.places.places n) (place_at b.places.places n) (place_at c.places.places n) before.goes now.goes);
     others = λ k not. ((now.others k not).0 ∙ (before.others k not).0, rounds_on-append k before.events now.events ∙ ap (λ (l : List ℕ). l ++ rounds_on k now.events) (before.others k not).1 ∙ (now.others k not).1);
     same = same;
     keeps = now.keeps;
   }
 
-pub visits_as : (x z : Stage) (a b : Fields) (p q : Post (Item RunningSession)) (n : ℕ) (v : Visits x n a p b q) → ((k : List ℕ) → x.Goes k (place_at a.places.items n) (place_at b.places.items n) → z.Goes k (place_at a.places.items n) (place_at b.places.items n))
-    → ((t : Tally) → x.count (place_at a.places.items n) t ≡ z.count (place_at a.places.items n) t) → z.Same a b → Visits z n a p b q
+pub visits_as : (x z : Stage) (a b : Fields) (p q : Post (Item RunningSession)) (n : ℕ) (v : Visits x n a p b q) → ((k : List ℕ) → x.Goes k (place_at a.places.places n) (place_at b.places.places n) → z.Goes k (place_at a.places.places n) (place_at b.places.places n))
+    → ((t : Tally) → x.count (place_at a.places.places n) t ≡ z.count (place_at a.places.places n) t) → z.Same a b → Visits z n a p b q
 visits_as x z a b p q n v goes counts same = record {
   events = v.events;
   did = λ t. subst (λ (c : Tally). Did a p t v.events b q (at t n c)) (counts (t n)) (v.did t);
@@ -178,26 +177,26 @@ visits_as x z a b p q n v goes counts same = record {
 }
 
 -- all places had their turn, and no round passed
-module _ (Goes : Place → Place → Type 0) (count : Place → Tally → Tally) (Same : Fields → Fields → Type 0) (vacant : Goes Vacant Vacant) (f g : Fields) (p q : Post (Item RunningSession)) (n : ℕ)
-    (v : Visited (record { Goes = λ rounds old new. (rounds ≡ []) × Goes old new; count = count; Same = Same }) n f p g q) (last : length f.places.items ≤ n) where
+module _ (Goes : Option Place → Option Place → Type 0) (count : Option Place → Tally → Tally) (Same : Fields → Fields → Type 0) (vacant : Goes None None) (f g : Fields) (p q : Post (Item RunningSession)) (n : ℕ)
+    (v : Visited (record { Goes = λ rounds old new. (rounds ≡ []) × Goes old new; count = count; Same = Same }) n f p g q) (last : length f.places.places ≤ n) where
   pub all_rounds : NoRounds v.events
   all_rounds k = elim (cases_lt k n) [ inl below ↦ (v.done k below).0 | inr from ↦ (v.left k from).1 ]
 
-  pub all_places : (k : ℕ) → Goes (place_at f.places.items k) (place_at g.places.items k)
+  pub all_places : (k : ℕ) → Goes (place_at f.places.places k) (place_at g.places.places k)
   all_places k = elim (cases_lt k n) [
     | inl below ↦ (v.done k below).1
     | inr from ↦
-        let end : place_at f.places.items k ≡ Vacant = place_at_end f.places.items k (omega (arith, last, from)) in
-        subst (Goes (place_at f.places.items k)) (sym (v.left k from).0) (subst (λ (x : Place). Goes x x) (sym end) vacant)
+        let end : place_at f.places.places k ≡ None = place_at_end f.places.places k (omega (arith, last, from)) in
+        subst (Goes (place_at f.places.places k)) (sym (v.left k from).0) (subst (λ (x : Option Place). Goes x x) (sym end) vacant)
   ]
 
-  pub all_did : (total : (ℕ → Tally) → ℕ → Tally) → ((t : ℕ → Tally) (k : ℕ) → count (place_at f.places.items k) (t k) ≡ total t k) → ((t : Tally) → count Vacant t ≡ t) → (t : ℕ → Tally) → Did f p t v.events g q (total t)
+  pub all_did : (total : (ℕ → Tally) → ℕ → Tally) → ((t : ℕ → Tally) (k : ℕ) → count (place_at f.places.places k) (t k) ≡ total t k) → ((t : Tally) → count None t ≡ t) → (t : ℕ → Tally) → Did f p t v.events g q (total t)
   all_did total is none t = subst (λ (u : ℕ → Tally). Did f p t v.events g q u) (λ i k. pointwise k i) (v.did t)
     where
-      pointwise : (k : ℕ) → (if nat_lt k n then count (place_at f.places.items k) (t k) else t k) ≡ total t k
+      pointwise : (k : ℕ) → (if nat_lt k n then count (place_at f.places.places k) (t k) else t k) ≡ total t k
       pointwise k = elim (cases_lt k n) [
-        | inl below ↦ ap (λ (b : Bool). let x : Tally = if b then count (place_at f.places.items k) (t k) else t k in x) (lt-ltb k n below) ∙ is t k
+        | inl below ↦ ap (λ (b : Bool). let x : Tally = if b then count (place_at f.places.places k) (t k) else t k in x) (lt-ltb k n below) ∙ is t k
         | inr from ↦
-            ap (λ (b : Bool). let x : Tally = if b then count (place_at f.places.items k) (t k) else t k in x) (le-ltb k n from)
-            ∙ sym (none (t k)) ∙ ap (λ (x : Place). count x (t k)) (sym (place_at_end f.places.items k (omega (arith, last, from)))) ∙ is t k
+            ap (λ (b : Bool). let x : Tally = if b then count (place_at f.places.places k) (t k) else t k in x) (le-ltb k n from)
+            ∙ sym (none (t k)) ∙ ap (λ (x : Option Place). count x (t k)) (sym (place_at_end f.places.places k (omega (arith, last, from)))) ∙ is t k
       ]

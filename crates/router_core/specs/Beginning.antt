@@ -1,27 +1,27 @@
 -- The places of a router that begins.
-use Rattle.std.specs.Prelude.{ℕ, ◌≡◌, ◌<◌, ◌==◌, List, [], ◌∷◌, length, None, if◌then◌else◌}
+use Rattle.std.specs.Prelude.{ℕ, ◌≡◌, ◌<◌, ◌==◌, List, [], ◌∷◌, length, None, if◌then◌else◌, Option, Some}
 use Rattle.bgp_story.specs.Legal.{IsPeering}
 use Rattle.session_value.specs.declared.config.SessionConfig.{SessionConfig}
 use Rattle.session_value.specs.Sessions.{begun, peering_of}
 use Rattle.bgp_session.specs.Running.{RunningSession}
 use Rattle.router_core.specs.Places.{place_at}
 use Rattle.router_core.specs.declared.place.Place.{Place}
-use Rattle.router_core.specs.declared.place.Place.TheVariants.{Vacant, Live}
+use Rattle.router_core.specs.declared.place.Place.TheVariants.{Live}
 
 -- a session that begins has had no retransmission turn
 abbrev pub begins : SessionConfig → RunningSession
 begins config = record { session = begun config; acked_at_turn = 0 }
 
 -- the first session of a peering among those that begin, if there is one
-abbrev pub begun_at : List SessionConfig → ℕ → Place
-begun_at [] p = Vacant
-begun_at (config ∷ configs) p = if p == config.peering.0 then Live (begins config) None else begun_at configs p
+abbrev pub begun_at : List SessionConfig → ℕ → Option Place
+begun_at [] p = None
+begun_at (config ∷ configs) p = if p == config.peering.0 then Some (Live (begins config) None) else begun_at configs p
 
 -- A session can begin at one of so many places.
 pub record CanBegin (count : ℕ) (config : SessionConfig) : Type 0 where
   pub there : config.peering.0 < count
   pub valid : IsPeering (peering_of config)
 
-pub record AreBegun (count : ℕ) (configs : List SessionConfig) (places : List Place) : Type 0 where
+pub record AreBegun (count : ℕ) (configs : List SessionConfig) (places : List (Option Place)) : Type 0 where
   pub length : length places ≡ count
   pub each : (p : ℕ) → place_at places p ≡ begun_at configs p

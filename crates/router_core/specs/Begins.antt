@@ -1,6 +1,6 @@
 -- How a router begins.
 use Rattle.std.specs.Prelude.{ℕ, ◌≡◌, Option}
-use Rattle.graft_steps.specs.declared.order.GraftIds.{GraftIds}
+use Rattle.router_core.specs.declared.place.Errand.{Errand}
 use Rattle.bgp_session.specs.Running.{RunningSession}
 use Rattle.graft_model.specs.First.{first_router}
 use Rattle.graft_model.specs.Setups.{Setup}
@@ -14,5 +14,5 @@ use Rattle.router_core.specs.declared.fields.Fields.{Fields}
 pub record BeginsAs (setup : Setup) (config : RouterConfig) (f : Fields) : Type 0 where
   pub is : own_part f ≡ record { setup = setup; name = Router config.number.0; part = RouterIs (first_router setup config.number.0) }
   pub turns : f.turns ≡ 0
-  pub at_turn : (p : ℕ) (s : RunningSession) (o : Option GraftIds) → RunsAt f.places.items p s o → s.acked_at_turn ≡ 0
+  pub at_turn : (p : ℕ) (s : RunningSession) (o : Option Errand) → RunsAt f.places.places p s o → s.acked_at_turn ≡ 0
   pub keeps : Keeps f

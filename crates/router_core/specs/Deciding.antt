@@ -9,7 +9,8 @@ use Rattle.session_value.specs.Sets.{Prefixes}
 use Rattle.rib_stages.specs.Values.{table_at}
 use Rattle.graft_model.specs.Sets.{Adds}
 use Rattle.graft_model.specs.Setups.{routers_in}
-use Rattle.graft_model.specs.Steps.{RouterEvent, Decide}
+use Rattle.graft_model.specs.declared.event.RouterEvent.{RouterEvent}
+use Rattle.graft_model.specs.declared.event.RouterEvent.TheVariants.{Decide}
 use Rattle.graft_model.specs.TableRows.{only, holds_established}
 use Rattle.graft_actors.specs.Emissions.{Tally}
 use Rattle.router_core.specs.Parts.{Keeps}
@@ -30,7 +31,7 @@ is_other f q = nat_lt q (routers_in f.known.setup) && not (q == f.number.0)
 
 -- the peerings on which it is due: those whose session is established
 abbrev pub is_up_at : Fields → ℕ → Bool
-is_up_at f p = holds_established (place_of (place_at f.places.items p))
+is_up_at f p = holds_established (place_of (place_at f.places.places p))
 
 -- A prefix is due wherever another best route is.
 pub record DueToAll (prefix : PrefixValue) (old new : Fields) : Type 0 where

@@ -8,6 +8,7 @@ pub mod Stages
 pub mod Visits
 pub mod Sending
 pub mod Leaving
+pub mod Confirming
 pub mod Tellings
 pub mod Deciding
 pub mod Beginning

@@ -17,12 +17,14 @@ use Rattle.graft_actors.specs.Acts.{OwnPart}
 use Rattle.router_core.specs.Configs.{ArePoliciesOf, AreFirstsOf, IsRibOf}
 use Rattle.router_core.specs.Places.{place_of, place_at}
 use Rattle.router_core.specs.declared.fields.Fields.{Fields}
+use Rattle.router_core.specs.declared.place.Errand.{Errand}
+use Rattle.router_core.specs.declared.place.Errand.TheVariants.{Leaving, Owing}
 use Rattle.router_core.specs.declared.place.Place.{Place}
-use Rattle.router_core.specs.declared.place.Place.TheVariants.{Vacant, Live, Shadow}
+use Rattle.router_core.specs.declared.place.Place.TheVariants.{Live, Shadow}
 
 abbrev pub router_part : Fields → RouterPart
 router_part f = record {
-  places = λ p. place_of (place_at f.places.items p);
+  places = λ p. place_of (place_at f.places.places p);
   entries = (rib_of f.rib).entries;
   tellings = (rib_of f.rib).tellings;
   best = f.rib.best;
@@ -56,9 +58,16 @@ pub record IsGraftOf (setup : Setup) (r p : ℕ) (ids : GraftIds) : Type 0 where
   pub source : ids.source.0 ≡ r
   pub target : ids.target.0 < routers_in setup
 
-abbrev pub IsOrderOf : Setup → ℕ → ℕ → Option GraftIds → Type 0
-IsOrderOf setup r p None = Unit {0}
-IsOrderOf setup r p (Some ids) = IsGraftOf setup r p ids
+-- a session of this peering has landed at this router in the graft, from a router that is there
+pub record IsLandingOf (setup : Setup) (r p : ℕ) (ids : GraftIds) : Type 0 where
+  pub peering : ids.peering.0 ≡ p
+  pub source : ids.source.0 < routers_in setup
+  pub target : ids.target.0 ≡ r
+
+abbrev pub IsErrandOf : Setup → ℕ → ℕ → Option Errand → Type 0
+IsErrandOf setup r p None = Unit {0}
+IsErrandOf setup r p (Some (Leaving ids)) = IsGraftOf setup r p ids
+IsErrandOf setup r p (Some (Owing ids)) = IsLandingOf setup r p ids
 
 abbrev pub HasNoEntry : Entries → Type 0
 HasNoEntry entries = (x : PrefixValue) → is_some (map.get entries x) ≡ false
@@ -71,11 +80,11 @@ abbrev pub IsDueWhileUp : SessionValue → Prefixes → Type 0
 IsDueWhileUp session due = (x : PrefixValue) → has due x ≡ true → state session ≡ Established
 
 -- Where nothing is, nothing was brought in and nothing is due; and nothing is due on a shadow.
-abbrev pub KeepsPlace : Setup → ℕ → ℕ → Entries → Prefixes → Place → Type 0
-KeepsPlace setup r p entries due Vacant = HasNoEntry entries × IsNothingDue due
-KeepsPlace setup r p entries due (Live running order) =
-    IsOfPeering setup p running.session × HasReadAll running.session × IsOrderOf setup r p order × IsDueWhileUp running.session due
-KeepsPlace setup r p entries due (Shadow away) = IsGraftOf setup r p away × IsNothingDue due
+abbrev pub KeepsPlace : Setup → ℕ → ℕ → Entries → Prefixes → Option Place → Type 0
+KeepsPlace setup r p entries due None = HasNoEntry entries × IsNothingDue due
+KeepsPlace setup r p entries due (Some (Live running errand)) =
+    IsOfPeering setup p running.session × HasReadAll running.session × IsErrandOf setup r p errand × IsDueWhileUp running.session due
+KeepsPlace setup r p entries due (Some (Shadow away)) = IsGraftOf setup r p away × IsNothingDue due
 
 -- ---- what the fields keep
 
@@ -86,13 +95,14 @@ pub record Keeps (f : Fields) : Type 0 where
   pub few_routers : f.routers ≤ 256
   pub few_peerings : peerings_in f.known.setup ≤ 256
   pub room : f.room ≡ room_of f.known.setup f.number.0
+  pub reserved : f.places.room ≡ f.room
   pub home_as : f.home_as ≡ f.known.setup.home_as
   pub policies : ArePoliciesOf f.known.setup f.number.0 f.policies
   pub firsts : AreFirstsOf f.known.setup f.firsts
   pub rib : IsRibOf f.known.setup f.number.0 f.rib.config
   -- there is a place, and a set of what is due, for each peering; a set of what is due for each router; and nothing of routers that aren't there
-  pub places : length f.places.items ≡ peerings_in f.known.setup
+  pub places : length f.places.places ≡ peerings_in f.known.setup
   pub due_in : length f.due_in ≡ routers_in f.known.setup
   pub due_out : length f.due_out ≡ peerings_in f.known.setup
   pub tellings : (q : ℕ) → routers_in f.known.setup ≤ q → (x : PrefixValue) → is_some (map.get ((rib_of f.rib).tellings q) x) ≡ false
-  pub each : (p : ℕ) → KeepsPlace f.known.setup f.number.0 p ((rib_of f.rib).entries p) (table_at f.due_out p) (place_at f.places.items p)
+  pub each : (p : ℕ) → KeepsPlace f.known.setup f.number.0 p ((rib_of f.rib).entries p) (table_at f.due_out p) (place_at f.places.places p)

@@ -1,47 +1,54 @@
 -- A router's places as it keeps them.
-use Rattle.std.specs.Prelude.{ℕ, ◌≡◌, Bool, true, false, if◌then◌else◌, List, [], ◌∷◌, Option, Some, None, option_map, min, slice_index_or}
+use Rattle.std.specs.Prelude.{ℕ, ◌≡◌, List, [], ◌∷◌, Option, Some, None, option_map, min, slice_index_or}
 use Rattle.std.specs.List.{flat_map}
 use Rattle.bgp_session.specs.Running.{RunningSession}
+use Rattle.session_places.specs.Places.{PlaceList, with_place}
 use Rattle.graft_steps.specs.declared.order.GraftIds.{GraftIds}
 use Rattle.graft_model.specs.Parts as model
+use Rattle.router_core.specs.declared.place.Errand.{Errand}
+use Rattle.router_core.specs.declared.place.Errand.TheVariants.{Leaving, Owing}
 use Rattle.router_core.specs.declared.place.Place.{Place}
-use Rattle.router_core.specs.declared.place.Place.TheVariants.{Vacant, Live, Shadow}
+use Rattle.router_core.specs.declared.place.Place.TheVariants.{Live, Shadow}
 
 abbrev pub order_of : GraftIds → model.Order
 order_of ids = record { graft = ids.graft; target = ids.target.0 }
 
+abbrev pub word_of : GraftIds → model.Word
+word_of ids = record { graft = ids.graft; source = ids.source.0 }
+
+abbrev pub errand_of : Errand → model.Errand
+errand_of (Leaving ids) = model.Leaving (order_of ids)
+errand_of (Owing ids) = model.Owing (word_of ids)
+
 -- the place as the model has it: a place is never frozen at the end of a call
-abbrev pub place_of : Place → model.Place
-place_of Vacant = model.Vacant
-place_of (Live running order) = model.Live running.session (option_map order_of order)
-place_of (Shadow away) = model.Shadow away.graft
+abbrev pub place_of : Option Place → model.Place
+place_of None = model.Vacant
+place_of (Some (Live running errand)) = model.Live running.session (option_map errand_of errand)
+place_of (Some (Shadow away)) = model.Shadow away.graft
 
--- the place for a peering: vacant behind the last
-abbrev pub place_at : List Place → ℕ → Place
-place_at places p = slice_index_or places p Vacant
+-- what is at the place for a peering: nothing behind the last
+abbrev pub place_at : List (Option Place) → ℕ → Option Place
+place_at places p = slice_index_or places p None
 
--- a running session is live there, with this order
-pub record RunsAt (places : List Place) (p : ℕ) (running : RunningSession) (order : Option GraftIds) : Type 0 where
-  pub is : place_at places p ≡ Live running order
+-- a running session is live there, with this to be done for its graft
+pub record RunsAt (places : List (Option Place)) (p : ℕ) (running : RunningSession) (errand : Option Errand) : Type 0 where
+  pub is : place_at places p ≡ Some (Live running errand)
 
--- whether something is there
-abbrev pub is_held : Place → Bool
-is_held Vacant = false
-is_held (Live running order) = true
-is_held (Shadow away) = true
+-- what is at one place goes on as it is to, and all else stays
+pub record AtOne (Goes : Option Place → Option Place → Type 0) (old : PlaceList Place) (n : ℕ) (new : PlaceList Place) : Type 0 where
+  pub place : Option Place
+  pub goes : Goes (place_at old.places n) place
+  pub stays : new ≡ with_place old n place
 
-abbrev pub weight : Place → ℕ
-weight place = if is_held place then 1 else 0
-
--- a session is live there, with no stored graft
-pub record IsFree (place : Place) : Type 0 where
+-- a session is live there, and nothing is to be done for a graft of it
+pub record IsFree (place : Option Place) : Type 0 where
   pub session : RunningSession
-  pub is : place ≡ Live session None
+  pub is : place ≡ Some (Live session None)
 
 -- a session has left there in this graft
-pub record IsAway (place : Place) (k : ℕ) : Type 0 where
+pub record IsAway (place : Option Place) (k : ℕ) : Type 0 where
   pub away : GraftIds
-  pub is : place ≡ Shadow away
+  pub is : place ≡ Some (Shadow away)
   pub graft : away.graft ≡ k
 
 -- the lower of two numbers, where there are any
@@ -51,10 +58,10 @@ lower_of (Some n) None = Some n
 lower_of (Some n) (Some m) = Some (min n m)
 
 -- the sessions that are held, by rising peering
-abbrev pub session_in : Place → List RunningSession
-session_in Vacant = []
-session_in (Live running order) = running ∷ []
-session_in (Shadow away) = []
+abbrev pub session_in : Option Place → List RunningSession
+session_in None = []
+session_in (Some (Live running errand)) = running ∷ []
+session_in (Some (Shadow away)) = []
 
-abbrev pub sessions_in : List Place → List RunningSession
+abbrev pub sessions_in : List (Option Place) → List RunningSession
 sessions_in places = flat_map session_in places

@@ -16,7 +16,7 @@ use Rattle.graft_model.specs.Setups.{Setup}
 use Rattle.graft_model.specs.Parts.{RouterPart}
 use Rattle.graft_model.specs.RouterRows.{IsToTell}
 use Rattle.graft_model.specs.Decisions.{to_tell}
-use Rattle.graft_model.specs.Steps.{RouterEvent}
+use Rattle.graft_model.specs.declared.event.RouterEvent.{RouterEvent}
 use Rattle.graft_actors.specs.Emissions.{Tally}
 use Rattle.router_core.specs.Parts.{router_part, Keeps}
 use Rattle.router_core.specs.Places.{place_at}
@@ -28,7 +28,7 @@ use Rattle.router_core.specs.Updates.{IsNextUpdate, IsStuckInTime}
 use Rattle.router_core.specs.Visits.{SameButLeaving}
 use Rattle.router_core.specs.declared.fields.Fields.{Fields}
 use Rattle.router_core.specs.declared.place.Place.{Place}
-use Rattle.router_core.specs.declared.place.Place.TheVariants.{Vacant, Live, Shadow}
+use Rattle.router_core.specs.declared.place.Place.TheVariants.{Live, Shadow}
 
 -- ---- the offer
 
@@ -38,10 +38,10 @@ pub record CanOffer (session : SessionValue) (update : Update) : Type 0 where
   pub one_way : IsOneWay update (is_wide (peering_of session.config) session.story)
   pub changes : Changes session.told update
 
-abbrev pub OffersAt : Place → Update → Type 0
-OffersAt Vacant update = ⊥
-OffersAt (Live s order) update = CanOffer s.session update
-OffersAt (Shadow away) update = ⊥
+abbrev pub OffersAt : Option Place → Update → Type 0
+OffersAt None update = ⊥
+OffersAt (Some (Live s errand)) update = CanOffer s.session update
+OffersAt (Some (Shadow away)) update = ⊥
 
 pub record WasPut (s : RunningSession) (update : Update) (u : RunningSession) : Type 0 where
   pub puts : PutsUpdate s.session update u.session
@@ -52,32 +52,32 @@ pub record HadNoRoom (s : RunningSession) (update : Update) (u : RunningSession)
   pub full : 1044480 < offered_length s.session update
   pub same : u ≡ s
 
-abbrev pub OfferedAt : Bool → Update → Place → Place → Type 0
-OfferedAt put update Vacant new = ⊥
-OfferedAt put update (Live s order) new = (u : RunningSession) × (new ≡ Live u order) × MatchBool put (WasPut s update u) (HadNoRoom s update u)
-OfferedAt put update (Shadow away) new = ⊥
+abbrev pub OfferedAt : Bool → Update → Option Place → Option Place → Type 0
+OfferedAt put update None new = ⊥
+OfferedAt put update (Some (Live s errand)) new = (u : RunningSession) × (new ≡ Some (Live u errand)) × MatchBool put (WasPut s update u) (HadNoRoom s update u)
+OfferedAt put update (Some (Shadow away)) new = ⊥
 
 -- ---- the plan
 
 -- these UPDATEs are to be put, one after another
-abbrev pub PlannedAt : Setup → ℕ → RouterPart → ℕ → Place → List Batch → Type 0
-PlannedAt setup r part p Vacant batches = batches ≡ []
-PlannedAt setup r part p (Live s order) batches =
+abbrev pub PlannedAt : Setup → ℕ → RouterPart → ℕ → Option Place → List Batch → Type 0
+PlannedAt setup r part p None batches = batches ≡ []
+PlannedAt setup r part p (Some (Live s errand)) batches =
     IsPlan (IsToTell setup r part p s.session) (to_tell setup r part s.session) (is_wide (peering_of s.session.config) s.session.story) batches
-PlannedAt setup r part p (Shadow away) batches = batches ≡ []
+PlannedAt setup r part p (Some (Shadow away)) batches = batches ≡ []
 
 -- the next UPDATE of the session that is live there
-abbrev pub NextAt : Setup → ℕ → RouterPart → ℕ → Place → Batch → Type 0
-NextAt setup r part p Vacant batch = ⊥
-NextAt setup r part p (Live s order) batch = (state s.session ≡ Established) × IsNextUpdate setup r part p s.session batch
-NextAt setup r part p (Shadow away) batch = ⊥
+abbrev pub NextAt : Setup → ℕ → RouterPart → ℕ → Option Place → Batch → Type 0
+NextAt setup r part p None batch = ⊥
+NextAt setup r part p (Some (Live s errand)) batch = (state s.session ≡ Established) × IsNextUpdate setup r part p s.session batch
+NextAt setup r part p (Some (Shadow away)) batch = ⊥
 
 -- the length at which no round may pass on the session that is live there, if it is so
-abbrev pub TimeAnswer : Place → Option ℕ → Type 0
-TimeAnswer Vacant answer = answer ≡ None
-TimeAnswer (Live s order) None = (n : ℕ) → ¬ IsStuckInTime s.session n
-TimeAnswer (Live s order) (Some n) = IsStuckInTime s.session n
-TimeAnswer (Shadow away) answer = answer ≡ None
+abbrev pub TimeAnswer : Option Place → Option ℕ → Type 0
+TimeAnswer None answer = answer ≡ None
+TimeAnswer (Some (Live s errand)) None = (n : ℕ) → ¬ IsStuckInTime s.session n
+TimeAnswer (Some (Live s errand)) (Some n) = IsStuckInTime s.session n
+TimeAnswer (Some (Shadow away)) answer = answer ≡ None
 
 -- ---- at one place
 
@@ -86,8 +86,8 @@ pub record PutsSomeAt (n : ℕ) (old : Fields) (before : Post (Item RunningSessi
   pub events : List RouterEvent
   pub did : (t : ℕ → Tally) → Did old before t events new after t
   pub no_rounds : NoRounds events
-  pub goes : PlaceGoes PutsMore (place_at old.places.items n) (place_at new.places.items n)
-  pub others : (q : ℕ) → q ≢ n → (place_at new.places.items q ≡ place_at old.places.items q) × (table_at new.due_out q ≡ table_at old.due_out q)
+  pub goes : PlaceGoes PutsMore (place_at old.places.places n) (place_at new.places.places n)
+  pub others : (q : ℕ) → q ≢ n → (place_at new.places.places q ≡ place_at old.places.places q) × (table_at new.due_out q ≡ table_at old.due_out q)
   pub same : SameButLeaving old new
   pub keeps : Keeps new
 
@@ -98,8 +98,8 @@ pub record PutsAt (n : ℕ) (old : Fields) (before : Post (Item RunningSession))
 
 -- An UPDATE was put: what is left of a plan that begins with it is the plan of what stands then.
 pub record LeavesPlan (n : ℕ) (batch : Batch) (old new : Fields) : Type 0 where
-  pub rest : (batches : List Batch) → PlannedAt old.known.setup old.number.0 (router_part old) n (place_at old.places.items n) (batch ∷ batches)
-      → PlannedAt new.known.setup new.number.0 (router_part new) n (place_at new.places.items n) batches
+  pub rest : (batches : List Batch) → PlannedAt old.known.setup old.number.0 (router_part old) n (place_at old.places.places n) (batch ∷ batches)
+      → PlannedAt new.known.setup new.number.0 (router_part new) n (place_at new.places.places n) batches
 
 abbrev pub PutOrDone : Bool → ℕ → Batch → Fields → Fields → Type 0
 PutOrDone true n batch old new = LeavesPlan n batch old new
@@ -111,8 +111,8 @@ pub record PutsFirst (n : ℕ) (old : Fields) (before : Post (Item RunningSessio
   pub events : List RouterEvent
   pub did : (t : ℕ → Tally) → Did old before t events new after t
   pub no_rounds : NoRounds events
-  pub goes : (p : ℕ) → p < n → PlaceGoes PutsMore (place_at old.places.items p) (place_at new.places.items p)
+  pub goes : (p : ℕ) → p < n → PlaceGoes PutsMore (place_at old.places.places p) (place_at new.places.places p)
   pub done : (p : ℕ) → p < n → IsDone old.known.setup old.number.0 (router_part new) p ((router_part new).places p)
-  pub left : (p : ℕ) → n ≤ p → place_at new.places.items p ≡ place_at old.places.items p
+  pub left : (p : ℕ) → n ≤ p → place_at new.places.places p ≡ place_at old.places.places p
   pub same : SameButLeaving old new
   pub keeps : Keeps new

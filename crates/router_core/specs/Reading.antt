@@ -1,5 +1,5 @@
 -- What sessions take in and read at their places, what is due then, and what a router keeps meanwhile.
-use Rattle.std.specs.Prelude.{ℕ, ◌≡◌, ◌≢◌, ◌<◌, ◌≤◌, ◌^◌, ◌||◌, Bool, true, false, List, [], ◌∷◌, length, Option, None, is_some, slice_set}
+use Rattle.std.specs.Prelude.{ℕ, ◌≡◌, ◌≢◌, ◌<◌, ◌≤◌, ◌^◌, ◌||◌, Bool, true, false, List, [], ◌∷◌, length, Option, Some, None, is_some}
 use Rattle.std.specs.FinMap as map
 use Rattle.std.specs.List.{list_any}
 use Rattle.bgp_types.specs.Prefixes.{PrefixValue, same_prefix}
@@ -21,19 +21,23 @@ use Rattle.bgp_session.specs.declared.answers.ReadStep.{ReadStep}
 use Rattle.bgp_session.specs.declared.answers.ReadStep.TheVariants as steps
 use Rattle.graft_steps.specs.declared.item.Item.{Item}
 use Rattle.graft_steps.specs.declared.order.GraftIds.{GraftIds}
+use Rattle.session_places.specs.Places.{with_place}
+use Rattle.router_core.specs.declared.place.Errand.{Errand}
+use Rattle.router_core.specs.declared.place.Errand.TheVariants.{Owing}
 use Rattle.graft_model.specs.Setups.{peerings_in, room_of, routers_in}
-use Rattle.graft_model.specs.Steps.{RouterEvent, Got}
+use Rattle.graft_model.specs.declared.event.RouterEvent.{RouterEvent}
+use Rattle.graft_model.specs.declared.event.RouterEvent.TheVariants.{Got}
 use Rattle.graft_actors.specs.Emissions.{Tally}
 use Rattle.router_core.specs.Configs.{ArePoliciesOf, AreFirstsOf, IsRibOf}
 use Rattle.router_core.specs.Entering.{EntersAll, entry_here}
-use Rattle.router_core.specs.Parts.{IsDueWhileUp, IsOfPeering, IsOrderOf, KeepsPlace, Keeps}
+use Rattle.router_core.specs.Parts.{IsDueWhileUp, IsOfPeering, IsErrandOf, KeepsPlace, Keeps}
 use Rattle.router_core.specs.Places.{RunsAt, place_at}
 use Rattle.router_core.specs.Rounds.{Did}
 use Rattle.router_core.specs.Turned.{NoPuts, NoRounds}
 use Rattle.router_core.specs.Takes.{Stays}
 use Rattle.router_core.specs.declared.fields.Fields.{Fields}
 use Rattle.router_core.specs.declared.place.Place.{Place}
-use Rattle.router_core.specs.declared.place.Place.TheVariants.{Vacant, Live, Shadow}
+use Rattle.router_core.specs.declared.place.Place.TheVariants.{Live, Shadow}
 
 -- ---- sets of prefixes
 
@@ -57,22 +61,22 @@ pub record FitsSession (config : SessionConfig) (g : Segment) : Type 0 where
   pub len : length g.bytes < 2 ^ 16
   pub in_streams : IsInStreams (received_as config g)
 
-abbrev pub FitsPlace : Place → Segment → Type 0
-FitsPlace Vacant g = Unit {0}
-FitsPlace (Live s order) g = FitsSession s.session.config g
-FitsPlace (Shadow away) g = Unit {0}
+abbrev pub FitsPlace : Option Place → Segment → Type 0
+FitsPlace None g = Unit {0}
+FitsPlace (Some (Live s errand)) g = FitsSession s.session.config g
+FitsPlace (Some (Shadow away)) g = Unit {0}
 
 -- The segment arrives at the live session; where none is, it finds none.
-abbrev pub ArrivesAt : Bool → Place → Segment → Place → Type 0
-ArrivesAt live Vacant g new = (live ≡ false) × (new ≡ Vacant)
-ArrivesAt live (Live s order) g new = (live ≡ true) × (arrival : Arrival) × (u : RunningSession) × Arrives arrival s g u × (new ≡ Live u order)
-ArrivesAt live (Shadow away) g new = (live ≡ false) × (new ≡ Shadow away)
+abbrev pub ArrivesAt : Bool → Option Place → Segment → Option Place → Type 0
+ArrivesAt live None g new = (live ≡ false) × (new ≡ None)
+ArrivesAt live (Some (Live s errand)) g new = (live ≡ true) × (arrival : Arrival) × (u : RunningSession) × Arrives arrival s g u × (new ≡ Some (Live u errand))
+ArrivesAt live (Some (Shadow away)) g new = (live ≡ false) × (new ≡ Some (Shadow away))
 
 -- The live session reads, if it can.
-abbrev pub ReadsAt : Option ReadStep → Place → Place → Type 0
-ReadsAt step Vacant new = (step ≡ None) × (new ≡ Vacant)
-ReadsAt step (Live s order) new = (u : RunningSession) × IsTied s.session × Reads step s u × (new ≡ Live u order)
-ReadsAt step (Shadow away) new = (step ≡ None) × (new ≡ Shadow away)
+abbrev pub ReadsAt : Option ReadStep → Option Place → Option Place → Type 0
+ReadsAt step None new = (step ≡ None) × (new ≡ None)
+ReadsAt step (Some (Live s errand)) new = (u : RunningSession) × IsTied s.session × Reads step s u × (new ≡ Some (Live u errand))
+ReadsAt step (Some (Shadow away)) new = (step ≡ None) × (new ≡ Some (Shadow away))
 
 -- ---- after a message
 
@@ -102,18 +106,18 @@ pub record FollowsStep (old : Fields) (p : ℕ) (s : RunningSession) (step : Rea
   pub sets : OneSet old.due_out p new.due_out
   pub due : DueBy step old.rib.best (table_at old.due_out p) (table_at new.due_out p)
 
--- A session is live at a place, with no stored graft, and what was told on it and what is best is due.
-pub record MakesLive (old : Fields) (p : ℕ) (s : RunningSession) (new : Fields) : Type 0 where
+-- A session is live at a place, with this to be done for its graft, and what was told on it and what is best is due.
+pub record MakesLive (old : Fields) (p : ℕ) (s : RunningSession) (errand : Option Errand) (new : Fields) : Type 0 where
   pub same : new ≡ record old { places = new.places; due_out = new.due_out }
-  pub held : new.places.items ≡ slice_set old.places.items p (Live s None)
+  pub held : new.places ≡ with_place old.places p (Some (Live s errand))
   pub sets : OneSet old.due_out p new.due_out
   pub due : IsDueAgain s.session.told old.rib.best (table_at new.due_out p)
 
--- A session lands: its routes are taken in, and it is live.
-pub record SettlesIn (old : Fields) (s : RunningSession) (new : Fields) : Type 0 where
+-- A session lands in a graft: its routes are taken in, it is live, and its source is to be told.
+pub record SettlesIn (old : Fields) (s : RunningSession) (landed : GraftIds) (new : Fields) : Type 0 where
   pub same : new ≡ record old { places = new.places; rib = new.rib; due_out = new.due_out }
   pub entered : EntersAll (rib_of old.rib) s.session.config.peering.0 (entry_here old.home_as old.policies s.session) (map.keys s.session.heard) (rib_of new.rib)
-  pub held : new.places.items ≡ slice_set old.places.items s.session.config.peering.0 (Live s None)
+  pub held : new.places ≡ with_place old.places s.session.config.peering.0 (Some (Live s (Some (Owing landed))))
   pub sets : OneSet old.due_out s.session.config.peering.0 new.due_out
   pub due : IsDueAgain s.session.told old.rib.best (table_at new.due_out s.session.config.peering.0)
 
@@ -126,11 +130,12 @@ pub record KeepsRest (f : Fields) : Type 0 where
   pub few_routers : f.routers ≤ 256
   pub few_peerings : peerings_in f.known.setup ≤ 256
   pub room : f.room ≡ room_of f.known.setup f.number.0
+  pub reserved : f.places.room ≡ f.room
   pub home_as : f.home_as ≡ f.known.setup.home_as
   pub policies : ArePoliciesOf f.known.setup f.number.0 f.policies
   pub firsts : AreFirstsOf f.known.setup f.firsts
   pub rib : IsRibOf f.known.setup f.number.0 f.rib.config
-  pub places : length f.places.items ≡ peerings_in f.known.setup
+  pub places : length f.places.places ≡ peerings_in f.known.setup
   pub due_in : length f.due_in ≡ routers_in f.known.setup
   pub due_out : length f.due_out ≡ peerings_in f.known.setup
   pub tellings : (q : ℕ) → routers_in f.known.setup ≤ q → (x : PrefixValue) → is_some (map.get ((rib_of f.rib).tellings q) x) ≡ false
@@ -138,45 +143,45 @@ pub record KeepsRest (f : Fields) : Type 0 where
 -- A live session of its peering may have more to read.
 pub record KeepsLive (f : Fields) (p : ℕ) : Type 0 where
   pub session : RunningSession
-  pub order : Option GraftIds
-  pub live : RunsAt f.places.items p session order
+  pub errand : Option Errand
+  pub live : RunsAt f.places.places p session errand
   pub own : IsOfPeering f.known.setup p session.session
-  pub ordered : IsOrderOf f.known.setup f.number.0 p order
+  pub for_graft : IsErrandOf f.known.setup f.number.0 p errand
   pub due : IsDueWhileUp session.session (table_at f.due_out p)
 
 -- The router is sound but that this session may have more to read.
 pub record KeepsBut (p : ℕ) (f : Fields) : Type 0 where
   pub rest : KeepsRest f
   pub here : KeepsLive f p
-  pub others : (q : ℕ) → q ≢ p → KeepsPlace f.known.setup f.number.0 q ((rib_of f.rib).entries q) (table_at f.due_out q) (place_at f.places.items q)
+  pub others : (q : ℕ) → q ≢ p → KeepsPlace f.known.setup f.number.0 q ((rib_of f.rib).entries q) (table_at f.due_out q) (place_at f.places.places q)
 
 -- ---- messages one after another
 
 -- how much a session has that it didn't read
-abbrev pub unread_at : Place → ℕ
-unread_at Vacant = 0
-unread_at (Live s order) = length (unread s.session)
-unread_at (Shadow away) = 0
+abbrev pub unread_at : Option Place → ℕ
+unread_at None = 0
+unread_at (Some (Live s errand)) = length (unread s.session)
+unread_at (Some (Shadow away)) = 0
 
--- The places of other peerings stay, and the session of this one emits nothing and keeps its order.
+-- The places of other peerings stay, and the session of this one emits nothing.
 pub record StaysBut (p : ℕ) (old new : Fields) : Type 0 where
   pub same : new ≡ record old { places = new.places; rib = new.rib; due_out = new.due_out }
-  pub others : (q : ℕ) → q ≢ p → place_at new.places.items q ≡ place_at old.places.items q
-  pub stays : (s u : RunningSession) (o q : Option GraftIds) → RunsAt old.places.items p s o → RunsAt new.places.items p u q → Stays s u
+  pub others : (q : ℕ) → q ≢ p → place_at new.places.places q ≡ place_at old.places.places q
+  pub stays : (s u : RunningSession) (o q : Option Errand) → RunsAt old.places.places p s o → RunsAt new.places.places p u q → Stays s u
 
 -- One message is read, and the router follows it.
 pub record ReadsOne (p : ℕ) (old : Fields) (before : Post (Item RunningSession)) (new : Fields) (after : Post (Item RunningSession)) : Type 0 where
   pub did : (t : ℕ → Tally) → Did old before t (Got p ∷ []) new after t
   pub stays : StaysBut p old new
-  pub less : unread_at (place_at new.places.items p) < unread_at (place_at old.places.items p)
+  pub less : unread_at (place_at new.places.places p) < unread_at (place_at old.places.places p)
   pub keeps : KeepsBut p new
 
 -- There is nothing to read.
 pub record ReadsNone (p : ℕ) (old : Fields) (before : Post (Item RunningSession)) (new : Fields) (after : Post (Item RunningSession)) : Type 0 where
   pub same : new ≡ record old { places = new.places }
-  pub places : new.places.items ≡ old.places.items
+  pub places : new.places ≡ old.places
   pub post : after ≡ before
-  pub none : (s : RunningSession) (o : Option GraftIds) → RunsAt old.places.items p s o → CantRead s.session
+  pub none : (s : RunningSession) (o : Option Errand) → RunsAt old.places.places p s o → CantRead s.session
 
 -- All is read that can be, so that the router is sound.
 pub record ReadsAll (p : ℕ) (old : Fields) (before : Post (Item RunningSession)) (new : Fields) (after : Post (Item RunningSession)) : Type 0 where

@@ -10,14 +10,14 @@ use Rattle.router_core.specs.Updates.{IsStuck, IsUnwritable}
 -- Nothing is due on a live session, unless its next update has no room or can't be written; and nothing is due where no session is.
 abbrev pub IsDone : Setup → ℕ → RouterPart → ℕ → Place → Type 0
 IsDone setup r part p Vacant = part.due_out p ≡ map.empty
-IsDone setup r part p (Live session order) = (part.due_out p ≡ map.empty) ⊎ (((n : ℕ) × IsStuck setup r part p session n) ⊎ IsUnwritable setup r part p session)
+IsDone setup r part p (Live session errand) = (part.due_out p ≡ map.empty) ⊎ (((n : ℕ) × IsStuck setup r part p session n) ⊎ IsUnwritable setup r part p session)
 IsDone setup r part p (Frozen session order) = ⊥
 IsDone setup r part p (Shadow graft) = part.due_out p ≡ map.empty
 
--- A live session has no stored graft, has read all that it can, has emitted all that it may, and owes no answer.
+-- A live session has nothing to be done for a graft of it, has read all that it can, has emitted all that it may, and owes no answer.
 abbrev pub IsQuietPlace : Place → Type 0
 IsQuietPlace Vacant = Unit {0}
-IsQuietPlace (Live session order) = (order ≡ None) × HasReadAll session × IsRested session.end
+IsQuietPlace (Live session errand) = (errand ≡ None) × HasReadAll session × IsRested session.end
 IsQuietPlace (Frozen session order) = ⊥
 IsQuietPlace (Shadow graft) = Unit {0}
 

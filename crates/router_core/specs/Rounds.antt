@@ -10,12 +10,15 @@ use Rattle.session_value.specs.Sessions.{SessionValue}
 use Rattle.tell_plan.specs.declared.batch.Batch.{Batch}
 use Rattle.graft_model.specs.Points.{at}
 use Rattle.graft_model.specs.Setups.{Setup}
-use Rattle.graft_model.specs.Parts.{Place, Vacant, Live, Frozen, Shadow, Order, RouterPart}
+use Rattle.graft_model.specs.Parts.{Place, Vacant, Live, Frozen, Shadow, Errand, RouterPart}
 use Rattle.graft_model.specs.RouterRows.{RouterTaken, RouterSent, IsLive}
 use Rattle.graft_model.specs.Codes.{router_code}
-use Rattle.graft_model.specs.Steps.{RouterEvent, Put, Emit, router_row}
+use Rattle.graft_model.specs.declared.event.RouterEvent.{RouterEvent}
+use Rattle.graft_model.specs.declared.event.RouterEvent.TheVariants.{Put, Emit}
+use Rattle.graft_model.specs.Steps.{router_row}
 use Rattle.graft_runs.specs.Makes.{HasCode}
 use Rattle.graft_actors.specs.Acts.{acts}
+use Rattle.graft_actors.specs.Notes.{WroteOne}
 use Rattle.graft_actors.specs.Emissions.{IsCareful, Tally, counted}
 use Rattle.router_core.specs.Parts.{router_part, own_part, carried}
 use Rattle.router_core.specs.Updates.{IsNextUpdate}
@@ -26,15 +29,15 @@ use Rattle.router_core.specs.declared.fields.Fields.{Fields}
 -- the session that is live there emits an old slice, a new one or an owed answer
 pub record EmitsCarefully (part : RouterPart) (p from len : ℕ) : Type 0 where
   pub session : SessionValue
-  pub order : Option Order
-  pub live : IsLive part p session order
+  pub errand : Option Errand
+  pub live : IsLive part p session errand
   pub careful : IsCareful session.end from len
 
 -- so many prefixes are those of the next update of the session that is live there
 pub record PutsNext (setup : Setup) (r : ℕ) (part : RouterPart) (p n : ℕ) : Type 0 where
   pub session : SessionValue
-  pub order : Option Order
-  pub live : IsLive part p session order
+  pub errand : Option Errand
+  pub live : IsLive part p session errand
   pub batch : Batch
   pub next : IsNextUpdate setup r part p session batch
   pub size : length batch.prefixes ≡ n
@@ -47,13 +50,17 @@ CarefulRouter setup r part event = Unit {0}
 -- what is emitted from a place is counted
 abbrev pub tally_at : Place → ℕ → ℕ → Tally → Tally
 tally_at Vacant from len t = t
-tally_at (Live session order) from len t = counted session.end from len t
+tally_at (Live session errand) from len t = counted session.end from len t
 tally_at (Frozen session order) from len t = t
 tally_at (Shadow graft) from len t = t
 
 abbrev pub router_tally : RouterPart → RouterEvent → (ℕ → Tally) → ℕ → Tally
 router_tally part (Emit p from len) t = at t p (tally_at (part.places p) from len (t p))
 router_tally part event t = t
+
+-- the next event is written, whatever it takes
+abbrev pub Writes : Post (Item RunningSession) → RouterEvent → List (ℕ × Item RunningSession) → Post (Item RunningSession) → Type 0
+Writes before event sent after = WroteOne before (router_code event) sent after
 
 -- ---- events of a part, one after another
 

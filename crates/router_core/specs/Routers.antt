@@ -2,7 +2,7 @@
 use Rattle.std.specs.Prelude.{ℕ, ◌≡◌, List, Option, false}
 use Rattle.ring_net.specs.Deeds.{Deed}
 use Rattle.graft_steps.specs.declared.item.Item.{Item}
-use Rattle.graft_steps.specs.declared.order.GraftIds.{GraftIds}
+use Rattle.router_core.specs.declared.place.Errand.{Errand}
 use Rattle.bgp_session.specs.Running.{RunningSession}
 use Rattle.graft_model.specs.Setups.{Setup}
 use Rattle.graft_model.specs.Parts.{RouterPart}
@@ -40,4 +40,4 @@ turned old deeds new = Turned old.fields deeds new.fields × Works new
 
 -- a running session is live at the place for a peering
 abbrev pub IsHeldAt : routers.Router.Router → ℕ → RunningSession → Type 0
-IsHeldAt router p s = (o : Option GraftIds) × RunsAt router.fields.places.items p s o
+IsHeldAt router p s = (o : Option Errand) × RunsAt router.fields.places.places p s o

@@ -1,5 +1,5 @@
 -- Segments that the sessions at places emit.
-use Rattle.std.specs.Prelude.{ℕ, ◌≡◌, ◌⊎◌, ◌<◌, ◌≤◌, ◌+◌, ◌↔◌, true, length, Option, None, IsNone, IfNone, IsSome}
+use Rattle.std.specs.Prelude.{ℕ, ◌≡◌, ◌⊎◌, ◌<◌, ◌≤◌, ◌+◌, ◌↔◌, true, length, Option, None, IsNone, IfNone, IsSome, Some}
 use Rattle.tcp_seq.specs.declared.segment.Segment.{Segment}
 use Rattle.tcp_seq.specs.Endpoint.{EmitsNext, EmitsAgain, EmitsAnswer, EmitsSlice, again_length, next_length}
 use Rattle.bgp_session.specs.Running.{RunningSession}
@@ -9,14 +9,14 @@ use Rattle.graft_actors.specs.Items.{home_first}
 use Rattle.graft_model.specs.Setups.{routers_in}
 use Rattle.router_core.specs.declared.fields.Fields.{Fields}
 use Rattle.router_core.specs.declared.place.Place.{Place}
-use Rattle.router_core.specs.declared.place.Place.TheVariants.{Vacant, Live, Shadow}
+use Rattle.router_core.specs.declared.place.Place.TheVariants.{Live, Shadow}
 use Rattle.router_core.specs.declared.stages.send.Outlet.{Outlet}
 
 -- What the session that is live at a place does, with its answer. Where none is there is no answer.
-abbrev pub AtPlace : {A : Type 0} → (RunningSession → Option A → RunningSession → Type 0) → Place → Option A → Place → Type 0
-AtPlace Does Vacant answer new = (answer ≡ None) × (new ≡ Vacant)
-AtPlace Does (Live s order) answer new = (u : RunningSession) × (new ≡ Live u order) × Does s answer u
-AtPlace Does (Shadow away) answer new = (answer ≡ None) × (new ≡ Shadow away)
+abbrev pub AtPlace : {A : Type 0} → (RunningSession → Option A → RunningSession → Type 0) → Option Place → Option A → Option Place → Type 0
+AtPlace Does None answer new = (answer ≡ None) × (new ≡ None)
+AtPlace Does (Some (Live s errand)) answer new = (u : RunningSession) × (new ≡ Some (Live u errand)) × Does s answer u
+AtPlace Does (Some (Shadow away)) answer new = (answer ≡ None) × (new ≡ Some (Shadow away))
 
 -- the retransmission turn
 pub record SentAgain (s : RunningSession) (answer : Option Segment) (u : RunningSession) : Type 0 where

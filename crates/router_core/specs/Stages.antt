@@ -1,13 +1,13 @@
--- The stages of a router's turn, in their order: segments are sent again, rounds pass, grafts begin, prefixes are decided, routers and sessions are told, and all is
--- emitted that may be.
-use Rattle.std.specs.Prelude.{ℕ, ◌≡◌, ◌⊎◌, ◌+◌, nat_lt, if◌then◌else◌, false, List, [], ◌∷◌, Some, None}
+-- The stages of a router's turn, in their order: segments are sent again, rounds pass, grafts begin, prefixes are decided, routers are told, then the sources of sessions
+-- that have landed, then the sessions, and all is emitted that may be.
+use Rattle.std.specs.Prelude.{ℕ, ◌≡◌, ◌⊎◌, ◌+◌, nat_lt, if◌then◌else◌, false, List, [], ◌∷◌, Some, None, Option}
 use Rattle.std.specs.FinMap as map
 use Rattle.ring_net.specs.declared.post.Post.{Post}
 use Rattle.tcp_seq.specs.Endpoint.{again_length}
 use Rattle.graft_steps.specs.declared.item.Item.{Item}
 use Rattle.bgp_session.specs.Running.{RunningSession}
 use Rattle.bgp_session.specs.Steps.{MayPass}
-use Rattle.graft_model.specs.Steps.{RouterEvent}
+use Rattle.graft_model.specs.declared.event.RouterEvent.{RouterEvent}
 use Rattle.graft_actors.specs.Emissions.{Tally, reach_of}
 use Rattle.router_core.specs.Parts.{router_part, Keeps}
 use Rattle.router_core.specs.Places.{place_at}
@@ -15,23 +15,33 @@ use Rattle.router_core.specs.Rested.{IsDone}
 use Rattle.router_core.specs.Rounds.{Did}
 use Rattle.router_core.specs.Turned.{NoPuts, NoRounds, rounds_on}
 use Rattle.router_core.specs.declared.fields.Fields.{Fields}
+use Rattle.router_core.specs.declared.place.Errand.TheVariants.{Leaving, Owing}
 use Rattle.router_core.specs.declared.place.Place.{Place}
-use Rattle.router_core.specs.declared.place.Place.TheVariants.{Vacant, Live, Shadow}
+use Rattle.router_core.specs.declared.place.Place.TheVariants.{Live, Shadow}
 
 -- ---- how places change
 
 -- A place stays what it is, but that its session may become another one.
-abbrev pub PlaceGoes : (RunningSession → RunningSession → Type 0) → Place → Place → Type 0
-PlaceGoes Becomes Vacant new = new ≡ Vacant
-PlaceGoes Becomes (Live s order) new = (u : RunningSession) × (new ≡ Live u order) × Becomes s u
-PlaceGoes Becomes (Shadow away) new = new ≡ Shadow away
+abbrev pub PlaceGoes : (RunningSession → RunningSession → Type 0) → Option Place → Option Place → Type 0
+PlaceGoes Becomes None new = new ≡ None
+PlaceGoes Becomes (Some (Live s errand)) new = (u : RunningSession) × (new ≡ Some (Live u errand)) × Becomes s u
+PlaceGoes Becomes (Some (Shadow away)) new = new ≡ Some (Shadow away)
 
 -- A stored graft is refused, and the session stays; or the session leaves in it. All else stays.
-abbrev pub GraftGoes : Place → Place → Type 0
-GraftGoes Vacant new = new ≡ Vacant
-GraftGoes (Live s None) new = new ≡ Live s None
-GraftGoes (Live s (Some ids)) new = (new ≡ Live s None) ⊎ (new ≡ Shadow ids)
-GraftGoes (Shadow away) new = new ≡ Shadow away
+abbrev pub GraftGoes : Option Place → Option Place → Type 0
+GraftGoes None new = new ≡ None
+GraftGoes (Some (Live s None)) new = new ≡ Some (Live s None)
+GraftGoes (Some (Live s (Some (Leaving ids)))) new = (new ≡ Some (Live s None)) ⊎ (new ≡ Some (Shadow ids))
+GraftGoes (Some (Live s (Some (Owing ids)))) new = new ≡ Some (Live s (Some (Owing ids)))
+GraftGoes (Some (Shadow away)) new = new ≡ Some (Shadow away)
+
+-- The source of a session that has landed is told, and nothing more is to be done for its graft. All else stays.
+abbrev pub WordGoes : Option Place → Option Place → Type 0
+WordGoes None new = new ≡ None
+WordGoes (Some (Live s None)) new = new ≡ Some (Live s None)
+WordGoes (Some (Live s (Some (Leaving ids)))) new = new ≡ Some (Live s (Some (Leaving ids)))
+WordGoes (Some (Live s (Some (Owing ids)))) new = new ≡ Some (Live s None)
+WordGoes (Some (Shadow away)) new = new ≡ Some (Shadow away)
 
 -- A session has put more, and all else of its endpoint stays.
 pub record PutsMore (s u : RunningSession) : Type 0 where
@@ -54,21 +64,21 @@ PassesWhereItMay round rounds s u = PutsMore s u
 -- ---- the tallies
 
 -- whether the first outstanding bytes of a session are sent again
-abbrev pub again_at : Place → ℕ
-again_at Vacant = 0
-again_at (Live s order) = if nat_lt s.acked_at_turn s.session.end.acked then 0 else (if nat_lt 0 (again_length s.session.end) then 1 else 0)
-again_at (Shadow away) = 0
+abbrev pub again_at : Option Place → ℕ
+again_at None = 0
+again_at (Some (Live s errand)) = if nat_lt s.acked_at_turn s.session.end.acked then 0 else (if nat_lt 0 (again_length s.session.end) then 1 else 0)
+again_at (Some (Shadow away)) = 0
 
-abbrev pub answer_at : Place → ℕ
-answer_at Vacant = 0
-answer_at (Live s order) = if s.session.end.owed then 1 else 0
-answer_at (Shadow away) = 0
+abbrev pub answer_at : Option Place → ℕ
+answer_at None = 0
+answer_at (Some (Live s errand)) = if s.session.end.owed then 1 else 0
+answer_at (Some (Shadow away)) = 0
 
 abbrev pub with_again : Fields → (ℕ → Tally) → ℕ → Tally
-with_again f t p = record (t p) { again = (t p).again + again_at (place_at f.places.items p) }
+with_again f t p = record (t p) { again = (t p).again + again_at (place_at f.places.places p) }
 
 abbrev pub with_answers : Fields → (ℕ → Tally) → ℕ → Tally
-with_answers f t p = record (t p) { answers = (t p).answers + answer_at (place_at f.places.items p) }
+with_answers f t p = record (t p) { answers = (t p).answers + answer_at (place_at f.places.places p) }
 
 -- ---- the stages
 
@@ -77,7 +87,7 @@ pub record SendsAgain (old : Fields) (before : Post (Item RunningSession)) (new 
   pub did : (t : ℕ → Tally) → Did old before t events new after (with_again old t)
   pub no_puts : NoPuts events
   pub no_rounds : NoRounds events
-  pub places : (p : ℕ) → PlaceGoes IsLevel (place_at old.places.items p) (place_at new.places.items p)
+  pub places : (p : ℕ) → PlaceGoes IsLevel (place_at old.places.places p) (place_at new.places.places p)
   pub same : new ≡ record old { places = new.places }
   pub keeps : Keeps new
 
@@ -85,7 +95,7 @@ pub record PassesRounds (old : Fields) (before : Post (Item RunningSession)) (ne
   pub events : List RouterEvent
   pub did : (t : ℕ → Tally) → Did old before t events new after t
   pub no_puts : NoPuts events
-  pub places : (p : ℕ) → PlaceGoes (PassesWhereItMay old.turns (rounds_on p events)) (place_at old.places.items p) (place_at new.places.items p)
+  pub places : (p : ℕ) → PlaceGoes (PassesWhereItMay old.turns (rounds_on p events)) (place_at old.places.places p) (place_at new.places.places p)
   pub same : new ≡ record old { places = new.places; rib = new.rib; due_out = new.due_out }
   pub keeps : Keeps new
 
@@ -93,7 +103,7 @@ pub record BeginsGrafts (old : Fields) (before : Post (Item RunningSession)) (ne
   pub events : List RouterEvent
   pub did : (t : ℕ → Tally) → Did old before t events new after t
   pub no_rounds : NoRounds events
-  pub places : (p : ℕ) → GraftGoes (place_at old.places.items p) (place_at new.places.items p)
+  pub places : (p : ℕ) → GraftGoes (place_at old.places.places p) (place_at new.places.places p)
   pub same : new ≡ record old { places = new.places; due_out = new.due_out }
   pub keeps : Keeps new
 
@@ -113,12 +123,20 @@ pub record TellsAll (old : Fields) (before : Post (Item RunningSession)) (new : 
   pub same : new ≡ record old { due_in = new.due_in }
   pub keeps : Keeps new
 
+pub record ConfirmsAll (old : Fields) (before : Post (Item RunningSession)) (new : Fields) (after : Post (Item RunningSession)) : Type 0 where
+  pub events : List RouterEvent
+  pub did : (t : ℕ → Tally) → Did old before t events new after t
+  pub no_rounds : NoRounds events
+  pub places : (p : ℕ) → WordGoes (place_at old.places.places p) (place_at new.places.places p)
+  pub same : new ≡ record old { places = new.places }
+  pub keeps : Keeps new
+
 -- On each session all is put that is to be told, or its next update has no room or can't be written.
 pub record PutsAll (old : Fields) (before : Post (Item RunningSession)) (new : Fields) (after : Post (Item RunningSession)) : Type 0 where
   pub events : List RouterEvent
   pub did : (t : ℕ → Tally) → Did old before t events new after t
   pub no_rounds : NoRounds events
-  pub places : (p : ℕ) → PlaceGoes PutsMore (place_at old.places.items p) (place_at new.places.items p)
+  pub places : (p : ℕ) → PlaceGoes PutsMore (place_at old.places.places p) (place_at new.places.places p)
   pub done : (p : ℕ) → IsDone old.known.setup old.number.0 (router_part new) p ((router_part new).places p)
   pub same : new ≡ record old { places = new.places; due_out = new.due_out }
   pub keeps : Keeps new
@@ -127,6 +145,6 @@ pub record Emits (old : Fields) (before : Post (Item RunningSession)) (new : Fie
   pub events : List RouterEvent
   pub did : (t : ℕ → Tally) → Did old before t events new after (with_answers old t)
   pub no_rounds : NoRounds events
-  pub places : (p : ℕ) → PlaceGoes EmitsAll (place_at old.places.items p) (place_at new.places.items p)
+  pub places : (p : ℕ) → PlaceGoes EmitsAll (place_at old.places.places p) (place_at new.places.places p)
   pub same : new ≡ record old { places = new.places }
   pub keeps : Keeps new

@@ -5,9 +5,9 @@ use Rattle.ring_net.specs.Posts.{TookItem}
 use Rattle.ring_net.specs.declared.post.Post.{Post}
 use Rattle.graft_steps.specs.declared.item.Item.{Item}
 use Rattle.graft_steps.specs.declared.item.Item.TheVariants as items
-use Rattle.graft_steps.specs.declared.order.GraftIds.{GraftIds}
+use Rattle.router_core.specs.declared.place.Errand.{Errand}
 use Rattle.bgp_session.specs.Running.{RunningSession}
-use Rattle.graft_model.specs.Steps.{RouterEvent}
+use Rattle.graft_model.specs.declared.event.RouterEvent.{RouterEvent}
 use Rattle.graft_actors.specs.Acts.{acts, IsWelcome}
 use Rattle.graft_actors.specs.Emissions.{Tally}
 use Rattle.router_core.specs.Parts.{router_part, own_part, carried, Keeps}
@@ -29,7 +29,7 @@ pub record TakesRows (old : Fields) (deeds : List (Deed (Item RunningSession))) 
   pub round : (t : ℕ → Tally) → RouterRound old.known.setup old.number.0 (router_part old) t events (router_part new) t
   pub no_rounds : NoRounds events
   pub no_puts : NoPuts events
-  pub stays : (p : ℕ) (s u : RunningSession) (o q : Option GraftIds) → RunsAt old.places.items p s o → RunsAt new.places.items p u q → Stays s u
+  pub stays : (p : ℕ) (s u : RunningSession) (o q : Option Errand) → RunsAt old.places.places p s o → RunsAt new.places.places p u q → Stays s u
 
 pub record Took (old : Fields) (from : ℕ) (item : Item RunningSession) (deeds : List (Deed (Item RunningSession))) (new : Fields) : Type 0 where
   pub router : SameRouter old new

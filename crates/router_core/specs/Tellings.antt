@@ -7,7 +7,8 @@ use Rattle.graft_steps.specs.declared.item.Item.{Item}
 use Rattle.bgp_session.specs.Running.{RunningSession}
 use Rattle.rib_stages.specs.Values.{table_at}
 use Rattle.graft_model.specs.Points.{at}
-use Rattle.graft_model.specs.Steps.{RouterEvent, Tell}
+use Rattle.graft_model.specs.declared.event.RouterEvent.{RouterEvent}
+use Rattle.graft_model.specs.declared.event.RouterEvent.TheVariants.{Tell}
 use Rattle.graft_actors.specs.Emissions.{Tally}
 use Rattle.router_core.specs.Parts.{Keeps}
 use Rattle.router_core.specs.Rounds.{Did}

@@ -5,10 +5,11 @@ use Rattle.ring_net.specs.Deeds.{Deed}
 use Rattle.ring_net.specs.Posts.{Moved}
 use Rattle.ring_net.specs.declared.post.Post.{Post}
 use Rattle.graft_steps.specs.declared.item.Item.{Item}
-use Rattle.graft_steps.specs.declared.order.GraftIds.{GraftIds}
+use Rattle.router_core.specs.declared.place.Errand.{Errand}
 use Rattle.bgp_session.specs.Running.{RunningSession}
 use Rattle.bgp_session.specs.Steps.{MayPass}
-use Rattle.graft_model.specs.Steps.{RouterEvent, Put, Tick}
+use Rattle.graft_model.specs.declared.event.RouterEvent.{RouterEvent}
+use Rattle.graft_model.specs.declared.event.RouterEvent.TheVariants.{Put, Tick}
 use Rattle.graft_actors.specs.Emissions.{Tally, nothing}
 use Rattle.graft_actors.specs.Acts.{acts}
 use Rattle.router_core.specs.Parts.{router_part, own_part, carried, Keeps}
@@ -65,9 +66,9 @@ pub record Turned (old : Fields) (deeds : List (Deed (Item RunningSession))) (ne
   pub rested : RestedRouter old.known.setup old.number.0 (router_part new)
   pub few : (p : ℕ) → ((tally p).again ≤ 1) × ((tally p).answers ≤ 1)
   -- one round passes on each session that runs at the start, where one may, and else none
-  pub passes : (p : ℕ) (s : RunningSession) (o : Option GraftIds) → RunsAt old.places.items p s o
+  pub passes : (p : ℕ) (s : RunningSession) (o : Option Errand) → RunsAt old.places.places p s o
       → (MayPass s.session new.turns × (rounds_on p events ≡ new.turns ∷ [])) ⊎ ((¬ MayPass s.session new.turns) × (rounds_on p events ≡ []))
-  pub sessions : (p : ℕ) (s u : RunningSession) (o q : Option GraftIds) → RunsAt old.places.items p s o → RunsAt new.places.items p u q → TurnsSession new.turns p events (tally p) s u
+  pub sessions : (p : ℕ) (s u : RunningSession) (o q : Option Errand) → RunsAt old.places.places p s o → RunsAt new.places.places p u q → TurnsSession new.turns p events (tally p) s u
 
 -- a turn, after which the router is sound
 pub record TurnsOnce (old : Fields) (before : Post (Item RunningSession)) (new : Fields) (after : Post (Item RunningSession)) : Type 0 where

@@ -9,7 +9,7 @@ use Rattle.session_value.specs.Cases.{update_for}
 use Rattle.tell_plan.specs.Plans.{IsNext, IsWritableFor}
 use Rattle.tell_plan.specs.declared.batch.Batch.{Batch}
 use Rattle.graft_model.specs.Setups.{Setup}
-use Rattle.graft_model.specs.Parts.{RouterPart, Order}
+use Rattle.graft_model.specs.Parts.{RouterPart, Errand}
 use Rattle.graft_model.specs.RouterRows.{IsLive, IsToTell}
 use Rattle.graft_model.specs.Decisions.{to_tell}
 
@@ -49,8 +49,8 @@ pub record IsUnwritable (setup : Setup) (r : ℕ) (part : RouterPart) (p : ℕ) 
 -- the next update of the live session of a peering has no room: it would take what was put to this length
 pub record HasNoRoomAt (setup : Setup) (r : ℕ) (part : RouterPart) (p n : ℕ) : Type 0 where
   pub session : SessionValue
-  pub order : Option Order
-  pub live : IsLive part p session order
+  pub errand : Option Errand
+  pub live : IsLive part p session errand
   pub stuck : IsStuck setup r part p session n
 
 abbrev pub RoomAnswer : Setup → ℕ → RouterPart → ℕ → Option ℕ → Type 0
@@ -60,8 +60,8 @@ RoomAnswer setup r part p (Some n) = HasNoRoomAt setup r part p n
 -- The live session of a peering is stuck at a length: its next update has no room; or else no round may pass on it.
 pub record IsStuckAt (setup : Setup) (r : ℕ) (part : RouterPart) (p n : ℕ) : Type 0 where
   pub session : SessionValue
-  pub order : Option Order
-  pub live : IsLive part p session order
+  pub errand : Option Errand
+  pub live : IsLive part p session errand
   pub stuck : IsStuck setup r part p session n ⊎ (((m : ℕ) → ¬ IsStuck setup r part p session m) × IsStuckInTime session n)
 
 -- the lowest peering whose session is stuck, and the length

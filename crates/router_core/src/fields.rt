@@ -7,6 +7,7 @@ use bgp_types::Items;
 use graft_actors::Known;
 use graft_edge::RouterId;
 use rib_stages::Rib;
+use session_places::Places;
 use std::alloc::Global;
 
 /// The fields of a router.
@@ -25,7 +26,7 @@ pub struct Fields {
     pub(crate) firsts: Items<Firsts>,
     pub(crate) rib: Rib,
     /// The place for each peering.
-    pub(crate) places: Vec<Place>,
+    pub(crate) places: Places<Place>,
     /// What is due to be told to each router, and on each peering.
     pub(crate) due_in: DueSets,
     pub(crate) due_out: DueSets,

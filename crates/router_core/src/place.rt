@@ -1,25 +1,34 @@
-//! A router's place for the session of a peering.
+//! A router's places for the sessions of the peerings.
 
 ghost use Rattle.std.specs.Prelude.{◌≡◌, ◌≢◌, ◌++◌, Some, None, MatchBool, IfOk, OnOk};
 ghost use Rattle.bgp_session.specs.Running.{RunningSession};
-ghost use Rattle.router_core.specs.Places.{IsFree, IsAway, session_in, sessions_in};
+ghost use Rattle.session_places.specs.Places.{with_place};
+ghost use Rattle.router_core.specs.Places.{AtOne, IsFree, IsAway, place_at, session_in, sessions_in};
 ghost use Rattle.router_core.specs.Reading.{ArrivesAt, FitsPlace, ReadsAt};
 
 use bgp_session::{ReadStep, Session};
 use graft_edge::{Items, NoMemory};
-use graft_steps::{Away, Ordered};
+use graft_steps::{Away, Landed, Ordered};
+use session_places::Places;
 use std::alloc::Global;
 use tcp_seq::Segment;
 
-/// A router's place for the session of a peering. A session that moves is taken out of one router's place and put into another's: no call of it takes memory.
+/// What is still to be done for a graft whose session is live here.
+#[derive(Drop)]
+pub(crate) enum Errand {
+    /// The session is to go to another router, as it was ordered.
+    Leaving(Ordered),
+    /// The session has landed here, and its source is to be told.
+    Owing(Landed),
+}
+
+/// What is at a router's place for the session of a peering. A session that moves is taken out of one router's place and put into another's: no call of it takes memory.
 #[derive(Drop)]
 pub(crate) enum Place {
-    /// Nothing is there.
-    Vacant,
-    /// The session, and the graft that is stored for it.
+    /// The session, and what is to be done for its graft.
     Live {
         session: Session,
-        order: Option<Ordered>,
+        errand: Option<Errand>,
     },
     /// The session has left in a graft. Its routes stay candidates until the graft has ended.
     Shadow {
@@ -28,86 +37,131 @@ pub(crate) enum Place {
 }
 
 impl Place {
-    /// Whether nothing is there.
-    pub(crate) fn is_vacant(&self) -> bool
-        ensures { MatchBool result (self.now ≡ Place.Vacant) (self.now ≢ Place.Vacant) }
+    /// Stores a graft with the session, for which nothing is to be done.
+    fn store(&mut self, ordered: Ordered)
+        ensures { (s : RunningSession) → self.old ≡ Place.Live s None → self.new ≡ Place.Live s (Some (Errand.Leaving ordered)) }
     {
-        matches!(self, Place::Vacant)
-    }
-
-    /// Whether a session is live there, with no stored graft.
-    pub(crate) fn is_free(&self) -> bool
-        ensures { MatchBool result (IsFree self.now) (¬ IsFree self.now) }
-    {
-        match self {
-            Place::Live { order, .. } => order.is_none(),
-            Place::Vacant | Place::Shadow { .. } => false,
+        if let Place::Live { errand, .. } = self {
+            *errand = Some(Errand::Leaving(ordered));
         }
     }
 
-    /// Whether a session has left there in this graft.
-    pub(crate) fn is_away(&self, graft: u32) -> bool
-        ensures { MatchBool result (IsAway self.now graft) (¬ IsAway self.now graft) }
+    /// A session is live there, and nothing is to be done for a graft of it.
+    pub(crate) fn set_live(&mut self, session: Session)
+        ensures { self.new ≡ Place.Live session None }
     {
-        match self {
-            Place::Shadow { away } => away.ids().graft == graft,
-            Place::Vacant | Place::Live { .. } => false,
-        }
-    }
-
-    /// Stores a graft with the session, which has none.
-    pub(crate) fn store(&mut self, ordered: Ordered)
-        ensures { (s : RunningSession) → self.old ≡ Place.Live s None → self.new ≡ Place.Live s (Some ordered) }
-    {
-        if let Place::Live { order, .. } = self {
-            *order = Some(ordered);
-        }
+        *self = Place::Live {
+            session,
+            errand: None,
+        };
     }
 
     /// A segment arrives at the session, if one is live there. It answers whether one is.
-    pub(crate) fn arrive(&mut self, segment: &Segment) -> Result<bool, NoMemory>
-        requires { FitsPlace self.old segment.now }
-        ensures { IfOk result (λ live. ArrivesAt live self.old segment.now self.new) }
+    fn arrive(&mut self, segment: &Segment) -> Result<bool, NoMemory>
+        requires { FitsPlace (Some self.old) segment.now }
+        ensures { IfOk result (λ live. ArrivesAt live (Some self.old) segment.now (Some self.new)) }
     {
         match self {
             Place::Live { session, .. } => {
                 session.arrive(segment)?;
                 Ok(true)
             }
-            Place::Vacant | Place::Shadow { .. } => Ok(false),
+            Place::Shadow { .. } => Ok(false),
         }
     }
 
     /// The session reads one message, if one is live there and can.
-    pub(crate) fn read(&mut self) -> Result<Option<ReadStep>, NoMemory>
-        ensures { IfOk result (λ step. ReadsAt step self.old self.new) }
+    fn read(&mut self) -> Result<Option<ReadStep>, NoMemory>
+        ensures { IfOk result (λ step. ReadsAt step (Some self.old) (Some self.new)) }
     {
         match self {
             Place::Live { session, .. } => {
                 let _story = session.story();
                 session.read()
             }
-            Place::Vacant | Place::Shadow { .. } => Ok(None),
+            Place::Shadow { .. } => Ok(None),
         }
+    }
+}
+
+/// Whether nothing is at a place.
+pub(crate) fn is_vacant(places: &Places<Place>, n: usize) -> bool
+    ensures { MatchBool result (place_at places.now.places n ≡ None) (place_at places.now.places n ≢ None) }
+{
+    places.get(n).is_none()
+}
+
+/// Whether a session is live at a place, and nothing is to be done for a graft of it.
+pub(crate) fn is_free(places: &Places<Place>, n: usize) -> bool
+    ensures { MatchBool result (IsFree (place_at places.now.places n)) (¬ IsFree (place_at places.now.places n)) }
+{
+    match places.get(n) {
+        Some(Place::Live { errand, .. }) => errand.is_none(),
+        Some(Place::Shadow { .. }) | None => false,
+    }
+}
+
+/// Whether a session has left a place in this graft.
+pub(crate) fn is_away(places: &Places<Place>, n: usize, graft: u32) -> bool
+    ensures { MatchBool result (IsAway (place_at places.now.places n) graft) (¬ IsAway (place_at places.now.places n) graft) }
+{
+    match places.get(n) {
+        Some(Place::Shadow { away }) => away.ids().graft == graft,
+        Some(Place::Live { .. }) | None => false,
+    }
+}
+
+/// Stores a graft with the session at a place, for which nothing is to be done.
+pub(crate) fn store(places: &mut Places<Place>, n: usize, ordered: Ordered)
+    ensures { (s : RunningSession) → place_at places.old.places n ≡ Some (Place.Live s None)
+        → places.new ≡ with_place places.old n (Some (Place.Live s (Some (Errand.Leaving ordered)))) }
+{
+    if let Some(place) = places.get_mut(n) {
+        place.store(ordered);
+    }
+}
+
+/// A segment arrives at the session of a place, if one is live there. It answers whether one is.
+pub(crate) fn arrive(
+    places: &mut Places<Place>,
+    n: usize,
+    segment: &Segment,
+) -> Result<bool, NoMemory>
+    requires { FitsPlace (place_at places.old.places n) segment.now }
+    ensures { IfOk result (λ live. AtOne (λ old new. ArrivesAt live old segment.now new) places.old n places.new) }
+{
+    match places.get_mut(n) {
+        Some(place) => place.arrive(segment),
+        None => Ok(false),
+    }
+}
+
+/// The session of a place reads one message, if one is live there and can.
+pub(crate) fn read(places: &mut Places<Place>, n: usize) -> Result<Option<ReadStep>, NoMemory>
+    ensures { IfOk result (λ step. AtOne (ReadsAt step) places.old n places.new) }
+{
+    match places.get_mut(n) {
+        Some(place) => place.read(),
+        None => Ok(None),
     }
 }
 
 /// Adds the session of a place, if one is held there.
 fn push_session(sessions: &mut Items<Session>, place: Place) -> Result<(), NoMemory>
-    ensures { OnOk result (sessions.new ≡ sessions.old ++ session_in place) }
+    ensures { OnOk result (sessions.new ≡ sessions.old ++ session_in (Some place)) }
 {
     match place {
         Place::Live { session, .. } => sessions.push(session),
-        Place::Vacant | Place::Shadow { .. } => Ok(()),
+        Place::Shadow { .. } => Ok(()),
     }
 }
 
 /// The sessions that are held at places, in the order of the places.
-pub(crate) fn sessions_of(alloc: Global, places: Vec<Place>) -> Result<Items<Session>, NoMemory>
-    ensures { IfOk result (λ sessions. sessions ≡ sessions_in places.items) }
+pub(crate) fn sessions_of(alloc: Global, places: Places<Place>) -> Result<Items<Session>, NoMemory>
+    ensures { IfOk result (λ sessions. sessions ≡ sessions_in places.places) }
 {
     let mut sessions = Items::new(alloc);
-    for place in places {
+    for place in places.into_values(alloc)?.into_vec() {
         push_session(&mut sessions, place)?;
     }
     Ok(sessions)

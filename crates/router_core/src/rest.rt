@@ -2,17 +2,19 @@
 
 ghost use Rattle.std.specs.Prelude.{ℕ, ◌≡◌, ◌≤◌, Option, Some, None, length, min, option_map, MatchBool};
 ghost use Rattle.rib_stages.specs.Values.{table_at};
+ghost use Rattle.graft_model.specs.Parts.{graft_of as graft_of_lem};
 ghost use Rattle.settled_check.specs.Firsts.{IsLowestOf};
 ghost use Rattle.settled_check.specs.Left.{HasSome, HasStream, graft_at as graft_lem};
 ghost use Rattle.settled_check.specs.Rests.{IsRouterRest};
 ghost use Rattle.router_core.specs.Parts.{Keeps, router_part};
-ghost use Rattle.router_core.specs.Places.{lower_of, place_at, place_of};
+ghost use Rattle.router_core.specs.Places.{errand_of, lower_of, place_at, place_of};
 
 use crate::due::DueSets;
 use crate::fields::Fields;
-use crate::place::Place;
+use crate::place::{Errand, Place};
 use graft_edge::{PeeringId, RouterId};
 use graft_steps::RouterRest;
+use session_places::Places;
 
 /// The lowest number for which something is due.
 fn first_due(due: &DueSets) -> Option<u8>
@@ -27,14 +29,23 @@ fn first_due(due: &DueSets) -> Option<u8>
     None
 }
 
-/// The graft at a place.
-fn graft_at(place: &Place) -> Option<u32>
-    ensures { result ≡ graft_lem (place_of place.now) }
+/// The graft of which something is to be done.
+fn graft_of(errand: &Errand) -> u32
+    ensures { result ≡ graft_of_lem (errand_of errand.now) }
 {
-    match place {
-        Place::Vacant => None,
-        Place::Live { order, .. } => match order {
-            Some(order) => Some(order.ids().graft),
+    match errand {
+        Errand::Leaving(order) => order.ids().graft,
+        Errand::Owing(landed) => landed.ids().graft,
+    }
+}
+
+/// The graft at a place.
+fn graft_at(places: &Places<Place>, n: usize) -> Option<u32>
+    ensures { result ≡ graft_lem (place_of (place_at places.now.places n)) }
+{
+    match places.get(n)? {
+        Place::Live { errand, .. } => match errand {
+            Some(errand) => Some(graft_of(errand)),
             None => None,
         },
         Place::Shadow { away } => Some(away.ids().graft),
@@ -53,33 +64,33 @@ fn lower(one: Option<u32>, other: Option<u32>) -> Option<u32>
 }
 
 /// The lowest number of a graft at one of the places.
-fn lowest_graft(places: &[Place]) -> Option<u32>
-    ensures { IsLowestOf (λ k. (p : ℕ) × (graft_lem (place_of (place_at places.now p)) ≡ Some k)) result }
+fn lowest_graft(places: &Places<Place>) -> Option<u32>
+    ensures { IsLowestOf (λ k. (p : ℕ) × (graft_lem (place_of (place_at places.now.places p)) ≡ Some k)) result }
 {
     let mut lowest = None;
-    for place in places {
-        lowest = lower(lowest, graft_at(place));
+    for n in 0..places.len() {
+        lowest = lower(lowest, graft_at(places, n));
     }
     lowest
 }
 
 /// Whether bytes of a session aren't acknowledged, or it has something to read.
-fn has_stream(place: &Place) -> bool
-    ensures { MatchBool result (HasStream (place_of place.now)) (¬ HasStream (place_of place.now)) }
+fn has_stream(places: &Places<Place>, n: usize) -> bool
+    ensures { MatchBool result (HasStream (place_of (place_at places.now.places n))) (¬ HasStream (place_of (place_at places.now.places n))) }
 {
-    match place {
-        Place::Live { session, .. } => !session.all_acked() || session.frame_waits(),
-        Place::Vacant | Place::Shadow { .. } => false,
+    match places.get(n) {
+        Some(Place::Live { session, .. }) => !session.all_acked() || session.frame_waits(),
+        Some(Place::Shadow { .. }) | None => false,
     }
 }
 
 /// The lowest peering with such a session.
-fn first_stream(places: &[Place]) -> Option<u8>
-    requires { length places.now ≤ 256 }
-    ensures { IsLowestOf (λ p. HasStream (place_of (place_at places.now p))) result }
+fn first_stream(places: &Places<Place>) -> Option<u8>
+    requires { length places.now.places ≤ 256 }
+    ensures { IsLowestOf (λ p. HasStream (place_of (place_at places.now.places p))) result }
 {
     for number in 0..places.len() {
-        if has_stream(&places[number]) {
+        if has_stream(places, number) {
             return Some(number as u8);
         }
     }

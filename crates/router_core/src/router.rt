@@ -30,7 +30,6 @@ pub struct Router {
 impl Router {
     ghost use Rattle.std.specs.Prelude.{ℕ, ◌≡◌, ◌↔◌, Bool, false, Option, Some, option_map, OnOk, IfOk, IfSome, IfNone, IsTrue};
     ghost use Rattle.ring_net.specs.Posts.{TookItem, Moved, SameEdges};
-    ghost use Rattle.graft_steps.specs.declared.order.GraftIds.{GraftIds};
     ghost use Rattle.bgp_session.specs.Running.{RunningSession};
     ghost use Rattle.session_value.specs.Sessions.{SessionValue};
     ghost use Rattle.rib_stages.specs.Values.{rib_of};
@@ -58,9 +57,9 @@ impl Router {
     }
 
     /// Takes an item that the actor of number `from` sent, and then reads what a session can read that took a segment or came here. It notes at least one event, the
-    /// first of which takes the item, or an entry of kind 0 where it drops it: an item that no router takes from that actor; a segment of another peering, that
-    /// goes to the remote, that has more than 65,535 bytes, or whose numbers are of no place in a stream; an order for a peering without a live session, with a stored
-    /// order, or to a router that isn't there; a session that comes where the place is taken, that isn't established, or that has other first numbers than
+    /// first of which takes the item, or an entry that is no event's where it drops it: an item that no router takes from that actor; a segment of another peering, that
+    /// goes to the remote, that has more than 65,535 bytes, or whose numbers are of no place in a stream; an order for a peering whose session isn't
+    /// live here or has something to be done for a graft, or to a router that isn't there; a session that comes where the place is taken, that isn't established, or that has other first numbers than
     /// its peering; and one that comes back, or word of a landing, where no shadow is of that graft. Once memory ran out it answers `NoMemory` to every call.
     pub fn take(
         &mut self,
@@ -80,7 +79,7 @@ impl Router {
     }
 
     /// Makes the retransmission turn of each session, lets a round pass on each whose hold time runs, refuses the stored grafts or sends their sessions
-    /// away, decides every dirty prefix, tells the other routers and the sessions what is due, and emits what may be emitted and the answers that are owed.
+    /// away, decides every dirty prefix, tells the other routers what is due, then the sources of sessions that have landed, then the sessions, and emits what may be emitted and the answers that are owed.
     pub fn turn(&mut self, post: &mut Post<Item<Capsule>>) -> Result<(), NoMemory>
         ensures turned { OnOk result (Moved own (acts carried) turned self.old post.old self.new post.new) }
         ensures edges { SameEdges post.old post.new }
@@ -119,7 +118,7 @@ impl Router {
     {
         match self.fields.places.get(usize::from(peering.0))? {
             Place::Live { session, .. } => Some(session),
-            Place::Vacant | Place::Shadow { .. } => None,
+            Place::Shadow { .. } => None,
         }
     }
 
@@ -145,7 +144,7 @@ impl Router {
 
     /// The sessions that are held here, by rising peering, of a router that is wanted no more.
     pub fn into_sessions(self, alloc: Global) -> Result<Items<Session>, NoMemory>
-        ensures { IfOk result (λ sessions. sessions ≡ sessions_in self.fields.places.items) }
+        ensures { IfOk result (λ sessions. sessions ≡ sessions_in self.fields.places.places) }
     {
         let Router { fields, .. } = self;
         sessions_of(alloc, fields.places)

@@ -2,6 +2,7 @@
 
 mod again;
 mod begin;
+mod confirm;
 mod decide;
 mod emit;
 mod grafts;
@@ -38,6 +39,7 @@ pub(crate) fn turn(router: &mut Fields, post: &mut Post<Item<Capsule>>) -> Resul
     grafts::begin_grafts(router, post)?;
     decide::decide_all(router, post)?;
     tell::tell_all(router, post)?;
+    confirm::confirm_all(router, post)?;
     put::put_all(router, post)?;
     emit::emit_all(router, post)
 }

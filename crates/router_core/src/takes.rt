@@ -2,7 +2,6 @@
 
 mod graft;
 mod heard;
-mod kinds;
 mod mesh;
 pub(crate) mod named;
 mod order;

@@ -35,6 +35,7 @@ session_of p identifier hold import export = record {
   identifier = identifier;
   remote_as = 65001 + p;
   offered = false;
+  unicast = false;
   home_hold = hold;
   remote_address = 0xC0000201 + 4 * p;
   local_address = 0xC0000201 + 4 * p + 1;

@@ -52,6 +52,7 @@ pub fn session(
         identifier,
         remote_as: 65_001 + u32::from(peering),
         offered: false,
+        unicast: false,
         home_hold,
         remote_address: address,
         local_address: address + 1,

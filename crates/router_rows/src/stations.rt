@@ -3,7 +3,7 @@
 use anyhow::Result;
 use bgp_session::Capsule;
 use graft_edge::NoMemory;
-use graft_model::kind_of;
+use graft_model::{ActorEvent, Code, event_of};
 use graft_steps::Item;
 use ring_net::{JournalEntry, Post};
 use router_core::Router;
@@ -17,12 +17,21 @@ pub struct Station {
     seen: usize,
 }
 
-/// An event by its kind and its three arguments.
-fn put_entry(text: &mut String, entry: &JournalEntry) -> Result<()> {
-    match kind_of(entry.kind) {
-        Some(kind) => write!(text, "{kind:?} {} {} {}", entry.a, entry.b, entry.c)?,
-        None => text.push_str("dropped")?,
-    }
+/// A router's event by its name and its three arguments.
+fn put_entry(alloc: Global, text: &mut String, entry: &JournalEntry) -> Result<()> {
+    let code = Code {
+        kind: entry.kind,
+        a: entry.a,
+        b: entry.b,
+        c: entry.c,
+    };
+    let Some(ActorEvent::OfRouter(event)) = event_of(code) else {
+        text.push_str("dropped")?;
+        return Ok(());
+    };
+    let written = format!(in alloc; "{event:?}")?;
+    let name = written.split(' ').next().unwrap_or("");
+    write!(text, "{name} {} {} {}", code.a, code.b, code.c)?;
     Ok(())
 }
 
@@ -64,7 +73,7 @@ impl Station {
             if !news.is_empty() {
                 news.push_str(", ")?;
             }
-            put_entry(&mut news, entry)?;
+            put_entry(alloc, &mut news, entry)?;
         }
         if news.is_empty() {
             news.push_str("nothing")?;

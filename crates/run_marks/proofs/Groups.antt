@@ -1,49 +1,20 @@
 -- The group at work is counted by the entries that begin groups.
-use Rattle.std.proofs.Common.{◌≡◌, ℕ, ◌+◌, ◌==◌, true, false, List, [], ◌∷◌, length, filter, Option, refl, ap, ◌∙◌, inl, inr, arith}
+use Rattle.std.proofs.Common.{◌≡◌, ℕ, ◌+◌, ◌==◌, true, false, List, [], ◌∷◌, length, filter, Option, ap, ◌∙◌, inl, inr, arith}
 use Rattle.std.proofs.lemmas.Bool.Decides.{nat_tests}
 use Rattle.ring_net.specs.declared.entry.JournalEntry.{JournalEntry}
 use Rattle.journal_merge.specs.Merges.{entries_by}
 use Rattle.journal_merge.proofs.Orders.{equal_or_not, by_here, by_else}
-use Rattle.graft_model.specs.Codes.{number_of, router_code, far_code}
 use Rattle.graft_model.specs.Setups.{Setup}
 use Rattle.graft_model.specs.Parts.{OperatorPart, World}
 use Rattle.graft_model.specs.First.{first_world}
 use Rattle.graft_model.specs.OperatorRows.{OperatorTaken, OperatorSent}
-use Rattle.graft_model.specs.Steps.{RouterEvent, Put, Emit, Arrive, Stray, Got, Decide, Tell, Hear, Admit, Refuse, Freeze, Leave, Land, TurnBack, Return, Clear, Tick, FarEvent, Say, Send, Take, Pass, Reach, Lose, Point, Beat, OperatorEvent, Order, Note, Go, Event, ByRouter, ByFar, ByOperator, operator_row, Step, Run}
+use Rattle.graft_model.specs.declared.event.OperatorEvent.{OperatorEvent}
+use Rattle.graft_model.specs.declared.event.OperatorEvent.TheVariants.{Order, Note, Go}
+use Rattle.graft_model.specs.Steps.{Event, ByRouter, ByFar, ByOperator, operator_row, Step, Run}
 use Rattle.graft_laws.proofs.Moves.{router_moves, far_moves, operator_moves}
 use Rattle.graft_runs.specs.Laws.{IsEntryOf, AreEntriesOf}
+use Rattle.graft_model.proofs.GoAlone.{router_kind, far_kind}
 use Rattle.run_marks.specs.Marks.{operator_in, is_go}
-
--- ---- kinds
-
-router_kind : (event : RouterEvent) → (number_of (router_code event).kind == 26) ≡ false
-router_kind (Put p n) = refl
-router_kind (Emit p from len) = refl
-router_kind (Arrive p) = refl
-router_kind (Stray p) = refl
-router_kind (Got p) = refl
-router_kind (Decide prefix) = refl
-router_kind (Tell q prefix) = refl
-router_kind (Hear q) = refl
-router_kind (Admit k) = refl
-router_kind (Refuse k) = refl
-router_kind (Freeze k) = refl
-router_kind (Leave k) = refl
-router_kind (Land q) = refl
-router_kind (TurnBack q) = refl
-router_kind (Return q) = refl
-router_kind (Clear q) = refl
-router_kind (Tick p round) = refl
-
-far_kind : (event : FarEvent) → (number_of (far_code event).kind == 26) ≡ false
-far_kind (Say step) = refl
-far_kind (Send from len) = refl
-far_kind (Take router) = refl
-far_kind (Pass index keep router) = refl
-far_kind (Reach index keep) = refl
-far_kind (Lose way index) = refl
-far_kind (Point router) = refl
-far_kind (Beat round) = refl
 
 -- ---- counts
 

@@ -12,7 +12,9 @@ use Rattle.graft_model.specs.Setups.{Setup, SayStep, MoveStep}
 use Rattle.graft_model.specs.Parts.{OperatorPart, World}
 use Rattle.graft_model.specs.Quiet.{Quiet}
 use Rattle.graft_model.specs.OperatorRows.{OperatorTaken, OperatorSent}
-use Rattle.graft_model.specs.Steps.{OperatorEvent, Order, Note, Go, operator_row}
+use Rattle.graft_model.specs.declared.event.OperatorEvent.{OperatorEvent}
+use Rattle.graft_model.specs.declared.event.OperatorEvent.TheVariants.{Order, Note, Go}
+use Rattle.graft_model.specs.Steps.{operator_row}
 use Rattle.settled_check.specs.Left.{HasUnissued, IsOpen}
 use Rattle.graft_runs.specs.Actors.{ActorPart, RouterIs, FarIs, OperatorIs, Thing, Operator}
 use Rattle.graft_runs.specs.Makes.{HasCode, makes_as, numbered, taken_by_operator}

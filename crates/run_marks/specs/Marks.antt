@@ -5,8 +5,8 @@ use Rattle.ring_net.specs.Phases.{View}
 use Rattle.journal_merge.specs.Merges.{Interleaves, entries_by, upto}
 use Rattle.graft_steps.specs.declared.item.Item.{Item}
 use Rattle.session_value.specs.Sessions.{SessionValue}
-use Rattle.graft_model.specs.declared.kind.EventKind.TheVariants as kinds
-use Rattle.graft_model.specs.Codes.{number_of}
+use Rattle.graft_model.specs.declared.event.OperatorEvent.TheVariants.{Go}
+use Rattle.graft_model.specs.Codes.{operator_code}
 use Rattle.graft_model.specs.Setups.{Setup, routers_in, peerings_in}
 use Rattle.graft_model.specs.Parts.{OperatorPart, World}
 use Rattle.graft_model.specs.First.{first_world}
@@ -48,7 +48,7 @@ abbrev pub operator_in : Setup → ℕ
 operator_in setup = routers_in setup + peerings_in setup
 
 abbrev pub is_go : JournalEntry → Bool
-is_go entry = entry.kind == number_of kinds.Go
+is_go entry = entry.kind == (operator_code Go).kind
 
 -- the group that is at work after a run is the number of those that its entries of the operator begin
 abbrev pub GroupsAreCounted : Type 0

@@ -4,6 +4,7 @@ ghost use Rattle.std.specs.Prelude.{◌≡◌, []};
 ghost use Rattle.bgp_story.specs.Legal.{IsOneWay, is_wide};
 ghost use Rattle.session_value.specs.Sessions.{peering_of};
 
+use crate::texts::{capabilities, number};
 use crate::update::{announcement_of, is_new};
 use anyhow::{Result, bail};
 use bgp_session::{OfferStop, Session, TickStep};
@@ -11,18 +12,35 @@ use bgp_types::{SessionState, Update};
 use graft_edge::PeeringId;
 use session_value::SessionConfig;
 use std::alloc::Global;
+use std::str::SplitWhitespace;
 use tcp_end::{Arrival, End};
 use tcp_seq::{Segment, Seq, Way};
 
 /// The number of the first byte that the remote sends.
 pub const THEIRS: u32 = 5_000;
 
-/// How a session begins: the number of its first byte, whether it offers four-octet AS numbers, and its hold time.
+/// How a session begins: the number of its first byte, whether it offers four-octet AS numbers, whether its OPEN has the capability of
+/// IPv4 unicast, and its hold time.
 #[derive(Clone, Copy, Debug)]
 pub struct Opening {
     pub first: u32,
     pub offered: bool,
+    pub unicast: bool,
     pub hold: u32,
+}
+
+impl Opening {
+    /// The opening that a line's next words say.
+    pub fn read(words: &mut SplitWhitespace<'_>) -> Result<Opening> {
+        let first = number(words)?;
+        let (offered, unicast) = capabilities(words)?;
+        Ok(Opening {
+            first,
+            offered,
+            unicast,
+            hold: number(words)?,
+        })
+    }
 }
 
 /// A session of home AS 65000 with a remote of AS 65001.
@@ -39,6 +57,7 @@ pub fn begin(alloc: Global, opening: Opening) -> Result<Session> {
             identifier: 0x0AFF_0001,
             remote_as: 65_001,
             offered: opening.offered,
+            unicast: opening.unicast,
             home_hold: hold as u16,
             remote_address: 0xC000_0201,
             local_address: 0xC000_0202,

@@ -2,7 +2,7 @@
 
 use crate::calls::{Opening, arrive, begin, moved, offer, reach, remote, tick};
 use crate::link::{Link, Random};
-use crate::texts::{number, octets, offered};
+use crate::texts::{number, octets};
 use anyhow::{Context, Result};
 use bgp_session::{ReadStep, Session, TickStep};
 use bgp_types::SessionState;
@@ -36,13 +36,8 @@ pub struct Plan {
 }
 
 fn plan_of(alloc: Global, words: &mut SplitWhitespace<'_>) -> Result<Plan> {
-    let opening = Opening {
-        first: number(words)?,
-        offered: offered(words)?,
-        hold: number(words)?,
-    };
     Ok(Plan {
-        opening,
+        opening: Opening::read(words)?,
         open: octets(alloc, words)?,
         keepalive: octets(alloc, words)?,
         update: octets(alloc, words)?,

@@ -1,7 +1,7 @@
 //! A session and its remote, step by step.
 
 use crate::calls::{Opening, arrive, begin, moved, offer, reach, remote, tick};
-use crate::texts::{number, octets, offered, read_text, segment_text, tick_text};
+use crate::texts::{number, octets, read_text, segment_text, tick_text};
 use anyhow::{Context, Result, bail};
 use bgp_session::{OfferStop, Session};
 use std::alloc::Global;
@@ -17,11 +17,7 @@ pub struct Side {
 
 impl Side {
     pub fn begin(alloc: Global, words: &mut SplitWhitespace<'_>) -> Result<Side> {
-        let opening = Opening {
-            first: number(words)?,
-            offered: offered(words)?,
-            hold: number(words)?,
-        };
+        let opening = Opening::read(words)?;
         Ok(Side {
             session: begin(alloc, opening)?,
             far: remote(alloc, opening)?,

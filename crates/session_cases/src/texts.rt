@@ -19,12 +19,14 @@ pub fn octets(alloc: Global, words: &mut SplitWhitespace<'_>) -> Result<Vec<u8>>
     }
 }
 
-/// Whether the OPEN offers four-octet AS numbers.
-pub fn offered(words: &mut SplitWhitespace<'_>) -> Result<bool> {
-    match words.next().context("a width")? {
-        "narrow" => Ok(false),
-        "wide" => Ok(true),
-        _ => bail!("narrow or wide"),
+/// The capabilities of the OPEN: whether it has that of four-octet AS numbers, and whether that of IPv4 unicast.
+pub fn capabilities(words: &mut SplitWhitespace<'_>) -> Result<(bool, bool)> {
+    match words.next().context("capabilities")? {
+        "narrow" => Ok((false, false)),
+        "wide" => Ok((true, false)),
+        "unicast" => Ok((false, true)),
+        "both" => Ok((true, true)),
+        _ => bail!("narrow, wide, unicast or both"),
     }
 }
 

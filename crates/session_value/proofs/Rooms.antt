@@ -39,14 +39,16 @@ pub expired_size : (wide : Bool) → length (spell (NoticeMsg hold_expired) wide
 unfolding spell
 expired_size wide = refl
 
-spell_open_size : (home_as hold identifier : ℕ) (offered : Bool) → length (spell_open (home_open home_as hold identifier offered)) ≤ 18
-spell_open_size home_as hold identifier true = let n : length (spell_open (home_open home_as hold identifier true)) ≡ 18 = refl in omega arith
-spell_open_size home_as hold identifier false = let n : length (spell_open (home_open home_as hold identifier false)) ≡ 10 = refl in omega arith
+spell_open_size : (home_as hold identifier : ℕ) (offered unicast : Bool) → length (spell_open (home_open home_as hold identifier offered unicast)) ≤ 26
+spell_open_size home_as hold identifier true true = let n : length (spell_open (home_open home_as hold identifier true true)) ≡ 26 = refl in omega arith
+spell_open_size home_as hold identifier true false = let n : length (spell_open (home_open home_as hold identifier true false)) ≡ 18 = refl in omega arith
+spell_open_size home_as hold identifier false true = let n : length (spell_open (home_open home_as hold identifier false true)) ≡ 18 = refl in omega arith
+spell_open_size home_as hold identifier false false = let n : length (spell_open (home_open home_as hold identifier false false)) ≡ 10 = refl in omega arith
 
-pub open_size : (first : open_type.OpenMsg) (wide : Bool) → IsHomeOpen first → length (spell (OpenMsg first) wide) ≤ 37
+pub open_size : (first : open_type.OpenMsg) (wide : Bool) → IsHomeOpen first → length (spell (OpenMsg first) wide) ≤ 45
 unfolding spell
 open_size first wide is =
-    let size : length (spell_open first) ≤ 18 = subst (λ (o : open_type.OpenMsg). length (spell_open o) ≤ 18) (sym is.is) (spell_open_size is.home_as first.hold first.identifier is.offered) in
+    let size : length (spell_open first) ≤ 26 = subst (λ (o : open_type.OpenMsg). length (spell_open o) ≤ 26) (sym is.is) (spell_open_size is.home_as first.hold first.identifier is.offered is.unicast) in
     let all = framed_size 1 (spell_open first) in
     omega arith
 
@@ -72,7 +74,7 @@ put_one : (wide : Bool) (m : Message) → length (flat_map (put_in wide) (Put m 
 put_one wide m = ap (λ (xs : List ℕ). length xs) (append-nil (spell m wide))
 
 -- of a session in OpenSent the stream is its OPEN
-opened_short : (session : SessionValue) → IsTied session → state session ≡ OpenSent → length session.end.stream ≤ 37
+opened_short : (session : SessionValue) → IsTied session → state session ≡ OpenSent → length session.end.stream ≤ 45
 opened_short session tied s =
     let p = peering_of session.config in
     let lines : session.story ≡ Put (OpenMsg p.first) ∷ [] = only_opened p session.story (state session) tied.allowed s in
@@ -82,7 +84,7 @@ opened_short session tied s =
     omega (arith, put, one, size)
 
 got_room : (stream : ℕ) (wide : Bool) (e : Expected) (bytes : List ℕ) (m : Result Message Notice) → message_of e bytes ≡ m
-    → stream ≤ 1044480 → (e.state ≡ OpenSent → stream ≤ 37) → stream + length (flat_map (put_in wide) (reply_to m).0) ≤ most_put (reply_to m).1
+    → stream ≤ 1044480 → (e.state ≡ OpenSent → stream ≤ 45) → stream + length (flat_map (put_in wide) (reply_to m).0) ≤ most_put (reply_to m).1
 got_room stream wide e bytes (Ok (OpenMsg o)) g fits opening =
     let s = opening (only_open e.state (read_of e bytes (OpenMsg o) g).in_state) in
     let one = put_one wide KeepaliveMsg in

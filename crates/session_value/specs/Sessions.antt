@@ -25,7 +25,7 @@ pub record SessionValue : Type 0 where
 
 -- what the stories of a session depend on: the OPEN that it puts, and the AS of the remote
 abbrev pub peering_of : SessionConfig → Peering
-peering_of config = record { first = home_open config.home_as config.home_hold config.identifier config.offered; remote_as = config.remote_as }
+peering_of config = record { first = home_open config.home_as config.home_hold config.identifier config.offered config.unicast; remote_as = config.remote_as }
 
 abbrev pub state : SessionValue → SessionState
 state session = state_of session.story

@@ -15,6 +15,8 @@ pub struct SessionConfig {
     pub remote_as: u32,
     /// Whether the session offers AS numbers of four octets (RFC 6793).
     pub offered: bool,
+    /// Whether its OPEN has the capability of IPv4 unicast (RFC 4760, section 8).
+    pub unicast: bool,
     /// The hold time that the session offers, in seconds: 0 for none, or at least 3 (RFC 4271, section 4.2).
     pub home_hold: u16,
     pub remote_address: u32,

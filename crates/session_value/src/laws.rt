@@ -22,11 +22,11 @@ ghost use Rattle.session_value.specs.Fronts.{AreFirst};
 ghost use Rattle.session_value.specs.Sessions.{SessionValue, peering_of, state, unread, hold_time, begun};
 ghost use Rattle.session_value.specs.Ties.{IsTied, IsOfStory, most_put};
 
-/// The messages that a session puts of itself are short: a KEEPALIVE has 19 bytes, its OPEN at most 37, the NOTIFICATION that the hold
+/// The messages that a session puts of itself are short: a KEEPALIVE has 19 bytes, its OPEN at most 45, the NOTIFICATION that the hold
 /// time expired 21, and one for a fault at most 4,096 (RFC 4271, section 4).
 pub fn own_messages_are_short()
     ensures keepalive { (wide : Bool) → length (spell KeepaliveMsg wide) ≡ 19 }
-    ensures open { (first : open_type.OpenMsg) (wide : Bool) → IsHomeOpen first → length (spell (OpenMsg first) wide) ≤ 37 }
+    ensures open { (first : open_type.OpenMsg) (wide : Bool) → IsHomeOpen first → length (spell (OpenMsg first) wide) ≤ 45 }
     ensures expired { (wide : Bool) → length (spell (NoticeMsg hold_expired) wide) ≡ 21 }
     ensures fault { (bytes : List ℕ) (expected : Expected) (notice : Notice) (wide : Bool) → first_fault bytes expected ≡ Some notice → length (spell (NoticeMsg notice) wide) ≤ 4096 }
 {}

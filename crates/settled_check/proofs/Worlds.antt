@@ -20,7 +20,7 @@ use Rattle.graft_steps.specs.declared.rest.RouterRest.{RouterRest}
 use Rattle.graft_steps.specs.declared.rest.FarRest.{FarRest}
 use Rattle.graft_steps.specs.declared.rest.OperatorRest.{OperatorRest}
 use Rattle.graft_model.specs.Setups.{Setup, PeeringSetup, RouterSetup, ScriptStep, MoveStep, SettleStep, group_of, graft_number, routers_in, peerings_in, router_numbers}
-use Rattle.graft_model.specs.Parts.{Place, Vacant, Live, Frozen, Shadow, Order, RouterPart, FarPart, World}
+use Rattle.graft_model.specs.Parts.{Place, Vacant, Live, Frozen, Shadow, Errand, RouterPart, FarPart, World}
 use Rattle.graft_model.specs.First.{first_router, first_far, place_in}
 use Rattle.graft_model.specs.Quiet.{Quiet, HasRead, AllAcked, IsIdle}
 use Rattle.graft_model.specs.Claims.{sessions_at, sessions_on}
@@ -97,7 +97,7 @@ all_acked from to fits none =
     record { received = omega (arith, fits.acked, fits.received, acked); acked = acked }
 
 idle : (remote : Endpoint) (place : Place) → graft_at place ≡ None → ¬ HasStream place → ¬ IsUnacked remote
-    → ((session : SessionValue) (order : Option Order) → place ≡ Live session order → Fits session.end remote × Fits remote session.end) → IsIdle remote place
+    → ((session : SessionValue) (order : Option Errand) → place ≡ Live session order → Fits session.end remote × Fits remote session.end) → IsIdle remote place
 idle remote Vacant no_graft no_stream acked fits = tt
 idle remote (Live session None) no_graft no_stream acked fits =
     (has_read session (λ more. no_stream (inr more)), all_acked session.end remote (fits session None refl).0 (λ more. no_stream (inl more)), all_acked remote session.end (fits session None refl).1 acked)

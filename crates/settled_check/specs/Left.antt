@@ -9,7 +9,7 @@ use Rattle.session_value.specs.Sets.{Prefixes, has}
 use Rattle.graft_steps.specs.declared.rest.Pending.{Pending}
 use Rattle.graft_steps.specs.declared.rest.Pending.TheVariants.{Script, Graft, Bag, Stream, Dirty, DueIn, DueOut}
 use Rattle.graft_model.specs.Setups.{Setup, ScriptStep, MoveStep, SettleStep, group_of, graft_number}
-use Rattle.graft_model.specs.Parts.{Place, Vacant, Live, Frozen, Shadow, RouterPart, FarPart, OperatorPart}
+use Rattle.graft_model.specs.Parts.{Place, Vacant, Live, Frozen, Shadow, graft_of, RouterPart, FarPart, OperatorPart}
 
 -- ---- a router
 
@@ -17,11 +17,11 @@ use Rattle.graft_model.specs.Parts.{Place, Vacant, Live, Frozen, Shadow, RouterP
 abbrev pub HasSome : Prefixes → Type 0
 HasSome prefixes = (prefix : PrefixValue) × (has prefixes prefix ≡ true)
 
--- the graft that is at a place: stored with the session there, or for which that is frozen, or in which it left
+-- the graft that is at a place: for which something is to be done with the session there, or for which that is frozen, or in which it left
 abbrev pub graft_at : Place → Option ℕ
 graft_at Vacant = None
 graft_at (Live session None) = None
-graft_at (Live session (Some order)) = Some order.graft
+graft_at (Live session (Some errand)) = Some (graft_of errand)
 graft_at (Frozen session order) = Some order.graft
 graft_at (Shadow graft) = Some graft
 
@@ -40,7 +40,7 @@ pub record HasUnread (session : SessionValue) : Type 0 where
 -- of a session that is held at a place, live or frozen, something is unacknowledged or unread
 abbrev pub HasStream : Place → Type 0
 HasStream Vacant = ⊥
-HasStream (Live session order) = IsUnacked session.end ⊎ HasUnread session
+HasStream (Live session errand) = IsUnacked session.end ⊎ HasUnread session
 HasStream (Frozen session order) = IsUnacked session.end ⊎ HasUnread session
 HasStream (Shadow graft) = ⊥
 

@@ -8,7 +8,7 @@ use Rattle.graft_steps.specs.declared.rest.FarRest.{FarRest}
 use Rattle.graft_steps.specs.declared.rest.OperatorRest.{OperatorRest}
 use Rattle.session_value.specs.Sessions.{SessionValue}
 use Rattle.graft_model.specs.Setups.{Setup, IsSetup, routers_in, peerings_in}
-use Rattle.graft_model.specs.Parts.{Order, Live, RouterPart, FarPart, OperatorPart, World}
+use Rattle.graft_model.specs.Parts.{Errand, Live, RouterPart, FarPart, OperatorPart, World}
 use Rattle.graft_model.specs.Quiet.{Quiet}
 use Rattle.graft_model.specs.Claims.{sessions_of}
 use Rattle.graft_runs.specs.Actors.{actor_at}
@@ -40,7 +40,7 @@ pub record Fits (from to : Endpoint) : Type 0 where
 
 -- each live session and its remote fit, both ways
 abbrev pub StreamsFit : World → Type 0
-StreamsFit w = (r p : ℕ) (session : SessionValue) (order : Option Order) → (w.router r).places p ≡ Live session order → Fits session.end (w.far p).end × Fits (w.far p).end session.end
+StreamsFit w = (r p : ℕ) (session : SessionValue) (errand : Option Errand) → (w.router r).places p ≡ Live session errand → Fits session.end (w.far p).end × Fits (w.far p).end session.end
 
 -- the rests of all actors that the setup has
 pub record AreRests (setup : Setup) (w : World) (router : ℕ → RouterRest) (far : ℕ → FarRest) (operator : OperatorRest) : Type 0 where

@@ -11,7 +11,7 @@ use Rattle.bgp_types.specs.Prefixes.{PrefixValue, octets_for}
 use Rattle.bgp_types.specs.Spelling.{spell, spell_update}
 use Rattle.bgp_types.proofs.Lengths.{update_size, framed_size}
 use Rattle.route_policy.specs.declared.best.Best.{Best}
-use Rattle.route_policy.specs.Telling.{OutSide, tell_out, comes_from, exported, told_attrs, told_where_it_fits, is_too_long, announcement}
+use Rattle.route_policy.specs.Telling.{OutSide, tell_out, is_kept_back, exported, told_attrs, told_where_it_fits, is_too_long, announcement}
 use Rattle.session_value.specs.Cases.{update_for}
 use Rattle.tell_plan.specs.Plans.{octets}
 
@@ -44,7 +44,7 @@ where_it_fits wide home_as out prefix (Some route) =
 pub fits_one : (wide : Bool) (home_as : ℕ) (out : OutSide) (prefix : PrefixValue) (best : Option Best) → octets wide (tell_out home_as out prefix best) (prefix ∷ []) ≤ 4096
 fits_one wide home_as out prefix None = withdrawal wide prefix
 fits_one wide home_as out prefix (Some best) =
-    elim (comes_from best.from out.peering) as (λ b. octets wide (if b then None else told_where_it_fits home_as out prefix (exported home_as out prefix best.route)) (prefix ∷ []) ≤ 4096) [
+    elim (is_kept_back out best) as (λ b. octets wide (if b then None else told_where_it_fits home_as out prefix (exported home_as out prefix best.route)) (prefix ∷ []) ≤ 4096) [
       | true ↦ withdrawal wide prefix
       | false ↦ where_it_fits wide home_as out prefix (exported home_as out prefix best.route)
     ]

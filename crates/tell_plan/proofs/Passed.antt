@@ -9,7 +9,7 @@ use Rattle.route_policy.specs.declared.best.Best.{Best}
 use Rattle.route_policy.specs.declared.rule.Rule.{Rule}
 use Rattle.route_policy.specs.Paths.{prepend}
 use Rattle.route_policy.specs.Policies.{policy}
-use Rattle.route_policy.specs.Telling.{OutSide, tell_out, comes_from, exported, told_attrs, told_where_it_fits, is_too_long, without_med, made_partial}
+use Rattle.route_policy.specs.Telling.{OutSide, tell_out, is_kept_back, exported, told_attrs, told_where_it_fits, is_too_long, without_med, made_partial}
 use Rattle.tell_plan.specs.Passing.{IsPlain, passed_on}
 use Rattle.tell_plan.proofs.Plain.{plain_fits}
 
@@ -21,10 +21,10 @@ where_it_fits : (home_as : ℕ) (out : OutSide) (prefix : PrefixValue) (route : 
 where_it_fits home_as out prefix route told is fits =
     ap (λ (a : Attrs). if is_too_long prefix a then None else Some a) is ∙ ap (λ (b : Bool). if b then None else Some told) fits
 
-pub told_on : (home_as : ℕ) (out : OutSide) (prefix : PrefixValue) (best : Best) → out.export_rules ≡ None → comes_from best.from out.peering ≡ false → IsPlain best.route.attrs
+pub told_on : (home_as : ℕ) (out : OutSide) (prefix : PrefixValue) (best : Best) → out.export_rules ≡ None → is_kept_back out best ≡ false → IsPlain best.route.attrs
     → tell_out home_as out prefix (Some best) ≡ Some (passed_on home_as out.local_address best.route.attrs)
-told_on home_as out prefix best free other plain =
-    ap (λ (b : Bool). if b then None else told_where_it_fits home_as out prefix (exported home_as out prefix best.route)) other
+told_on home_as out prefix best free not_kept plain =
+    ap (λ (b : Bool). if b then None else told_where_it_fits home_as out prefix (exported home_as out prefix best.route)) not_kept
     ∙ (ap (λ (rules : Option (List Rule)). told_where_it_fits home_as out prefix (policy (unwrap_or rules []) prefix home_as (without_med best.route))) free
     ∙ where_it_fits home_as out prefix (without_med best.route) (passed_on home_as out.local_address best.route.attrs) (told_same home_as out best.route plain) (plain_fits home_as out.local_address prefix best.route.attrs plain))
 

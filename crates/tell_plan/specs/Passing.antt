@@ -38,6 +38,6 @@ pub record IsPlain (attrs : Attrs) : Type 0 where
 abbrev pub passed_on : ℕ → ℕ → Attrs → Attrs
 passed_on home_as local_address attrs = record attrs { path = prepend home_as attrs.path; next_hop = local_address; med = None; unknown = [] }
 
--- what a router is to tell of a prefix is these as they pass on
+-- what a router is to tell of a prefix is these as they pass on, so that the best route didn't go through the remote's AS
 abbrev pub Passes : RibValue → OutSide → PrefixValue → Attrs → Type 0
 Passes rib out prefix attrs = to_tell rib out prefix ≡ Some (passed_on rib.config.home_as out.local_address attrs)

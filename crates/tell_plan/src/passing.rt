@@ -3,12 +3,13 @@
 
 ghost use Rattle.std.specs.Prelude.{◌≡◌, ◌≢◌, ◌↔◌, [], All, Some, None, IsTrue, IfSome, MatchBool, option_copied};
 ghost use Rattle.rib_stages.specs.Values.{rib_of};
-ghost use Rattle.route_policy.specs.Telling.{comes_from as comes_from_lem, out_side};
+ghost use Rattle.route_policy.specs.Telling.{out_side};
 ghost use Rattle.tell_plan.specs.Passing.{IsPlain, IsShort, Passes, passed_on};
 
 use crate::path::is_prepended;
-use bgp_types::{Attrs, From, PathPart, PeeringId, Prefix};
+use bgp_types::{Attrs, PathPart, Prefix};
 use rib_stages::{OutView, Rib};
+use route_policy::is_kept_back;
 
 /// How many parts the path of plain attributes has at most.
 const PARTS: usize = 8;
@@ -43,18 +44,8 @@ fn is_plain(attrs: &Attrs) -> bool
     are_short(&attrs.path)
 }
 
-/// Whether a route comes from this peering.
-fn comes_from(from: From, peering: PeeringId) -> bool
-    ensures { result ≡ comes_from_lem from peering }
-{
-    match from {
-        From::Peering(other) => other.0 == peering.0,
-        From::Own | From::Router(_) => false,
-    }
-}
-
-/// The attributes of the best route, where they are plain and pass on: there is no export policy, and the route didn't come from the
-/// session's own peering.
+/// The attributes of the best route, where they are plain and pass on: there is no export policy, the route didn't come from the
+/// session's own peering, and the remote's AS isn't in its path.
 pub(crate) fn passing<'a>(rib: &'a Rib, view: &OutView<'_>, prefix: Prefix) -> Option<&'a Attrs>
     ensures { IfSome (option_copied result) (Passes (rib_of rib.now) (out_side view.now) prefix) }
 {
@@ -62,7 +53,7 @@ pub(crate) fn passing<'a>(rib: &'a Rib, view: &OutView<'_>, prefix: Prefix) -> O
         return None;
     }
     let best = rib.best(prefix)?;
-    if comes_from(best.from, view.peering) || !is_plain(&best.route.attrs) {
+    if is_kept_back(view, best) || !is_plain(&best.route.attrs) {
         return None;
     }
     Some(&best.route.attrs)

@@ -10,6 +10,16 @@ pub struct Case<'a> {
     pub write_fails: u32,
 }
 
+/// What is told of a run beside its text.
+#[derive(Clone, Copy)]
+pub enum Shown {
+    Nothing,
+    /// How many prefixes its remotes were told.
+    Told,
+    /// The stories, and what each remote received.
+    All,
+}
+
 /// A call that isn't reached.
 const NEVER: u32 = u32::MAX;
 
@@ -37,10 +47,16 @@ impl<'a> Case<'a> {
         self.words.ends_with(" *")
     }
 
-    /// Whether what is seen of its run is told beside the text. It isn't of a drill or of a run by some counts of workers, where
-    /// it depends on the order of their turns.
-    pub fn shows_run(&self) -> bool {
-        !self.is_by_each() && !self.words.contains(" drill ")
+    /// What is told beside the text of its run: all that is seen, or of a drill how much its remotes were told, or nothing where that
+    /// depends on the order of the workers' turns.
+    pub fn shown(&self) -> Shown {
+        if self.is_by_each() {
+            return Shown::Nothing;
+        }
+        if self.words.contains(" drill ") {
+            return Shown::Told;
+        }
+        Shown::All
     }
 
     /// Of how many empty lines the input is, where it is no file.

@@ -1,8 +1,8 @@
 //! How a command ends.
 
-use crate::case::Case;
+use crate::case::{Case, Shown};
 use crate::gate::CountingGate;
-use crate::seen::push_seen;
+use crate::seen::{push_seen, push_told};
 use graft_edge::{MemSink, MemSource, NoMemory, Words};
 use lab_report::Lab;
 use lab_top::{Finish, graft_main};
@@ -39,15 +39,17 @@ fn written_text(alloc: Global, written: &[u8]) -> Result<String, NoMemory> {
     Ok(text)
 }
 
-/// Adds what is seen of a run, where it is shown, and whether each turn passed the gate.
+/// Adds what is to be shown of a run, and whether each turn passed the gate.
 fn push_run(
     text: &mut String,
     lab: &Lab,
     gate: &CountingGate,
-    is_shown: bool,
+    shown: Shown,
 ) -> Result<(), NoMemory> {
-    if is_shown {
-        push_seen(text, lab)?;
+    match shown {
+        Shown::Nothing => {}
+        Shown::Told => push_told(text, lab)?,
+        Shown::All => push_seen(text, lab)?,
     }
     write!(text, "\ngate: {}", gate.verdict(lab))?;
     Ok(())
@@ -59,12 +61,12 @@ fn told(
     finish: &Finish,
     written: &[u8],
     gate: &CountingGate,
-    is_shown: bool,
+    shown: Shown,
 ) -> Result<String, NoMemory> {
     let mut text = written_text(alloc, written)?;
     write!(text, "status {}, {} bytes", finish.status, written.len())?;
     match &finish.lab {
-        Some(lab) => push_run(&mut text, lab, gate, is_shown)?,
+        Some(lab) => push_run(&mut text, lab, gate, shown)?,
         None => {}
     }
     Ok(text)
@@ -83,5 +85,5 @@ pub fn end_of<R: Threads + Sync + AllocGlobal>(
     let mut sink = MemSink::new(alloc, 4096, 16, &[case.write_fails])?;
     let gate = CountingGate::new();
     let finish = finish_of(rt, &words, &mut source, &mut sink, &gate);
-    told(alloc, &finish, sink.written(), &gate, case.shows_run())
+    told(alloc, &finish, sink.written(), &gate, case.shown())
 }

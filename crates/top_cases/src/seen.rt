@@ -28,6 +28,32 @@ fn push_line(text: &mut String, line: &Line) -> Result<(), NoMemory> {
     Ok(())
 }
 
+/// How many prefixes a line of a story announces to the remote, and how many it withdraws.
+fn told_by(line: &Line) -> (usize, usize) {
+    match line {
+        Line::Put(Message::UpdateMsg(update)) => (update.nlri.len(), update.withdrawn.len()),
+        _ => (0, 0),
+    }
+}
+
+/// How many prefixes were announced to all remotes of a run together, and how many were withdrawn.
+pub fn push_told(text: &mut String, lab: &Lab) -> Result<(), NoMemory> {
+    let mut announced = 0_usize;
+    let mut withdrawn = 0_usize;
+    for view in &lab.sessions {
+        for line in view.story.lines() {
+            let told = told_by(line);
+            announced = announced.saturating_add(told.0);
+            withdrawn = withdrawn.saturating_add(told.1);
+        }
+    }
+    write!(
+        text,
+        "\nannounced {announced} prefixes to remotes, withdrew {withdrawn}"
+    )?;
+    Ok(())
+}
+
 /// The stories of a run, and what each remote received, in hexadecimal.
 pub fn push_seen(text: &mut String, lab: &Lab) -> Result<(), NoMemory> {
     for view in &lab.sessions {

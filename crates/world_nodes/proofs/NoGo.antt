@@ -1,5 +1,6 @@
 -- In a round no group begins.
 use Rattle.std.proofs.Common.{◌≡◌, ◌≢◌, ◌∙◌, ℕ, List, [], ◌∷◌, length, Option, Some, None, refl, ap, sym, arith, inl, inr}
+use Rattle.std.proofs.lemmas.Bool.Decides.{nat_tests}
 use Rattle.std.specs.Option.{option_map}
 use Rattle.std.specs.List.{AllByRecursion}
 use Rattle.ring_net.specs.declared.entry.JournalEntry.{JournalEntry}
@@ -7,46 +8,27 @@ use Rattle.ring_net.specs.Deeds.{Deed, Replay, TakesFirst}
 use Rattle.graft_steps.specs.declared.item.Item.{Item}
 use Rattle.session_value.specs.Sessions.{SessionValue}
 use Rattle.graft_model.specs.Setups.{Setup}
-use Rattle.graft_model.specs.declared.kind.EventKind.TheVariants as kinds
-use Rattle.graft_model.specs.Codes.{number_of, router_code, far_code, operator_code}
-use Rattle.graft_model.specs.Steps.{operator_row, RouterEvent, Put, Emit, Arrive, Stray, Got, Decide, Tell, Hear, Admit, Refuse, Freeze, Leave, Land, TurnBack, Return, Clear, Tick, FarEvent, Say, Send, Take, Pass, Reach, Lose, Point, Beat, OperatorEvent, Order, Note, Go}
+use Rattle.graft_model.specs.Codes.{router_code, far_code, operator_code}
+use Rattle.graft_model.specs.declared.event.RouterEvent.{RouterEvent}
+use Rattle.graft_model.specs.declared.event.FarEvent.{FarEvent}
+use Rattle.graft_model.specs.declared.event.OperatorEvent.{OperatorEvent}
+use Rattle.graft_model.specs.declared.event.OperatorEvent.TheVariants.{Order, Note, Go}
+use Rattle.graft_model.specs.Steps.{operator_row}
 use Rattle.graft_model.specs.OperatorRows.{OperatorTaken}
 use Rattle.graft_runs.specs.Actors.{ActorPart, RouterIs, FarIs, OperatorIs, Thing, ActorName, Router, FarSide, Operator}
 use Rattle.graft_runs.specs.Makes.{makes_as, numbered, taken_by_operator}
 use Rattle.graft_runs.specs.Laws.{IsGo}
 use Rattle.graft_actors.specs.Acts.{OwnPart, ActsAs, acts}
 use Rattle.world_runs.specs.Laws.{IsNoGo}
+use Rattle.graft_model.proofs.GoAlone.{router_kind, far_kind}
 
 -- ---- by their kinds
 
-no_router_go : (event : RouterEvent) → number_of (router_code event).kind ≡ number_of kinds.Go → ⊥
-no_router_go (Put p n) e = absurd (omega (arith, e))
-no_router_go (Emit p from len) e = absurd (omega (arith, e))
-no_router_go (Arrive p) e = absurd (omega (arith, e))
-no_router_go (Stray p) e = absurd (omega (arith, e))
-no_router_go (Got p) e = absurd (omega (arith, e))
-no_router_go (Decide prefix) e = absurd (omega (arith, e))
-no_router_go (Tell q prefix) e = absurd (omega (arith, e))
-no_router_go (Hear q) e = absurd (omega (arith, e))
-no_router_go (Admit k) e = absurd (omega (arith, e))
-no_router_go (Refuse k) e = absurd (omega (arith, e))
-no_router_go (Freeze k) e = absurd (omega (arith, e))
-no_router_go (Leave k) e = absurd (omega (arith, e))
-no_router_go (Land q) e = absurd (omega (arith, e))
-no_router_go (TurnBack q) e = absurd (omega (arith, e))
-no_router_go (Return q) e = absurd (omega (arith, e))
-no_router_go (Clear q) e = absurd (omega (arith, e))
-no_router_go (Tick p round) e = absurd (omega (arith, e))
+no_router_go : (event : RouterEvent) → (router_code event).kind ≡ (operator_code Go).kind → ⊥
+no_router_go event e = let apart = router_kind event in grind (arith, nat_tests, apart, e)
 
-no_far_go : (event : FarEvent) → number_of (far_code event).kind ≡ number_of kinds.Go → ⊥
-no_far_go (Say step) e = absurd (omega (arith, e))
-no_far_go (Send from len) e = absurd (omega (arith, e))
-no_far_go (Take router) e = absurd (omega (arith, e))
-no_far_go (Pass index keep router) e = absurd (omega (arith, e))
-no_far_go (Reach index keep) e = absurd (omega (arith, e))
-no_far_go (Lose way index) e = absurd (omega (arith, e))
-no_far_go (Point router) e = absurd (omega (arith, e))
-no_far_go (Beat round) e = absurd (omega (arith, e))
+no_far_go : (event : FarEvent) → (far_code event).kind ≡ (operator_code Go).kind → ⊥
+no_far_go event e = let apart = far_kind event in grind (arith, nat_tests, apart, e)
 
 -- ---- by their rows: a Go is the operator's, and takes nothing
 
@@ -69,8 +51,8 @@ row_go setup Operator (FarIs p) q entry taken sent row go = absurd row
 row_go setup Operator (OperatorIs p) (OperatorIs q) entry taken sent row go = (refl, by_event row.event refl)
   where
     by_event : (event : OperatorEvent) → row.event ≡ event → taken ≡ None
-    by_event (Order step) e = let h : number_of kinds.Order ≡ number_of kinds.Go = ap (λ o. number_of (operator_code o).kind) (sym e) ∙ sym row.coded.kind ∙ go in absurd (omega (arith, h))
-    by_event (Note router) e = let h : number_of kinds.Note ≡ number_of kinds.Go = ap (λ o. number_of (operator_code o).kind) (sym e) ∙ sym row.coded.kind ∙ go in absurd (omega (arith, h))
+    by_event (Order step) e = let h : (operator_code (Order step)).kind ≡ (operator_code Go).kind = ap (λ o. (operator_code o).kind) (sym e) ∙ sym row.coded.kind ∙ go in absurd (omega (arith, h))
+    by_event (Note router) e = let h : (operator_code (Note router)).kind ≡ (operator_code Go).kind = ap (λ o. (operator_code o).kind) (sym e) ∙ sym row.coded.kind ∙ go in absurd (omega (arith, h))
     by_event Go e = row.is_taken ∙ ap (λ o. option_map (λ (t : OperatorTaken). numbered setup (taken_by_operator t)) o) (takes row.event e row.holds)
       where
         takes : (event : OperatorEvent) → event ≡ Go → operator_row setup event p row.took row.gave q → row.took ≡ None
@@ -87,7 +69,7 @@ module _ {C : Type 0} (session : C → SessionValue) where
   pub act_go : (before after : OwnPart) (entry : JournalEntry) (taken : Option (ℕ × Item C)) (sent : List (ℕ × Item C)) → ActsAs session before entry taken sent after → IsGo entry → (before.name ≡ Operator) × (taken ≡ None)
   act_go before after entry taken sent act go = elim (act.does) [
     | inl makes ↦ let row = row_go before.setup before.name before.part after.part entry _ _ makes.row go in (row.0, none_mapped _ taken row.1)
-    | inr drops ↦ let h : 0 ≡ number_of kinds.Go = sym drops.kind ∙ go in absurd (omega (arith, h))
+    | inr drops ↦ let h : 0 ≡ (operator_code Go).kind = sym drops.kind ∙ go in absurd (omega (arith, h))
   ]
 
   -- who isn't the operator begins no group

@@ -14,6 +14,7 @@ use Rattle.loc_rib.specs.contracts.rib.LocRib as LocRib
 use Rattle.rib_stages.specs.contracts.config.RibConfig as RibConfig
 use Rattle.rib_stages.specs.contracts.sources.Sources as Sources
 use Rattle.rib_stages.specs.contracts.rib.Rib as Rib
+use Rattle.session_places.specs.contracts.Places as Places
 use Rattle.router_core.specs.contracts.config.NamedPolicy as NamedPolicy
 use Rattle.router_core.specs.contracts.place.Place as Place
 use Rattle.router_core.specs.contracts.due.DueSets as DueSets
@@ -64,11 +65,14 @@ policy_by_name = let n = name in let p = policy in search (sendable, crosses) de
 place : IsSend (Place.the_field).row
 place = let s = session in search (sendable, crosses) depth 40
 
+places : (V : RattleType) → IsSend V → IsSend (Places.the_row V)
+places V s = search (sendable, crosses) depth 40
+
 due : IsSend DueSets.the_row
 due = let d = due_set in search (sendable, crosses) depth 40
 
 fields : IsSend (Fields.the_field).row
-fields = let k = known in let p = policy_by_name in let r = rib in let l = place in let d = due in search (sendable, crosses, items) depth 40
+fields = let k = known in let p = policy_by_name in let r = rib in let l = place in let d = due in search (sendable, crosses, items, places) depth 40
 
 pub router : IsSend (Router.the_field).row
 router = let f = fields in search (sendable, crosses) depth 40

@@ -4,7 +4,7 @@ use Rattle.link_bag.specs.declared.plan.Fault.{Fault}
 use Rattle.link_bag.specs.Planned.{fate_in, fate_of}
 use Rattle.tcp_seq.specs.declared.segment.Way.{Way}
 use Rattle.bgp_session.specs.Running.{RunningSession}
-use Rattle.graft_steps.specs.declared.order.GraftIds.{GraftIds}
+use Rattle.router_core.specs.declared.place.Errand.{Errand}
 use Rattle.graft_model.specs.Setups.{Setup, beat_of}
 use Rattle.router_core.specs.Places.{RunsAt}
 use Rattle.router_core.specs.declared.router as routers
@@ -16,7 +16,7 @@ use Rattle.world_nodes.specs.declared.node.Node.TheVariants.{Router, Far, Operat
 -- no turn was made, and no session had a retransmission turn
 pub record IsFreshRouter (router : routers.Router.Router) : Type 0 where
   pub turns : router.fields.turns ≡ 0
-  pub at_turn : (p : ℕ) (s : RunningSession) (o : Option GraftIds) → RunsAt router.fields.places.items p s o → s.acked_at_turn ≡ 0
+  pub at_turn : (p : ℕ) (s : RunningSession) (o : Option Errand) → RunsAt router.fields.places.places p s o → s.acked_at_turn ≡ 0
 
 -- No turn was made, both links are the peering's and nothing was put into them, the timer is the peering's, and the plan has the fates of these faults.
 pub record IsFreshFar (setup : Setup) (faults : List Fault) (far : fars.Far.Far) : Type 0 where

@@ -1,5 +1,5 @@
 -- A router sends nothing to itself.
-use Rattle.std.proofs.Common.{◌≡◌, ◌≢◌, ◌==◌, ℕ, zero, suc, Bool, true, false, List, [], ◌∷◌, ◌++◌, Option, if◌then◌else◌, refl, sym, ap, ◌∙◌, subst, inl, inr, arith}
+use Rattle.std.proofs.Common.{◌≡◌, ◌≢◌, ◌==◌, ℕ, Bool, true, false, List, [], ◌∷◌, ◌++◌, Option, if◌then◌else◌, refl, sym, ap, ◌∙◌, subst, inl, inr, arith}
 use Rattle.std.specs.List.{AllByRecursion}
 use Rattle.std.proofs.lemmas.Bool.Decides.{nat_tests}
 use Rattle.bgp_types.specs.Prefixes.{PrefixValue}
@@ -10,8 +10,10 @@ use Rattle.graft_model.specs.Setups.{Setup, IsSetup, peerings_in}
 use Rattle.graft_model.specs.Parts.{RouterPart, Mesh, Told, Moved, Back, Done, World}
 use Rattle.graft_model.specs.RouterRows.{RouterTaken, RouterSent, MeshTo, OutwardTo, ReportOut}
 use Rattle.graft_model.specs.TableRows.{Tells}
-use Rattle.graft_model.specs.Steps.{RouterEvent, Put, Emit, Arrive, Stray, Got, Decide, Tell, Hear, Admit, Refuse, Freeze, Leave, Land, TurnBack, Return, Clear, Tick, Event, ByRouter, ByFar, ByOperator, Step, router_row}
-use Rattle.graft_laws.specs.Phases.{Moving, Landed, Returning, Phase, Busy, only2, mesh_by, InBounds}
+use Rattle.graft_model.specs.declared.event.RouterEvent.{RouterEvent}
+use Rattle.graft_model.proofs.Footprints.{Footprint, Deciding, Telling, Hearing, Staying, Changing, SendsNoTelling, footprint}
+use Rattle.graft_model.specs.Steps.{Event, ByRouter, ByFar, ByOperator, Step, router_row}
+use Rattle.graft_laws.specs.Phases.{Moving, Confirmed, Returning, Phase, Busy, only2, mesh_by, InBounds}
 use Rattle.graft_laws.specs.Moves.{mesh_taken, mesh_sent, RouterMoves}
 use Rattle.graft_laws.specs.Owned.{mesh_of, Owned}
 use Rattle.graft_laws.specs.Keeps.{Reached}
@@ -61,25 +63,25 @@ module _ (setup : Setup) (r : ℕ) (before : RouterPart) (taken : Option RouterT
     nowhere : (item : Mesh) → AreUntold (mesh_sent r (MeshTo q item ∷ []) r r)
     nowhere item = let nothing : only2 r q item r r ++ [] ≡ [] = grind (arith, nat_tests, apart) in subst AreUntold (sym nothing) tt
 
+  -- one item at most is sent beside tellings, and it is none
+  silent_untold : (event : RouterEvent) (items : List RouterSent) → SendsNoTelling event before taken after items → AreUntold (mesh_sent r items r r)
+  silent_untold event [] silent = tt
+  silent_untold event (MeshTo q (Told x route) ∷ []) silent = absurd silent
+  silent_untold event (MeshTo q (Moved k p s) ∷ []) silent = one_untold r q (Moved k p s) tt
+  silent_untold event (MeshTo q (Back k p s refusal) ∷ []) silent = one_untold r q (Back k p s refusal) tt
+  silent_untold event (MeshTo q (Done k p) ∷ []) silent = one_untold r q (Done k p) tt
+  silent_untold event (OutwardTo p item ∷ []) silent = tt
+  silent_untold event (ReportOut report ∷ []) silent = tt
+  silent_untold event (item ∷ more ∷ items) silent = absurd silent
+
   row_untold : (event : RouterEvent) → IsNotDue r before → router_row setup r event before taken sent after → AreUntold (mesh_sent r sent r r)
-  row_untold (Put p zero) none row = these_untold [] row.alone.1 tt
-  row_untold (Put p (suc n)) none row = these_untold [] row.alone.1 tt
-  row_untold (Emit p from len) none row = these_untold _ row.sends tt
-  row_untold (Arrive p) none row = these_untold [] row.sends tt
-  row_untold (Stray p) none row = these_untold [] row.sends tt
-  row_untold (Got p) none row = these_untold [] row.alone.1 tt
-  row_untold (Decide prefix) none row = these_untold [] row.alone.1 tt
-  row_untold (Tell q prefix) none row = tells_others q prefix none row
-  row_untold (Hear q) none row = these_untold [] row.sends tt
-  row_untold (Admit k) none row = these_untold [] row.sends tt
-  row_untold (Refuse k) none row = these_untold _ row.sends tt
-  row_untold (Freeze k) none row = these_untold [] row.alone.1 tt
-  row_untold (Leave k) none row = these_untold _ row.sends (one_untold r row.target (Moved k row.peering row.session) tt)
-  row_untold (Land q) none row = these_untold _ row.sends (one_untold r q (Done row.comes.graft row.comes.peering) tt)
-  row_untold (TurnBack q) none row = these_untold _ row.sends (one_untold r q (Back row.comes.graft row.comes.peering row.comes.session row.refusal) tt)
-  row_untold (Return q) none row = these_untold _ row.sends tt
-  row_untold (Clear q) none row = these_untold _ row.sends tt
-  row_untold (Tick p round) none row = these_untold [] row.alone.1 tt
+  row_untold event none row = by_print (footprint setup r before after taken sent event row) where
+    by_print : Footprint setup r event before taken sent after → AreUntold (mesh_sent r sent r r)
+    by_print (Deciding prefix decides) = these_untold [] decides.alone.1 tt
+    by_print (Telling q prefix tells) = tells_others q prefix none tells
+    by_print (Hearing q hears) = these_untold [] hears.sends tt
+    by_print (Staying silent stays) = silent_untold event sent silent.sends
+    by_print (Changing p silent one change) = silent_untold event sent silent.sends
 
 abbrev TellsNothing : World → Type 0
 TellsNothing w = (a : ℕ) → AreUntold (w.mesh a a)
@@ -107,7 +109,7 @@ apart_nowhere q t r item apart = grind (arith, nat_tests)
 
 graft_nowhere : (setup : Setup) (phase : Phase) (p : ℕ) (s : SessionValue) (r : ℕ) → InBounds setup phase → mesh_by phase p s r r ≡ []
 graft_nowhere setup (Busy q k t Moving) p s r bounds = apart_nowhere q t r (Moved k p s) bounds.2
-graft_nowhere setup (Busy q k t Landed) p s r bounds = apart_nowhere t q r (Done k p) (λ e. bounds.2 (sym e))
+graft_nowhere setup (Busy q k t Confirmed) p s r bounds = apart_nowhere t q r (Done k p) (λ e. bounds.2 (sym e))
 graft_nowhere setup (Busy q k t (Returning refusal)) p s r bounds = apart_nowhere t q r (Back k p s refusal) (λ e. bounds.2 (sym e))
 graft_nowhere setup phase p s r bounds = refl
 

@@ -8,12 +8,12 @@ use Rattle.ring_net.specs.Deeds.{Deed}
 use Rattle.journal_merge.specs.Worlds as worlds
 use Rattle.graft_steps.specs.declared.item.Item.{Item}
 use Rattle.session_value.specs.Sessions.{SessionValue}
-use Rattle.graft_model.specs.declared.kind.EventKind.{EventKind}
-use Rattle.graft_model.specs.declared.kind.EventKind.TheVariants as kinds
-use Rattle.graft_model.specs.Codes.{number_of}
+use Rattle.graft_model.specs.declared.event.ActorEvent.{ActorEvent}
+use Rattle.graft_model.specs.declared.event.ActorEvent.TheVariants.{OfRouter, OfFar, OfOperator}
+use Rattle.graft_model.specs.Codes.{actor_code}
 use Rattle.graft_model.specs.Setups.{Setup, IsSetup, routers_in, peerings_in}
 use Rattle.graft_model.specs.Parts.{World}
-use Rattle.graft_model.specs.Steps.{Event, Run}
+use Rattle.graft_model.specs.Steps.{Event, ByRouter, ByFar, ByOperator, Run}
 use Rattle.graft_laws.specs.Keeps.{Reached}
 use Rattle.graft_laws.proofs.Runs.{reached_more}
 use Rattle.graft_runs.specs.Actors.{ActorName, Router, FarSide, Operator, actor_at}
@@ -40,42 +40,24 @@ entries_join setup [] back (x ∷ xs) ys first second = absurd first
 entries_join setup (event ∷ front) back [] ys first second = absurd first
 entries_join setup (event ∷ front) back (x ∷ xs) ys first second = (first.0, entries_join setup front back xs ys first.1 second)
 
--- no event's entry is that of a dropped item
-kind_above : (kind : EventKind) → number_of kind ≢ 0
-kind_above kinds.Put e = omega arith
-kind_above kinds.Emit e = omega arith
-kind_above kinds.Arrive e = omega arith
-kind_above kinds.Stray e = omega arith
-kind_above kinds.Got e = omega arith
-kind_above kinds.Decide e = omega arith
-kind_above kinds.Tell e = omega arith
-kind_above kinds.Hear e = omega arith
-kind_above kinds.Admit e = omega arith
-kind_above kinds.Refuse e = omega arith
-kind_above kinds.Freeze e = omega arith
-kind_above kinds.Leave e = omega arith
-kind_above kinds.Land e = omega arith
-kind_above kinds.TurnBack e = omega arith
-kind_above kinds.Return e = omega arith
-kind_above kinds.Clear e = omega arith
-kind_above kinds.Say e = omega arith
-kind_above kinds.Send e = omega arith
-kind_above kinds.Take e = omega arith
-kind_above kinds.Pass e = omega arith
-kind_above kinds.Reach e = omega arith
-kind_above kinds.Lose e = omega arith
-kind_above kinds.Point e = omega arith
-kind_above kinds.Order e = omega arith
-kind_above kinds.Note e = omega arith
-kind_above kinds.Go e = omega arith
-kind_above kinds.Tick e = omega arith
-kind_above kinds.Beat e = omega arith
+-- an event without its actor
+abbrev event_in : Event → ActorEvent
+event_in (ByRouter r event) = OfRouter event
+event_in (ByFar p event) = OfFar event
+event_in (ByOperator event) = OfOperator event
 
-pub none_dropped : (setup : Setup) (events : List Event) (entries : List JournalEntry) → AreEntriesOf setup events entries → AllByRecursion (λ (e : JournalEntry). e.kind ≢ 0) entries
-none_dropped setup [] [] are = tt
-none_dropped setup [] (entry ∷ entries) are = absurd are
-none_dropped setup (event ∷ events) [] are = absurd are
-none_dropped setup (event ∷ events) (entry ∷ entries) are = (λ e. kind_above (code_of event).kind (sym are.0.coded.kind ∙ e), none_dropped setup events entries are.1)
+-- no event's entry is that of a dropped item
+kind_above : ((event : ActorEvent) → 0 < (actor_code event).kind) → (event : Event) → (code_of event).kind ≢ 0
+kind_above above (ByRouter r event) e = let l = above (OfRouter event) in omega (arith, e, l)
+kind_above above (ByFar p event) e = let l = above (OfFar event) in omega (arith, e, l)
+kind_above above (ByOperator event) e = let l = above (OfOperator event) in omega (arith, e, l)
+
+module _ (above : (event : ActorEvent) → 0 < (actor_code event).kind) where
+  pub none_dropped : (setup : Setup) (events : List Event) (entries : List JournalEntry) → AreEntriesOf setup events entries → AllByRecursion (λ (e : JournalEntry). e.kind ≢ 0) entries
+  none_dropped setup [] [] are = tt
+  none_dropped setup [] (entry ∷ entries) are = absurd are
+  none_dropped setup (event ∷ events) [] are = absurd are
+  none_dropped setup (event ∷ events) (entry ∷ entries) are = (λ e. kind_above above event (sym are.0.coded.kind ∙ e), none_dropped setup events entries are.1)
 
 -- ---- actors
 

@@ -9,6 +9,7 @@ use graft_laws::{
     always_transparent, every_world_is_owned, no_item_is_dropped, one_session_is_held,
     sessions_are_unbroken,
 };
+use graft_model::codes_are_exact;
 use graft_runs::{an_event_is_a_step, parts_begin_as_the_first_world};
 
 /// What an actor of the laboratory does is a step of the world, and what actors do one after another is a run: each item that comes on its way is
@@ -19,6 +20,7 @@ pub fn an_act_is_a_step<C>()
     ensures kept { NothingWasDropped }
 {
     acts_are_events::<C>();
+    codes_are_exact();
     an_event_is_a_step();
     no_item_is_dropped();
 }

@@ -20,12 +20,12 @@ fn send_again_at(
     post: &mut Post<Item<Capsule>>,
 ) -> Result<(), NoMemory>
     requires keeps { Keeps router.old }
-    requires place { n < length router.old.places.items }
+    requires place { n < length router.old.places.places }
     ensures edges { SameEdges post.old post.new }
     ensures visits { OnOk result (Visits sending_again n router.old post.old router.new post.new) }
 {
     let outlet = outlet_of(router, n);
-    let Some(segment) = again(&mut router.places[n])? else {
+    let Some(segment) = again(&mut router.places, n)? else {
         return Ok(());
     };
     outlet.send(segment, post)

@@ -1,12 +1,11 @@
 //! How a router begins.
 
-ghost use Rattle.std.specs.Prelude.{◌≡◌, length, replicate, IfOk};
+ghost use Rattle.std.specs.Prelude.{◌≡◌, ◌≤◌, length, IfOk};
 ghost use Rattle.std.specs.List.{AllByRecursion};
 ghost use Rattle.graft_model.specs.Setups.{IsSetup};
 ghost use Rattle.router_core.specs.Beginning.{AreBegun, CanBegin};
 ghost use Rattle.router_core.specs.Begins.{BeginsAs};
 ghost use Rattle.router_core.specs.Configs.{IsConfigOf};
-ghost use Rattle.router_core.specs.declared.place.Place.TheVariants.{Vacant};
 
 use crate::config::RouterConfig;
 use crate::due::DueSets;
@@ -17,38 +16,30 @@ use bgp_types::Items;
 use graft_actors::Known;
 use graft_edge::NoMemory;
 use rib_stages::Rib;
+use session_places::Places;
 use session_value::SessionConfig;
 use std::alloc::Global;
 
-/// So many vacant places.
-fn vacant(alloc: Global, count: usize) -> Result<Vec<Place>, NoMemory>
-    ensures { IfOk result (λ places. places.items ≡ replicate count Vacant) }
-{
-    let mut places = Vec::new(alloc);
-    for _n in 0..count {
-        places.push(Place::Vacant)?;
-    }
-    Ok(places)
-}
-
-/// So many places, with the sessions that begin.
+/// So many places, with the sessions that begin: of two that begin at a place the first is there. There is room for all of them.
 fn begin_places(
     alloc: Global,
     count: usize,
+    room: u32,
     sessions: Items<SessionConfig>,
-) -> Result<Vec<Place>, NoMemory>
-    requires { AllByRecursion (CanBegin count) sessions }
-    ensures { IfOk result (λ places. AreBegun count sessions places.items) }
+) -> Result<Places<Place>, NoMemory>
+    requires each { AllByRecursion (CanBegin count) sessions }
+    requires room { length sessions ≤ room }
+    ensures begun { IfOk result (λ places. AreBegun count sessions places.places) }
+    ensures room { IfOk result (λ places. places.room ≡ room) }
 {
-    let mut places = vacant(alloc, count)?;
+    let mut places = Places::new(alloc, count, room as usize)?;
     let mut left = sessions.into_vec();
     while let Some(config) = left.pop() {
         let place = usize::from(config.peering.0);
         let session = Session::begin(alloc, config)?;
-        places[place] = Place::Live {
-            session,
-            order: None,
-        };
+        let errand = None;
+        places.remove(place);
+        places.put(place, Place::Live { session, errand });
     }
     Ok(places)
 }
@@ -70,7 +61,7 @@ pub(crate) fn begin(alloc: Global, known: Known, config: RouterConfig) -> Result
     } = config;
     let count = firsts.len();
     let home_as = rib.home_as;
-    let places = begin_places(alloc, count, sessions)?;
+    let places = begin_places(alloc, count, room, sessions)?;
     let due_in = DueSets::new(alloc, routers as usize)?;
     let due_out = DueSets::new(alloc, count)?;
     let rib = Rib::new(alloc, rib)?;

@@ -9,7 +9,7 @@ ghost use Rattle.rib_stages.specs.Values.{table_at};
 ghost use Rattle.graft_model.specs.TableRows.{holds_established};
 ghost use Rattle.router_core.specs.Deciding.{AddsBelow, DecidesOne, DueToAll, is_other, is_up_at};
 ghost use Rattle.router_core.specs.Parts.{Keeps};
-ghost use Rattle.router_core.specs.Places.{place_of};
+ghost use Rattle.router_core.specs.Places.{place_at, place_of};
 ghost use Rattle.router_core.specs.Stages.{DecidesAll};
 
 use crate::due::DueSets;
@@ -17,13 +17,12 @@ use crate::fields::Fields;
 use crate::place::Place;
 use bgp_session::Capsule;
 use bgp_types::{Prefix, SessionState};
-use graft_actors::note;
+use graft_actors::note_router;
 use graft_edge::NoMemory;
+use graft_model::RouterEvent;
 use graft_steps::Item;
 use ring_net::Post;
-
-/// The kind of the event.
-const DECIDE: u16 = 6;
+use session_places::Places;
 
 /// Makes a prefix due at a number, where it is to be.
 fn add_where(sets: &mut DueSets, n: usize, prefix: Prefix, is_due: bool) -> Result<(), NoMemory>
@@ -35,12 +34,12 @@ fn add_where(sets: &mut DueSets, n: usize, prefix: Prefix, is_due: bool) -> Resu
 }
 
 /// Whether an established session is held at a place.
-fn is_up(place: &Place) -> bool
-    ensures { result ≡ holds_established (place_of place.now) }
+fn is_up(places: &Places<Place>, n: usize) -> bool
+    ensures { result ≡ holds_established (place_of (place_at places.now.places n)) }
 {
-    match place {
-        Place::Live { session, .. } => session.state() == SessionState::Established,
-        Place::Vacant | Place::Shadow { .. } => false,
+    match places.get(n) {
+        Some(Place::Live { session, .. }) => session.state() == SessionState::Established,
+        Some(Place::Shadow { .. }) | None => false,
     }
 }
 
@@ -64,7 +63,7 @@ fn due_on_sessions(router: &mut Fields, prefix: Prefix) -> Result<(), NoMemory>
     ensures same { OnOk result (router.new ≡ record router.old { due_out = router.new.due_out }) }
 {
     for n in 0..router.places.len() {
-        let is_due = is_up(&router.places[n]);
+        let is_due = is_up(&router.places, n);
         add_where(&mut router.due_out, n, prefix, is_due)?;
     }
     Ok(())
@@ -90,7 +89,7 @@ fn decide_one(
     ensures edges { SameEdges post.old post.new }
     ensures decides { OnOk result (DecidesOne prefix router.old post.old router.new post.new) }
 {
-    note(post, DECIDE, prefix.address(), u32::from(prefix.len()), 0)?;
+    note_router(post, RouterEvent::Decide { prefix })?;
     if router.rib.decide(prefix)? {
         due_to_all(router, prefix)?;
     }

@@ -20,13 +20,13 @@ fn send_new_at(
     post: &mut Post<Item<Capsule>>,
 ) -> Result<(), NoMemory>
     requires keeps { Keeps router.old }
-    requires place { n < length router.old.places.items }
+    requires place { n < length router.old.places.places }
     ensures edges { SameEdges post.old post.new }
     ensures sent { OnOk result (Visits sending_new n router.old post.old router.new post.new) }
 {
     let outlet = outlet_of(router, n);
     loop {
-        let Some(segment) = next(&mut router.places[n])? else {
+        let Some(segment) = next(&mut router.places, n)? else {
             return Ok(());
         };
         outlet.send(segment, post)?;
@@ -40,12 +40,12 @@ fn send_answer_at(
     post: &mut Post<Item<Capsule>>,
 ) -> Result<(), NoMemory>
     requires keeps { Keeps router.old }
-    requires place { n < length router.old.places.items }
+    requires place { n < length router.old.places.places }
     ensures edges { SameEdges post.old post.new }
     ensures sent { OnOk result (Visits answering n router.old post.old router.new post.new) }
 {
     let outlet = outlet_of(router, n);
-    let Some(segment) = answer(&mut router.places[n]) else {
+    let Some(segment) = answer(&mut router.places, n) else {
         return Ok(());
     };
     outlet.send(segment, post)
@@ -54,7 +54,7 @@ fn send_answer_at(
 /// Emits on a session all that may be emitted, and the answer that is owed.
 fn emit_at(router: &mut Fields, n: usize, post: &mut Post<Item<Capsule>>) -> Result<(), NoMemory>
     requires keeps { Keeps router.old }
-    requires place { n < length router.old.places.items }
+    requires place { n < length router.old.places.places }
     ensures edges { SameEdges post.old post.new }
     ensures visits { OnOk result (Visits emitting n router.old post.old router.new post.new) }
 {

@@ -1,29 +1,27 @@
 //! The grafts that begin at their source.
 
-ghost use Rattle.std.specs.Prelude.{◌<◌, ◌+◌, ◌≡◌, length, OnOk, Some};
+ghost use Rattle.std.specs.Prelude.{◌<◌, ◌+◌, ◌≡◌, length, OnOk, None, Some};
 ghost use Rattle.ring_net.specs.Posts.{SameEdges};
 ghost use Rattle.graft_model.specs.Setups.{peerings_in, routers_in};
-ghost use Rattle.router_core.specs.Leaving.{BegunAs};
+ghost use Rattle.bgp_session.specs.Running.{RunningSession};
+ghost use Rattle.router_core.specs.Leaving.{BegunAs, TakesOrder};
 ghost use Rattle.router_core.specs.Parts.{Keeps};
+ghost use Rattle.router_core.specs.Places.{AtOne};
 ghost use Rattle.router_core.specs.Stages.{BeginsGrafts};
+ghost use Rattle.router_core.specs.declared.place.Errand.TheVariants.{Leaving};
 ghost use Rattle.router_core.specs.declared.place.Place.TheVariants.{Live};
 ghost use Rattle.router_core.specs.Visits.{Visits, beginning_grafts};
 
 use crate::fields::Fields;
-use crate::place::Place;
-use bgp_session::{Capsule, Session};
-use graft_actors::{note, note_sent};
+use crate::place::{Errand, Place};
+use bgp_session::Capsule;
+use graft_actors::{note_router, note_router_sent};
 use graft_edge::NoMemory;
+use graft_model::RouterEvent;
 use graft_steps::{GraftIds, Item, Ordered, Outcome, Refusal};
 use ring_net::Post;
+use session_places::Places;
 use std::mem;
-
-/// The kinds of the events.
-const REFUSE: u16 = 10;
-
-const FREEZE: u16 = 11;
-
-const LEAVE: u16 = 12;
 
 /// What became of the graft that was stored at a place.
 #[derive(Drop)]
@@ -36,48 +34,58 @@ pub(crate) enum Begun {
     Left(GraftIds, Capsule),
 }
 
-/// Begins a graft of the session that is live at a place, which is vacant meanwhile.
-fn begin_with(place: &mut Place, session: Session, order: Ordered) -> Begun
-    ensures { BegunAs (Live session (Some order)) result place.new }
+/// Begins a graft of the session that is live at a place: it is refused, or the session leaves.
+fn begin_with(place: &mut Place, order: Ordered) -> Begun
+    ensures { (s : RunningSession) → place.old ≡ Live s None → BegunAs (Some (Live s (Some (Leaving order)))) result (Some place.new) }
 {
     let ids = order.ids();
-    match order.freeze(session.state(), session.hold()) {
-        Err(refusal) => {
-            *place = Place::Live {
-                session,
-                order: None,
-            };
-            Begun::Refused(ids, refusal)
-        }
-        Ok(frozen) => {
-            *place = Place::Shadow {
-                away: frozen.leave(),
-            };
-            Begun::Left(ids, session.freeze().leave())
-        }
+    let Place::Live { session, .. } = place else {
+        return Begun::Nothing;
+    };
+    let frozen = match order.freeze(session.state(), session.hold()) {
+        Ok(frozen) => frozen,
+        Err(refusal) => return Begun::Refused(ids, refusal),
+    };
+    let away = frozen.leave();
+    match mem::replace(place, Place::Shadow { away }) {
+        Place::Live { session, .. } => Begun::Left(ids, session.freeze().leave()),
+        Place::Shadow { .. } => Begun::Nothing,
+    }
+}
+
+/// Takes the order of the graft that is stored with the session that is live there, if one is.
+fn take_order(place: &mut Place) -> Option<Ordered>
+    ensures { TakesOrder place.old result place.new }
+{
+    match place {
+        Place::Live { errand, .. } => match errand.take() {
+            Some(Errand::Leaving(order)) => Some(order),
+            other => {
+                *errand = other;
+                None
+            }
+        },
+        Place::Shadow { .. } => None,
+    }
+}
+
+/// Begins the graft that is stored with the session that is live there, if one is.
+fn begin_of(place: &mut Place) -> Begun
+    ensures { BegunAs (Some place.old) result (Some place.new) }
+{
+    match take_order(place) {
+        Some(order) => begin_with(place, order),
+        None => Begun::Nothing,
     }
 }
 
 /// Begins the graft that is stored at a place.
-fn begin_graft(place: &mut Place) -> Begun
-    ensures { BegunAs place.old result place.new }
+fn begin_graft(places: &mut Places<Place>, n: usize) -> Begun
+    ensures { AtOne (λ old new. BegunAs old result new) places.old n places.new }
 {
-    match mem::replace(place, Place::Vacant) {
-        Place::Vacant => Begun::Nothing,
-        Place::Live { session, order } => match order {
-            Some(order) => begin_with(place, session, order),
-            None => {
-                *place = Place::Live {
-                    session,
-                    order: None,
-                };
-                Begun::Nothing
-            }
-        },
-        Place::Shadow { away } => {
-            *place = Place::Shadow { away };
-            Begun::Nothing
-        }
+    match places.get_mut(n) {
+        Some(place) => begin_of(place),
+        None => Begun::Nothing,
     }
 }
 
@@ -96,25 +104,26 @@ fn begin_graft_at(
     post: &mut Post<Item<Capsule>>,
 ) -> Result<(), NoMemory>
     requires keeps { Keeps router.old }
-    requires place { n < length router.old.places.items }
+    requires place { n < length router.old.places.places }
     ensures edges { SameEdges post.old post.new }
     ensures visits { OnOk result (Visits beginning_grafts n router.old post.old router.new post.new) }
 {
     let operator = operator(router);
-    match begin_graft(&mut router.places[n]) {
+    match begin_graft(&mut router.places, n) {
         Begun::Nothing => Ok(()),
         Begun::Refused(ids, refusal) => {
             let graft = ids.graft;
             let outcome = Outcome::Refused(refusal);
             let report = Item::Report { graft, outcome };
-            note_sent(post, REFUSE, graft, 0, 0, operator, report)
+            note_router_sent(post, RouterEvent::Refuse { graft }, operator, report)
         }
         Begun::Left(ids, capsule) => {
             let graft = ids.graft;
             router.due_out.clear(n);
-            note(post, FREEZE, graft, 0, 0)?;
+            note_router(post, RouterEvent::Freeze { graft })?;
             let moved = Item::Moved { graft, capsule };
-            note_sent(post, LEAVE, graft, 0, 0, usize::from(ids.target.0), moved)
+            let target = usize::from(ids.target.0);
+            note_router_sent(post, RouterEvent::Leave { graft }, target, moved)
         }
     }
 }

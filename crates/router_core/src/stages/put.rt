@@ -1,6 +1,6 @@
 //! What sessions are told (RFC 4271, section 9.2).
 
-ghost use Rattle.std.specs.Prelude.{ℕ, ◌≡◌, ◌<◌, ◌^◌, ◌-◌, [], length, min, reverse, All, fold, IfOk, IfSome, IfNone, OnOk, option_map};
+ghost use Rattle.std.specs.Prelude.{ℕ, ◌≡◌, ◌<◌, ◌^◌, ◌-◌, [], length, min, reverse, All, fold, Some, IfOk, IfSome, IfNone, OnOk, option_map};
 ghost use Rattle.std.specs.FinMap as map;
 ghost use Rattle.bgp_types.specs.Prefixes.{IsPrefix};
 ghost use Rattle.ring_net.specs.Posts.{SameEdges};
@@ -9,7 +9,7 @@ ghost use Rattle.rib_stages.specs.Values.{table_at};
 ghost use Rattle.tell_plan.specs.Gathering.{AreSound};
 ghost use Rattle.tell_plan.specs.Plans.{IsWritableFor, octets};
 ghost use Rattle.router_core.specs.Parts.{Keeps, router_part};
-ghost use Rattle.router_core.specs.Places.{place_at};
+ghost use Rattle.router_core.specs.Places.{AtOne, place_at};
 ghost use Rattle.router_core.specs.declared.place.Place.TheVariants.{Live};
 ghost use Rattle.router_core.specs.Putting.{NextAt, OfferedAt, OffersAt, PlannedAt, PutOrDone, PutsAt, PutsSomeAt, TimeAnswer};
 ghost use Rattle.router_core.specs.Updates.{IsFirstStuck, IsStuckInTime, RoomAnswer, StuckAnswer, length_with};
@@ -21,16 +21,15 @@ use crate::place::Place;
 use crate::takes::named::policy_of;
 use bgp_session::{Capsule, OfferStop, Session};
 use bgp_types::{Message, Prefix, SessionState, TryCopy, Update, message_len};
-use graft_actors::note;
+use graft_actors::note_router;
 use graft_edge::{NoMemory, PeeringId};
+use graft_model::RouterEvent;
 use graft_steps::Item;
 use rib_stages::OutView;
 use ring_net::Post;
+use session_places::Places;
 use std::alloc::Global;
 use tell_plan::{Batch, plan};
-
-/// The kind of the event.
-const PUT: u16 = 1;
 
 /// How many bytes an established session puts at most, so that a NOTIFICATION has room behind them.
 const MOST_PUT: usize = 1_044_480;
@@ -38,10 +37,10 @@ const MOST_PUT: usize = 1_044_480;
 /// How many bytes a KEEPALIVE has.
 const KEEPALIVE_LEN: usize = 19;
 
-/// Offers an UPDATE to the session that is live at a place, and answers whether its stream had room.
-fn offer(place: &mut Place, update: Update) -> Result<bool, NoMemory>
-    requires { OffersAt place.old update }
-    ensures { IfOk result (λ put. OfferedAt put update place.old place.new) }
+/// Offers an UPDATE to the session that is live there, and answers whether its stream had room.
+fn offer_to(place: &mut Place, update: Update) -> Result<bool, NoMemory>
+    requires { OffersAt (Some place.old) update }
+    ensures { IfOk result (λ put. OfferedAt put update (Some place.old) (Some place.new)) }
 {
     match place {
         Place::Live { session, .. } => match session.offer(update) {
@@ -49,7 +48,18 @@ fn offer(place: &mut Place, update: Update) -> Result<bool, NoMemory>
             Err(OfferStop::StreamFull { .. }) => Ok(false),
             Err(OfferStop::NoMemory) => Err(NoMemory),
         },
-        Place::Vacant | Place::Shadow { .. } => Ok(false),
+        Place::Shadow { .. } => Ok(false),
+    }
+}
+
+/// Offers an UPDATE to the session that is live at a place, and answers whether its stream had room.
+fn offer(places: &mut Places<Place>, n: usize, update: Update) -> Result<bool, NoMemory>
+    requires { OffersAt (place_at places.old.places n) update }
+    ensures { IfOk result (λ put. AtOne (OfferedAt put update) places.old n places.new) }
+{
+    match places.get_mut(n) {
+        Some(place) => offer_to(place, update),
+        None => Ok(false),
     }
 }
 
@@ -67,11 +77,11 @@ fn settle(due: &mut DueSets, n: usize, prefixes: &[Prefix])
 /// What is to be put on the session at a place, the last UPDATE first.
 fn planned(router: &Fields, n: usize) -> Result<Vec<Batch>, NoMemory>
     requires keeps { Keeps router.now }
-    requires place { n < length router.now.places.items }
-    ensures planned { IfOk result (λ batches. PlannedAt router.now.known.setup router.now.number.0 (router_part router.now) n (place_at router.now.places.items n) (reverse batches.items)) }
+    requires place { n < length router.now.places.places }
+    ensures planned { IfOk result (λ batches. PlannedAt router.now.known.setup router.now.number.0 (router_part router.now) n (place_at router.now.places.places n) (reverse batches.items)) }
     ensures sound { IfOk result (λ batches. AreSound batches.items) }
 {
-    let Place::Live { session, .. } = &router.places[n] else {
+    let Some(Place::Live { session, .. }) = router.places.get(n) else {
         return Ok(Vec::new(router.alloc));
     };
     if session.state() != SessionState::Established {
@@ -80,6 +90,7 @@ fn planned(router: &Fields, n: usize) -> Result<Vec<Batch>, NoMemory>
     let config = session.config();
     let view = OutView {
         peering: config.peering,
+        remote_as: config.remote_as,
         local_address: config.local_address,
         export: policy_of(&router.policies, &config.export),
     };
@@ -105,8 +116,8 @@ fn put_one(
     post: &mut Post<Item<Capsule>>,
 ) -> Result<bool, NoMemory>
     requires keeps { Keeps router.old }
-    requires place { n < length router.old.places.items }
-    requires next { NextAt router.old.known.setup router.old.number.0 (router_part router.old) n (place_at router.old.places.items n) batch }
+    requires place { n < length router.old.places.places }
+    requires next { NextAt router.old.known.setup router.old.number.0 (router_part router.old) n (place_at router.old.places.places n) batch }
     requires sound { All IsPrefix batch.prefixes }
     requires writable { IsWritableFor batch }
     ensures edges { SameEdges post.old post.new }
@@ -115,11 +126,12 @@ fn put_one(
 {
     let prefixes = batch.prefixes.copy()?;
     let update = batch.into_update(router.alloc);
-    if !offer(&mut router.places[n], update)? {
+    if !offer(&mut router.places, n, update)? {
         return Ok(false);
     }
     settle(&mut router.due_out, n, &prefixes);
-    note(post, PUT, n as u32, prefixes.len() as u32, 0)?;
+    let (peering, count) = (n as u32, prefixes.len() as u32);
+    note_router(post, RouterEvent::Put { peering, count })?;
     Ok(true)
 }
 
@@ -130,9 +142,9 @@ fn put_nothing(
     post: &mut Post<Item<Capsule>>,
 ) -> Result<(), NoMemory>
     requires keeps { Keeps router.old }
-    requires place { n < length router.old.places.items }
+    requires place { n < length router.old.places.places }
     requires clean { router.old.rib.dirty ≡ map.empty }
-    requires planned { PlannedAt router.old.known.setup router.old.number.0 (router_part router.old) n (place_at router.old.places.items n) [] }
+    requires planned { PlannedAt router.old.known.setup router.old.number.0 (router_part router.old) n (place_at router.old.places.places n) [] }
     ensures edges { SameEdges post.old post.new }
     ensures puts { OnOk result (PutsAt n router.old post.old router.new post.new) }
 {
@@ -140,13 +152,14 @@ fn put_nothing(
         return Ok(());
     }
     router.due_out.clear(n);
-    note(post, PUT, n as u32, 0, 0)
+    let peering = n as u32;
+    note_router(post, RouterEvent::Put { peering, count: 0 })
 }
 
 /// Puts on the session at a place what is due there.
 fn put_at(router: &mut Fields, n: usize, post: &mut Post<Item<Capsule>>) -> Result<(), NoMemory>
     requires keeps { Keeps router.old }
-    requires place { n < length router.old.places.items }
+    requires place { n < length router.old.places.places }
     requires clean { router.old.rib.dirty ≡ map.empty }
     ensures edges { SameEdges post.old post.new }
     ensures puts { OnOk result (PutsAt n router.old post.old router.new post.new) }
@@ -184,22 +197,22 @@ fn update_len(alloc: Global, batch: Batch, wide: bool) -> usize
 
 /// How long what was put on the session at a place would be with the UPDATE of a batch.
 fn len_with(router: &Fields, n: usize, batch: Batch) -> usize
-    requires place { n < length router.now.places.items }
-    requires next { NextAt router.now.known.setup router.now.number.0 (router_part router.now) n (place_at router.now.places.items n) batch }
-    ensures { (s : _) (o : _) → place_at router.now.places.items n ≡ Live s o → result ≡ length_with s.session batch }
+    requires place { n < length router.now.places.places }
+    requires next { NextAt router.now.known.setup router.now.number.0 (router_part router.now) n (place_at router.now.places.places n) batch }
+    ensures { (s : _) (o : _) → place_at router.now.places.places n ≡ Some (Live s o) → result ≡ length_with s.session batch }
 {
-    match &router.places[n] {
-        Place::Live { session, .. } => {
+    match router.places.get(n) {
+        Some(Place::Live { session, .. }) => {
             session.put_len() as usize + update_len(router.alloc, batch, session.wide())
         }
-        Place::Vacant | Place::Shadow { .. } => 0,
+        Some(Place::Shadow { .. }) | None => 0,
     }
 }
 
 /// The length to which its next UPDATE would take what was put on the session at a place, if it has no room.
 fn no_room_at(router: &Fields, n: usize) -> Result<Option<usize>, NoMemory>
     requires keeps { Keeps router.now }
-    requires place { n < length router.now.places.items }
+    requires place { n < length router.now.places.places }
     ensures { IfOk result (λ answer. RoomAnswer router.now.known.setup router.now.number.0 (router_part router.now) n answer) }
 {
     let mut batches = planned(router, n)?;
@@ -237,24 +250,24 @@ fn late(session: &Session) -> Option<usize>
 }
 
 /// The same of the session that is live at a place.
-fn late_at(place: &Place) -> Option<usize>
-    ensures { TimeAnswer place.now result }
+fn late_at(places: &Places<Place>, n: usize) -> Option<usize>
+    ensures { TimeAnswer (place_at places.now.places n) result }
 {
-    match place {
-        Place::Live { session, .. } => late(session),
-        Place::Vacant | Place::Shadow { .. } => None,
+    match places.get(n) {
+        Some(Place::Live { session, .. }) => late(session),
+        Some(Place::Shadow { .. }) | None => None,
     }
 }
 
 /// The length at which the session at a place is stuck, if it is.
 fn stuck_at(router: &Fields, n: usize) -> Result<Option<usize>, NoMemory>
     requires keeps { Keeps router.now }
-    requires place { n < length router.now.places.items }
+    requires place { n < length router.now.places.places }
     ensures { IfOk result (λ answer. StuckAnswer router.now.known.setup router.now.number.0 (router_part router.now) n answer) }
 {
     match no_room_at(router, n)? {
         Some(length) => Ok(Some(length)),
-        None => Ok(late_at(&router.places[n])),
+        None => Ok(late_at(&router.places, n)),
     }
 }
 

@@ -3,6 +3,7 @@
 ghost use Rattle.std.specs.Prelude.{◌≡◌, ◌<◌, length, IfOk, OnOk};
 ghost use Rattle.ring_net.specs.Posts.{SameEdges};
 ghost use Rattle.router_core.specs.Parts.{Keeps};
+ghost use Rattle.router_core.specs.Places.{AtOne};
 ghost use Rattle.router_core.specs.Sending.{AtPlace};
 ghost use Rattle.router_core.specs.Stages.{PassesRounds};
 ghost use Rattle.router_core.specs.Ticking.{followed as followed_lem, Ticked};
@@ -12,13 +13,12 @@ use crate::fields::Fields;
 use crate::place::Place;
 use crate::takes::follow;
 use bgp_session::{Capsule, ReadStep, Session, TickStep};
-use graft_actors::note;
+use graft_actors::note_router;
 use graft_edge::{NoMemory, PeeringId};
+use graft_model::RouterEvent;
 use graft_steps::Item;
 use ring_net::Post;
-
-/// The kind of the event.
-const TICK: u16 = 31;
+use session_places::Places;
 
 /// Lets a round pass on a session, where it may.
 fn tick_session(session: &mut Session, round: u32) -> Result<Option<TickStep>, NoMemory>
@@ -31,13 +31,23 @@ fn tick_session(session: &mut Session, round: u32) -> Result<Option<TickStep>, N
     Ok(Some(session.tick(round)?))
 }
 
-/// Lets a round pass on the session that is live at a place, where it may.
-fn tick(place: &mut Place, round: u32) -> Result<Option<TickStep>, NoMemory>
-    ensures { IfOk result (λ step. AtPlace (Ticked round) place.old step place.new) }
+/// Lets a round pass on the session that is live there, where it may.
+fn tick_of(place: &mut Place, round: u32) -> Result<Option<TickStep>, NoMemory>
+    ensures { IfOk result (λ step. AtPlace (Ticked round) (Some place.old) step (Some place.new)) }
 {
     match place {
         Place::Live { session, .. } => tick_session(session, round),
-        Place::Vacant | Place::Shadow { .. } => Ok(None),
+        Place::Shadow { .. } => Ok(None),
+    }
+}
+
+/// Lets a round pass on the session that is live at a place, where it may.
+fn tick(places: &mut Places<Place>, n: usize, round: u32) -> Result<Option<TickStep>, NoMemory>
+    ensures { IfOk result (λ step. AtOne (λ old new. AtPlace (Ticked round) old step new) places.old n places.new) }
+{
+    match places.get_mut(n) {
+        Some(place) => tick_of(place, round),
+        None => Ok(None),
     }
 }
 
@@ -59,15 +69,16 @@ fn pass_round_at(
     post: &mut Post<Item<Capsule>>,
 ) -> Result<(), NoMemory>
     requires keeps { Keeps router.old }
-    requires place { n < length router.old.places.items }
+    requires place { n < length router.old.places.places }
     ensures edges { SameEdges post.old post.new }
     ensures visits { OnOk result (Visits (passing_rounds router.old.turns) n router.old post.old router.new post.new) }
 {
     let round = router.turns;
-    let Some(step) = tick(&mut router.places[n], round)? else {
+    let Some(step) = tick(&mut router.places, n, round)? else {
         return Ok(());
     };
-    note(post, TICK, n as u32, round, 0)?;
+    let peering = n as u32;
+    note_router(post, RouterEvent::Tick { peering, round })?;
     follow(router, PeeringId(n as u8), followed(step))
 }
 

@@ -1,52 +1,83 @@
 //! Segments that the sessions at places emit.
 
-ghost use Rattle.std.specs.Prelude.{ℕ, ◌<◌, ◌≤◌, ◌∷◌, [], length, IfOk, OnOk};
+ghost use Rattle.std.specs.Prelude.{ℕ, ◌<◌, ◌≤◌, ◌∷◌, [], length, Some, IfOk, OnOk};
 ghost use Rattle.ring_net.specs.Posts.{SameEdges};
 ghost use Rattle.tcp_seq.specs.Numbers.{offset_from};
 ghost use Rattle.graft_steps.specs.declared.item.Item.TheVariants as items;
-ghost use Rattle.graft_actors.specs.Notes.{WroteOne};
+ghost use Rattle.graft_model.specs.declared.event.RouterEvent.TheVariants.{Emit};
 ghost use Rattle.router_core.specs.Parts.{Keeps};
+ghost use Rattle.router_core.specs.Places.{AtOne};
+ghost use Rattle.router_core.specs.Rounds.{Writes};
 ghost use Rattle.router_core.specs.Sending.{AtPlace, SentAgain, SentNext, SentAnswer, IsOutletOf};
 
 use crate::fields::Fields;
 use crate::place::Place;
 use bgp_session::Capsule;
-use graft_actors::note_sent;
+use graft_actors::note_router_sent;
 use graft_edge::NoMemory;
+use graft_model::RouterEvent;
 use graft_steps::Item;
 use ring_net::Post;
+use session_places::Places;
 use tcp_seq::{Segment, Seq};
 
-/// The kind of the event.
-const EMIT: u16 = 2;
-
-/// The retransmission turn of the session that is live at a place.
-pub(crate) fn again(place: &mut Place) -> Result<Option<Segment>, NoMemory>
-    ensures { IfOk result (λ answer. AtPlace SentAgain place.old answer place.new) }
+/// The retransmission turn of the session that is live there.
+fn again_of(place: &mut Place) -> Result<Option<Segment>, NoMemory>
+    ensures { IfOk result (λ answer. AtPlace SentAgain (Some place.old) answer (Some place.new)) }
 {
     match place {
         Place::Live { session, .. } => session.turn(),
-        Place::Vacant | Place::Shadow { .. } => Ok(None),
+        Place::Shadow { .. } => Ok(None),
+    }
+}
+
+/// The next new slice of the session that is live there.
+fn next_of(place: &mut Place) -> Result<Option<Segment>, NoMemory>
+    ensures { IfOk result (λ answer. AtPlace SentNext (Some place.old) answer (Some place.new)) }
+{
+    match place {
+        Place::Live { session, .. } => session.next_segment(),
+        Place::Shadow { .. } => Ok(None),
+    }
+}
+
+/// The answer that the session owes which is live there.
+fn answer_of(place: &mut Place) -> Option<Segment>
+    ensures { AtPlace SentAnswer (Some place.old) result (Some place.new) }
+{
+    match place {
+        Place::Live { session, .. } => session.answer(),
+        Place::Shadow { .. } => None,
+    }
+}
+
+/// The retransmission turn of the session that is live at a place.
+pub(crate) fn again(places: &mut Places<Place>, n: usize) -> Result<Option<Segment>, NoMemory>
+    ensures { IfOk result (λ answer. AtOne (λ old new. AtPlace SentAgain old answer new) places.old n places.new) }
+{
+    match places.get_mut(n) {
+        Some(place) => again_of(place),
+        None => Ok(None),
     }
 }
 
 /// The next new slice of the session that is live at a place.
-pub(crate) fn next(place: &mut Place) -> Result<Option<Segment>, NoMemory>
-    ensures { IfOk result (λ answer. AtPlace SentNext place.old answer place.new) }
+pub(crate) fn next(places: &mut Places<Place>, n: usize) -> Result<Option<Segment>, NoMemory>
+    ensures { IfOk result (λ answer. AtOne (λ old new. AtPlace SentNext old answer new) places.old n places.new) }
 {
-    match place {
-        Place::Live { session, .. } => session.next_segment(),
-        Place::Vacant | Place::Shadow { .. } => Ok(None),
+    match places.get_mut(n) {
+        Some(place) => next_of(place),
+        None => Ok(None),
     }
 }
 
 /// The answer that the session owes which is live at a place.
-pub(crate) fn answer(place: &mut Place) -> Option<Segment>
-    ensures { AtPlace SentAnswer place.old result place.new }
+pub(crate) fn answer(places: &mut Places<Place>, n: usize) -> Option<Segment>
+    ensures { AtOne (λ old new. AtPlace SentAnswer old result new) places.old n places.new }
 {
-    match place {
-        Place::Live { session, .. } => session.answer(),
-        Place::Vacant | Place::Shadow { .. } => None,
+    match places.get_mut(n) {
+        Some(place) => answer_of(place),
+        None => None,
     }
 }
 
@@ -62,7 +93,7 @@ pub(crate) struct Outlet {
 /// The outlet of the peering of a place.
 pub(crate) fn outlet_of(router: &Fields, n: usize) -> Outlet
     requires keeps { Keeps router.now }
-    requires place { n < length router.now.places.items }
+    requires place { n < length router.now.places.places }
     ensures { IsOutletOf router.now n result }
 {
     let Some(firsts) = router.firsts.get(n) else {
@@ -84,17 +115,13 @@ impl Outlet {
     ) -> Result<(), NoMemory>
         requires { length segment.bytes ≤ 1024 }
         ensures edges { SameEdges post.old post.new }
-        ensures sent { OnOk result (WroteOne post.old 2 self.place (offset_from segment.seq.0 self.first.0) (length segment.bytes) ((self.to, items.Seg segment) ∷ []) post.new) }
+        ensures sent { OnOk result (Writes post.old (Emit self.place (offset_from segment.seq.0 self.first.0) (length segment.bytes)) ((self.to, items.Seg segment) ∷ []) post.new) }
     {
-        let from = segment.seq.offset_from(self.first);
-        note_sent(
-            post,
-            EMIT,
-            self.place,
-            from,
-            segment.bytes.len() as u32,
-            self.to,
-            Item::Seg(segment),
-        )
+        let event = RouterEvent::Emit {
+            peering: self.place,
+            from: segment.seq.offset_from(self.first),
+            len: segment.bytes.len() as u32,
+        };
+        note_router_sent(post, event, self.to, Item::Seg(segment))
     }
 }

@@ -12,13 +12,11 @@ ghost use Rattle.router_core.specs.Tellings.{TellsOne, TellsRouter};
 use crate::fields::Fields;
 use bgp_session::Capsule;
 use bgp_types::Prefix;
-use graft_actors::note_sent;
+use graft_actors::note_router_sent;
 use graft_edge::NoMemory;
+use graft_model::RouterEvent;
 use graft_steps::Item;
 use ring_net::Post;
-
-/// The kind of the event.
-const TELL: u16 = 7;
 
 /// Tells a router what is best for a prefix that is due to it and decided.
 fn tell_one(
@@ -37,8 +35,8 @@ fn tell_one(
     let route = router.rib.tell_in(prefix)?;
     router.due_in.remove(q, prefix);
     let told = Item::Told { prefix, route };
-    let len = u32::from(prefix.len());
-    note_sent(post, TELL, q as u32, prefix.address(), len, q, told)
+    let router = q as u32;
+    note_router_sent(post, RouterEvent::Tell { router, prefix }, q, told)
 }
 
 /// Tells a router all that is due to it, by rising prefix.

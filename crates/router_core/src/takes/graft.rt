@@ -1,37 +1,39 @@
 //! Sessions that come: those that move here, those that come back, and word that one landed.
 
-ghost use Rattle.std.specs.Prelude.{◌≡◌, ◌<◌, ◌≤◌, ◌^◌, ◌∷◌, [], length, count_by, IfOk, OnOk, MatchBool};
+ghost use Rattle.std.specs.Prelude.{◌≡◌, ◌<◌, ◌≤◌, ◌^◌, ◌∷◌, [], None, Some, true, is_some, length, count_by, IfOk, OnOk, MatchBool};
 ghost use Rattle.ring_net.specs.Posts.{SameEdges};
 ghost use Rattle.graft_steps.specs.declared.item.Item.TheVariants as items;
 ghost use Rattle.graft_steps.specs.Refusals.{admit_refusal};
+ghost use Rattle.graft_model.specs.declared.event.RouterEvent.TheVariants.{TurnBack};
 ghost use Rattle.graft_actors.specs.Items.{IsOnItsWay};
-ghost use Rattle.graft_actors.specs.Notes.{WroteOne};
 ghost use Rattle.router_core.specs.Entering.{missing_by, unknown_by};
-ghost use Rattle.router_core.specs.Places.{is_held, weight as weight_lem};
+ghost use Rattle.router_core.specs.Places.{place_at};
+ghost use Rattle.router_core.specs.declared.place.Errand.TheVariants.{Owing};
 ghost use Rattle.router_core.specs.Parts.{Keeps};
 ghost use Rattle.router_core.specs.Reading.{MakesLive, SettlesIn};
+ghost use Rattle.router_core.specs.Rounds.{Writes};
 ghost use Rattle.router_core.specs.Takes.{TakesIt};
 
 use crate::config::Policies;
 use crate::fields::Fields;
-use crate::place::Place;
+use crate::place::{Errand, Place, is_away, is_vacant};
 use crate::takes::heard::enter;
-use crate::takes::kinds::{CLEAR, DROPPED, LAND, RETURN, TURN_BACK};
 use crate::takes::named::find_named;
 use crate::takes::prefixes::due_again;
 use crate::takes::reads::read_all;
 use bgp_session::{Capsule, Session};
 use bgp_types::{From, SessionState, TryCopy};
-use graft_actors::{note, note_sent};
-use graft_edge::{Name, NoMemory, PeeringId};
-use graft_steps::{Item, Outcome, Refusal, admit};
+use graft_actors::{note_dropped, note_router_sent};
+use graft_edge::{Name, NoMemory, PeeringId, RouterId};
+use graft_model::RouterEvent;
+use graft_steps::{Item, Landed, Outcome, Refusal, admit};
 use ring_net::Post;
 use session_value::SessionConfig;
 
 /// Whether a session on its way, of a peering that is there, is established and has the first numbers of the peering.
 fn is_on_its_way(router: &Fields, capsule: &Capsule) -> bool
     requires keeps { Keeps router.now }
-    requires there { capsule.now.session.config.peering.0 < length router.now.places.items }
+    requires there { capsule.now.session.config.peering.0 < length router.now.places.places }
     ensures { MatchBool result (IsOnItsWay router.now.known.setup capsule.now.session) (¬ IsOnItsWay router.now.known.setup capsule.now.session) }
 {
     let config = capsule.config();
@@ -45,28 +47,6 @@ fn is_on_its_way(router: &Fields, capsule: &Capsule) -> bool
         return false;
     }
     config.receive_first.0 == firsts.remote.0
-}
-
-/// How many of the places are taken.
-fn held(places: &[Place]) -> u32
-    requires { length places.now ≤ 256 }
-    ensures { result ≡ count_by is_held places.now }
-{
-    let mut count = 0;
-    for place in places {
-        count += weight(place);
-    }
-    count
-}
-
-/// One for a place that is taken, and none for a vacant one.
-fn weight(place: &Place) -> u32
-    ensures { result ≡ weight_lem place.now }
-{
-    match place {
-        Place::Vacant => 0,
-        Place::Live { .. } | Place::Shadow { .. } => 1,
-    }
 }
 
 /// A copy of a session's name for a policy that the router doesn't have.
@@ -94,53 +74,77 @@ fn missing_policy(policies: &Policies, config: &SessionConfig) -> Result<Option<
 
 /// Why the router doesn't take a session in, if it doesn't.
 fn admission(router: &Fields, config: &SessionConfig) -> Result<Option<Refusal>, NoMemory>
-    requires { length router.now.places.items ≤ 256 }
-    ensures { IfOk result (λ refusal. refusal ≡ admit_refusal (count_by is_held router.now.places.items) router.now.room (missing_by router.now.policies config.now)) }
+    requires { router.now.places.room ≡ router.now.room }
+    ensures { IfOk result (λ refusal. refusal ≡ admit_refusal (count_by is_some router.now.places.places) router.now.room (missing_by router.now.policies config.now)) }
 {
     let missing = missing_policy(&router.policies, config)?;
-    let held = held(&router.places);
-    Ok(admit(held, router.room, missing).err())
+    let room = router.room;
+    let held = router.places.taken() as u32;
+    Ok(admit(held, room, missing).err())
 }
 
-/// Notes a landing, of which the far side hears, and then the source.
-fn note_landing(
+/// Sends a session back to the router that it came from.
+fn turn_back(
     post: &mut Post<Item<Capsule>>,
     from: usize,
-    far: usize,
     graft: u32,
-    peering: PeeringId,
+    capsule: Capsule,
+    refusal: Refusal,
 ) -> Result<(), NoMemory>
     requires { from < 2 ^ 32 }
-    ensures wrote { OnOk result (WroteOne post.old 13 from 0 0 ((far, items.PointAt graft) ∷ (from, items.Done graft peering) ∷ []) post.new) }
+    ensures ok { OnOk result (Writes post.old (TurnBack from) ((from, items.Back graft capsule refusal) ∷ []) post.new) }
     ensures edges { SameEdges post.old post.new }
 {
-    note_sent(post, LAND, from as u32, 0, 0, far, Item::PointAt { graft })?;
-    let Ok(()) = post.send(from, Item::Done { graft, peering }) else {
-        return Err(NoMemory);
+    let source = from as u32;
+    let back = Item::Back {
+        graft,
+        capsule,
+        refusal,
     };
-    Ok(())
+    note_router_sent(post, RouterEvent::TurnBack { router: source }, from, back)
 }
 
-/// A session is live at a place, where none was: what was told on it and what is best is due.
-fn make_live(router: &mut Fields, place: usize, session: Session) -> Result<(), NoMemory>
-    requires place { place < length router.old.places.items }
+/// A session is live at a place, where none was, and its source is to be told: what was told on it and what is best is due. It takes the memory that was reserved for it.
+fn make_live(
+    router: &mut Fields,
+    place: usize,
+    session: Session,
+    landed: Landed,
+) -> Result<(), NoMemory>
+    requires place { place < length router.old.places.places }
+    requires vacant { place_at router.old.places.places place ≡ None }
+    requires room { count_by is_some router.old.places.places < router.old.places.room }
     requires sets { place < length router.old.due_out }
-    ensures { OnOk result (MakesLive router.old place session router.new) }
+    ensures { OnOk result (MakesLive router.old place session (Some (Owing landed)) router.new) }
 {
     let due = due_again(router.alloc, &router.rib, &session)?;
     router.due_out.put(place, due);
-    router.places[place] = Place::Live {
-        session,
-        order: None,
-    };
+    let errand = Some(Errand::Owing(landed));
+    router.places.put(place, Place::Live { session, errand });
     Ok(())
 }
 
-/// Takes in the routes of a session that lands, which is live then.
-fn settle_in(router: &mut Fields, session: Session) -> Result<(), NoMemory>
-    requires place { session.session.config.peering.0 < length router.old.places.items }
+/// A session that had left is live at its place again: what was told on it and what is best is due.
+fn live_again(router: &mut Fields, place: usize, session: Session) -> Result<(), NoMemory>
+    requires there { is_some (place_at router.old.places.places place) ≡ true }
+    requires sets { place < length router.old.due_out }
+    ensures { OnOk result (MakesLive router.old place session None router.new) }
+{
+    let all = due_again(router.alloc, &router.rib, &session)?;
+    router.due_out.put(place, all);
+    if let Some(held) = router.places.get_mut(place) {
+        held.set_live(session);
+    }
+    Ok(())
+}
+
+/// Takes in the routes of a session that lands, which is live then. Its source is to be told.
+fn settle_in(router: &mut Fields, session: Session, landed: Landed) -> Result<(), NoMemory>
+    requires place { session.session.config.peering.0 < length router.old.places.places }
+    requires vacant { place_at router.old.places.places session.session.config.peering.0 ≡ None }
+    requires room { count_by is_some router.old.places.places < router.old.places.room }
     requires sets { session.session.config.peering.0 < length router.old.due_out }
-    ensures { OnOk result (SettlesIn router.old session router.new) }
+    ensures { OnOk result (SettlesIn router.old session landed router.new) }
 {
     let place = usize::from(session.config().peering.0);
     let prefixes = session.heard().prefixes()?;
@@ -151,7 +155,7 @@ fn settle_in(router: &mut Fields, session: Session) -> Result<(), NoMemory>
         &session,
         prefixes.as_slice(),
     )?;
-    make_live(router, place, session)
+    make_live(router, place, session, landed)
 }
 
 /// Takes a session that moves here: it lands, and reads all that it can, or is sent back. It is dropped where it isn't a router's, where its place is taken, and where it isn't established or hasn't the numbers of a peering.
@@ -169,28 +173,26 @@ pub(crate) fn take_moved(
     let peering = capsule.config().peering;
     let place = usize::from(peering.0);
     if from >= router.routers as usize {
-        return note(post, DROPPED, 0, 0, 0);
+        return note_dropped(post);
     }
     if place >= router.places.len() {
-        return note(post, DROPPED, 0, 0, 0);
+        return note_dropped(post);
     }
-    if !router.places[place].is_vacant() {
-        return note(post, DROPPED, 0, 0, 0);
+    if !is_vacant(&router.places, place) {
+        return note_dropped(post);
     }
     if !is_on_its_way(router, &capsule) {
-        return note(post, DROPPED, 0, 0, 0);
+        return note_dropped(post);
     }
     if let Some(refusal) = admission(router, capsule.config())? {
-        let back = Item::Back {
-            graft,
-            capsule,
-            refusal,
-        };
-        return note_sent(post, TURN_BACK, from as u32, 0, 0, from, back);
+        return turn_back(post, from, graft, capsule, refusal);
     }
     let far = router.routers as usize + place;
-    note_landing(post, from, far, graft, peering)?;
-    settle_in(router, capsule.land())?;
+    let source = from as u32;
+    let point = Item::PointAt { graft };
+    note_router_sent(post, RouterEvent::Land { router: source }, far, point)?;
+    let landed = Landed::new(graft, peering, RouterId(from as u8), router.number);
+    settle_in(router, capsule.land(), landed)?;
     read_all(router, peering, post)
 }
 
@@ -210,24 +212,30 @@ pub(crate) fn take_back(
     let peering = capsule.config().peering;
     let place = usize::from(peering.0);
     if from >= router.routers as usize {
-        return note(post, DROPPED, 0, 0, 0);
+        return note_dropped(post);
     }
     if place >= router.places.len() {
-        return note(post, DROPPED, 0, 0, 0);
+        return note_dropped(post);
     }
-    if !router.places[place].is_away(graft) {
-        return note(post, DROPPED, 0, 0, 0);
+    if !is_away(&router.places, place, graft) {
+        return note_dropped(post);
     }
     if !is_on_its_way(router, &capsule) {
-        return note(post, DROPPED, 0, 0, 0);
+        return note_dropped(post);
     }
     let operator = router.routers as usize + router.places.len();
     let report = Item::Report {
         graft,
         outcome: Outcome::Refused(refusal),
     };
-    note_sent(post, RETURN, from as u32, 0, 0, operator, report)?;
-    make_live(router, place, capsule.land())?;
+    let target = from as u32;
+    note_router_sent(
+        post,
+        RouterEvent::Return { router: target },
+        operator,
+        report,
+    )?;
+    live_again(router, place, capsule.land())?;
     read_all(router, peering, post)
 }
 
@@ -245,21 +253,27 @@ pub(crate) fn take_done(
 {
     let place = usize::from(peering.0);
     if from >= router.routers as usize {
-        return note(post, DROPPED, 0, 0, 0);
+        return note_dropped(post);
     }
     if place >= router.places.len() {
-        return note(post, DROPPED, 0, 0, 0);
+        return note_dropped(post);
     }
-    if !router.places[place].is_away(graft) {
-        return note(post, DROPPED, 0, 0, 0);
+    if !is_away(&router.places, place, graft) {
+        return note_dropped(post);
     }
     let operator = router.routers as usize + router.places.len();
     let report = Item::Report {
         graft,
         outcome: Outcome::Accepted,
     };
-    note_sent(post, CLEAR, from as u32, 0, 0, operator, report)?;
+    let target = from as u32;
+    note_router_sent(
+        post,
+        RouterEvent::Clear { router: target },
+        operator,
+        report,
+    )?;
     router.rib.drop_from(From::Peering(peering))?;
-    router.places[place] = Place::Vacant;
+    router.places.remove(place);
     Ok(())
 }

@@ -7,11 +7,11 @@ ghost use Rattle.router_core.specs.Parts.{Keeps};
 ghost use Rattle.router_core.specs.Takes.{TakesIt};
 
 use crate::fields::Fields;
-use crate::takes::kinds::{DROPPED, HEAR};
 use bgp_session::Capsule;
 use bgp_types::{From, Prefix, Route, RouterId};
-use graft_actors::note;
+use graft_actors::{note_dropped, note_router};
 use graft_edge::NoMemory;
+use graft_model::RouterEvent;
 use graft_steps::Item;
 use rib_stages::InEntry;
 use ring_net::Post;
@@ -29,9 +29,10 @@ pub(crate) fn hear(
     ensures took { OnOk result (TakesIt from (items.Told prefix route) router.old post.old router.new post.new) }
 {
     if from >= router.routers as usize {
-        return note(post, DROPPED, 0, 0, 0);
+        return note_dropped(post);
     }
-    note(post, HEAR, from as u32, 0, 0)?;
+    let teller = from as u32;
+    note_router(post, RouterEvent::Hear { router: teller })?;
     let telling = InEntry {
         prefix,
         route,

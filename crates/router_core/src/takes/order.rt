@@ -7,14 +7,15 @@ ghost use Rattle.router_core.specs.Parts.{Keeps};
 ghost use Rattle.router_core.specs.Takes.{IsOther, TakesIt};
 
 use crate::fields::Fields;
-use crate::takes::kinds::{ADMIT, DROPPED};
+use crate::place::{is_free, store};
 use bgp_session::Capsule;
-use graft_actors::note;
+use graft_actors::{note_dropped, note_router};
 use graft_edge::{NoMemory, PeeringId, RouterId};
+use graft_model::RouterEvent;
 use graft_steps::{Item, Ordered};
 use ring_net::Post;
 
-/// Stores the order of a graft with the live session that it is for. It drops one that isn't the operator's, whose session isn't live here or has an order already, or whose target isn't one of the routers.
+/// Stores the order of a graft with the live session that it is for. It drops one that isn't the operator's, whose session isn't live here or has something to be done for another graft, or whose target isn't one of the routers.
 pub(crate) fn admit(
     router: &mut Fields,
     from: usize,
@@ -28,21 +29,21 @@ pub(crate) fn admit(
     ensures took { OnOk result (TakesIt from (items.GraftOrder graft peering target) router.old post.old router.new post.new) }
 {
     if from != router.routers as usize + router.places.len() {
-        return note(post, DROPPED, 0, 0, 0);
+        return note_dropped(post);
     }
     if u32::from(target.0) >= router.routers {
-        return note(post, DROPPED, 0, 0, 0);
+        return note_dropped(post);
     }
     let place = usize::from(peering.0);
     if place >= router.places.len() {
-        return note(post, DROPPED, 0, 0, 0);
+        return note_dropped(post);
     }
-    if !router.places[place].is_free() {
-        return note(post, DROPPED, 0, 0, 0);
+    if !is_free(&router.places, place) {
+        return note_dropped(post);
     }
-    note(post, ADMIT, graft, 0, 0)?;
+    note_router(post, RouterEvent::Admit { graft })?;
     let ordered = Ordered::new(graft, peering, router.number, target);
-    router.places[place].store(ordered);
+    store(&mut router.places, place, ordered);
     Ok(())
 }
 
@@ -58,5 +59,5 @@ pub(crate) fn drop_other(
     ensures edges { SameEdges post.old post.new }
     ensures took { OnOk result (TakesIt from item router.old post.old router.new post.new) }
 {
-    note(post, DROPPED, 0, 0, 0)
+    note_dropped(post)
 }

@@ -2,7 +2,7 @@
 
 ghost use Rattle.std.specs.Prelude.{ℕ, ◌≡◌, ◌<◌, length, Option, IfOk, OnOk, MatchBool};
 ghost use Rattle.ring_net.specs.Posts.{SameEdges};
-ghost use Rattle.graft_steps.specs.declared.order.GraftIds.{GraftIds};
+ghost use Rattle.router_core.specs.declared.place.Errand.{Errand};
 ghost use Rattle.bgp_session.specs.Running.{RunningSession};
 ghost use Rattle.rib_stages.specs.Values.{rib_of};
 ghost use Rattle.router_core.specs.Entering.{entry_here, EntersAll};
@@ -10,35 +10,33 @@ ghost use Rattle.router_core.specs.Places.{RunsAt};
 ghost use Rattle.router_core.specs.Reading.{FollowsStep, KeepsBut, ReadsAll, ReadsNone, ReadsOne};
 
 use crate::fields::Fields;
-use crate::place::Place;
+use crate::place::{Place, read};
 use crate::takes::heard::enter;
 use crate::takes::prefixes::all_best;
 use bgp_session::{Capsule, ReadStep};
 use bgp_types::{Prefix, Table};
-use graft_actors::note;
+use graft_actors::note_router;
 use graft_edge::{NoMemory, PeeringId};
+use graft_model::RouterEvent;
 use graft_steps::Item;
 use ring_net::Post;
 
-/// The kind of the event.
-const GOT: u16 = 5;
-
 /// Gives each of the prefixes the entry that the live session at a place brings in for it.
 fn enter_at(router: &mut Fields, place: usize, prefixes: &[Prefix]) -> Result<(), NoMemory>
-    requires { place < length router.old.places.items }
+    requires { place < length router.old.places.places }
     ensures same { OnOk result (router.new ≡ record router.old { rib = router.new.rib }) }
-    ensures entered { (s : RunningSession) (o : Option GraftIds) → RunsAt router.old.places.items place s o
+    ensures entered { (s : RunningSession) (o : Option Errand) → RunsAt router.old.places.places place s o
         → OnOk result (EntersAll (rib_of router.old.rib) s.session.config.peering.0 (entry_here router.old.home_as router.old.policies s.session) prefixes.now (rib_of router.new.rib)) }
 {
-    match &router.places[place] {
-        Place::Live { session, .. } => enter(
+    match router.places.get(place) {
+        Some(Place::Live { session, .. }) => enter(
             &mut router.rib,
             router.home_as,
             &router.policies,
             session,
             prefixes,
         ),
-        Place::Vacant | Place::Shadow { .. } => Ok(()),
+        Some(Place::Shadow { .. }) | None => Ok(()),
     }
 }
 
@@ -49,9 +47,9 @@ pub(crate) fn follow(
     peering: PeeringId,
     step: ReadStep,
 ) -> Result<(), NoMemory>
-    requires places { peering.0 < length router.old.places.items }
+    requires places { peering.0 < length router.old.places.places }
     requires sets { peering.0 < length router.old.due_out }
-    ensures { (s : RunningSession) (o : Option GraftIds) → RunsAt router.old.places.items peering.0 s o → s.session.config.peering.0 ≡ peering.0
+    ensures { (s : RunningSession) (o : Option Errand) → RunsAt router.old.places.places peering.0 s o → s.session.config.peering.0 ≡ peering.0
         → OnOk result (FollowsStep router.old peering.0 s step router.new) }
 {
     let place = usize::from(peering.0);
@@ -80,10 +78,13 @@ fn read_one(
     ensures edges { SameEdges post.old post.new }
     ensures read { IfOk result (λ more. MatchBool more (ReadsOne peering.0 router.old post.old router.new post.new) (ReadsNone peering.0 router.old post.old router.new post.new)) }
 {
-    let Some(step) = router.places[usize::from(peering.0)].read()? else {
+    let Some(step) = read(&mut router.places, usize::from(peering.0))? else {
         return Ok(false);
     };
-    note(post, GOT, u32::from(peering.0), 0, 0)?;
+    let event = RouterEvent::Got {
+        peering: u32::from(peering.0),
+    };
+    note_router(post, event)?;
     follow(router, peering, step)?;
     Ok(true)
 }

@@ -9,11 +9,12 @@ ghost use Rattle.router_core.specs.Parts.{Keeps};
 ghost use Rattle.router_core.specs.Takes.{TakesIt};
 
 use crate::fields::Fields;
-use crate::takes::kinds::{ARRIVE, DROPPED, STRAY};
+use crate::place::arrive;
 use crate::takes::reads::read_all;
 use bgp_session::Capsule;
-use graft_actors::note;
+use graft_actors::{note_dropped, note_router};
 use graft_edge::{NoMemory, PeeringId};
+use graft_model::RouterEvent;
 use graft_steps::Item;
 use ring_net::Post;
 use tcp_seq::{Segment, Way};
@@ -24,7 +25,7 @@ const MOST_BYTES: usize = 65_535;
 /// Whether a segment is of this peering and goes home, with numbers of places in streams.
 fn is_of(router: &Fields, peering: PeeringId, segment: &Segment) -> bool
     requires keeps { Keeps router.now }
-    requires there { peering.0 < length router.now.places.items }
+    requires there { peering.0 < length router.now.places.places }
     ensures { MatchBool result (IsSegmentOf router.now.known.setup peering.0 ways.Home segment.now) (¬ IsSegmentOf router.now.known.setup peering.0 ways.Home segment.now) }
 {
     let Some(firsts) = router.firsts.get(usize::from(peering.0)) else {
@@ -49,18 +50,19 @@ pub(crate) fn take_segment(
 {
     let routers = router.routers as usize;
     if from < routers {
-        return note(post, DROPPED, 0, 0, 0);
+        return note_dropped(post);
     }
     if from - routers >= router.places.len() {
-        return note(post, DROPPED, 0, 0, 0);
+        return note_dropped(post);
     }
     let peering = PeeringId((from - routers) as u8);
     if !is_of(router, peering, &segment) {
-        return note(post, DROPPED, 0, 0, 0);
+        return note_dropped(post);
     }
-    if !router.places[usize::from(peering.0)].arrive(&segment)? {
-        return note(post, STRAY, u32::from(peering.0), 0, 0);
+    let number = u32::from(peering.0);
+    if !arrive(&mut router.places, usize::from(peering.0), &segment)? {
+        return note_router(post, RouterEvent::Stray { peering: number });
     }
-    note(post, ARRIVE, u32::from(peering.0), 0, 0)?;
+    note_router(post, RouterEvent::Arrive { peering: number })?;
     read_all(router, peering, post)
 }

@@ -7,6 +7,8 @@ use Rattle.far_side.specs.Passes.{put_in}
 use Rattle.far_side.specs.declared.fields.Fields.{Fields}
 use Rattle.far_side.proofs.EmitSteps.{from_on, same_places}
 use Rattle.far_side.proofs.emit.send.Goals as goal
+use Rattle.graft_model.specs.declared.event.FarEvent.TheVariants.{Send}
+use Rattle.graft_model.specs.Codes.{far_code}
 
 pub put-requires : goal.put-requires
 put-requires g c = from_on c.args.far.now c.args.segment c.requires.keeps c.requires.own
@@ -14,7 +16,7 @@ put-requires g c = from_on c.args.far.now c.args.segment c.requires.keeps c.requ
 pub returns-clause-sent : goal.returns-clause-sent
 returns-clause-sent g c = on_ok_weaker c.put.result
     (λ same. (
-      subst (λ (n : ℕ). WroteOne c.args.post.now 18 c.args.from n 0 [] c.note.new.post) c.len.ensures c.in_ok-note.ensures.ok,
+      subst (λ (n : ℕ). WroteOne c.args.post.now (far_code (Send c.args.from n)) [] c.note_far.new.post) c.len-len.ensures c.in_ok-note_far.ensures.ok,
       ap (λ (l : LinkValue). let f : Fields = record c.args.far.now { homeward = l } in f)
           (same ∙ ap (λ (p : PlacedSegment). put_in c.args.far.now.homeward c.args.far.now p) (same_places c.args.far.now c.args.segment c.requires.keeps)),
     ))

@@ -7,6 +7,8 @@ use Rattle.far_side.specs.Remotes.{EmitsOf}
 use Rattle.graft_actors.specs.Notes.{WroteOne}
 use Rattle.far_side.proofs.EmitSteps.{late_from, sent_again_each, sent_again_none_each}
 use Rattle.far_side.proofs.emit.send_again.Goals as goal
+use Rattle.graft_model.specs.declared.event.FarEvent.TheVariants.{Send}
+use Rattle.graft_model.specs.Codes.{far_code}
 
 pub returns-in_default-clause-sent : goal.returns-in_default-clause-sent
 returns-in_default-clause-sent g c = sent_again_none_each c.args.far.now _ c.args.post.now c.args.post.now c.again.new.self c.requires c.again.ensures.sound
@@ -20,4 +22,4 @@ returns-clause-sent g c = on_ok_weaker c.send.result
     (late_from c.args.far.now.remote c.in_ok-segment.field-0 c.in-Some.segment c.in-Some.is c.in_ok-segment.ensures.none)
     (subst (λ (o : Option Segment). EmitsOf EmitsAgain c.args.far.now.remote o c.again.new.self.end) c.in-Some.is c.in_ok-segment.ensures.emits)
     c.in_ok-segment.ensures.same sent.1
-    (subst (λ (n : ℕ). WroteOne c.args.post.now 18 n (length c.in-Some.segment.bytes) 0 [] c.send.new.post) c.acked-from.ensures sent.0)) c.send.ensures.sent
+    (subst (λ (n : ℕ). WroteOne c.args.post.now (far_code (Send n (length c.in-Some.segment.bytes))) [] c.send.new.post) c.acked-from.ensures sent.0)) c.send.ensures.sent

@@ -8,6 +8,8 @@ use Rattle.far_side.specs.Remotes.{EmitsOf}
 use Rattle.graft_actors.specs.Notes.{WroteOne}
 use Rattle.far_side.proofs.EmitSteps.{freshly_first, freshly_next, freshly_last, less_left}
 use Rattle.far_side.proofs.emit.send_fresh.Goals as goal
+use Rattle.graft_model.specs.declared.event.FarEvent.TheVariants.{Send}
+use Rattle.graft_model.specs.Codes.{far_code}
 
 pub loop-segment-init : goal.loop-segment-init
 loop-segment-init g c = (freshly_first c.args.far.now c.args.post.now c.requires, same_edges_self c.args.post.now)
@@ -17,7 +19,7 @@ loop-segment-preserved g c = (
   freshly_next c.args.far.now c.loop-segment.far c.send.new.far c.args.post.now c.loop-segment.post c.send.new.post c.next.new.self c.in-Some.segment c.loop-segment.invariant.0 c.next.ensures.sound
       (subst (λ (o : Option Segment). EmitsOf EmitsNext c.loop-segment.far.remote o c.next.new.self.end) c.in-Some.is c.in_ok-segment.ensures.emits)
       c.in_ok-segment.ensures.same c.in_ok-send.ensures.sent.1
-      (subst (λ (n : ℕ). WroteOne c.loop-segment.post 18 n (length c.in-Some.segment.bytes) 0 [] c.send.new.post) c.emitted-from.ensures c.in_ok-send.ensures.sent.0),
+      (subst (λ (n : ℕ). WroteOne c.loop-segment.post (far_code (Send n (length c.in-Some.segment.bytes))) [] c.send.new.post) c.emitted-from.ensures c.in_ok-send.ensures.sent.0),
   same_edges_then _ _ _ c.loop-segment.invariant.1 c.send.ensures.edges,
 )
 

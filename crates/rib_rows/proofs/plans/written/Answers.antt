@@ -28,7 +28,7 @@ alone all before batch e none = e ∙ ap (λ (l : List Batch). l ++ batch ∷ []
 pub write_message-requires : goal.write_message-requires
 write_message-requires c =
     let rib = rib_of c.args.rib.now in
-    let out : OutSide = record { peering = record { 0 = c.args.peering }; local_address = 3221225990; export_rules = None } in
+    let out : OutSide = record { peering = record { 0 = c.args.peering }; remote_as = c.args.remote_as; local_address = 3221225990; export_rules = None } in
     let told = c.new-told.result in
     let is : c.in_ok-batches.batches ≡ c.in-Some.batch ∷ [] = alone c.in_ok-batches.batches c.pop.new.self.items c.in-Some.batch (sym c.into_vec-batches.ensures ∙ c.in-Some.ensures.items) (none_before c.pop.new.self.items c.in-Some.batch c.in_ok-batches.batches (sym c.into_vec-batches.ensures ∙ c.in-Some.ensures.items) (sym c.len.ensures ∙ c.if-len-ne1.false)) in
     let kind : PrefixValue → Type 0 = λ x. IsToTell c.args.due.now c.args.rib.now.dirty told (to_tell rib out) x in

@@ -22,6 +22,16 @@ returns-clause-too_long c = refl
 pub returns-clause-back : goal.returns-clause-back
 returns-clause-back c = refl
 
+pub returns-clause-through : goal.returns-clause-through
+returns-clause-through c = refl
+
+pub returns-clause-aggregated : goal.returns-clause-aggregated
+returns-clause-aggregated c = refl
+
+pub returns-clause-elsewhere : goal.returns-clause-elsewhere
+unfolding spell spell_attrs attrs_written path_octets
+returns-clause-elsewhere c = refl
+
 pub returns-clause-denied : goal.returns-clause-denied
 returns-clause-denied c = refl
 

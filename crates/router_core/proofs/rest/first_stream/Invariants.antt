@@ -5,4 +5,4 @@ use Rattle.router_core.proofs.rest.first_stream.Given as goal
 
 -- the first so many have nothing left
 abbrev pub invariant-loop-number : goal.invariant-loop-number
-invariant-loop-number l = NoneBelow (λ n. HasStream (place_of (place_at l.places n))) l.number
+invariant-loop-number l = NoneBelow (λ n. HasStream (place_of (place_at l.places.places n))) l.number

@@ -1,10 +1,9 @@
-use Rattle.std.proofs.Common.{rules, ◌≡◌, ℕ, List, Some, is_some, refl, sym, subst}
+use Rattle.std.proofs.Common.{rules, ◌≡◌, is_some, refl, sym, subst}
 use Rattle.rib_stages.specs.Values.{table_at}
 use Rattle.settled_check.specs.Firsts.{IsLowestOf}
-use Rattle.settled_check.specs.Left.{HasSome, HasStream, graft_at}
+use Rattle.settled_check.specs.Left.{HasSome, HasStream}
 use Rattle.router_core.specs.Parts.{router_part}
 use Rattle.router_core.specs.Places.{place_of, place_at}
-use Rattle.router_core.specs.declared.place.Place.{Place}
 use Rattle.router_core.proofs.RestSteps.{has_some, lowest_in}
 use Rattle.router_core.proofs.rest.rest.Goals as goal
 
@@ -16,7 +15,6 @@ returns c =
       dirty = has_some c.args.router.now.rib.dirty c.next_dirty.result c.is_some.result c.next_dirty.ensures.next same;
       due_in = subst (IsLowestOf (λ q. HasSome (table_at c.args.router.now.due_in q))) (sym c.router_of.ensures) c.first_due.ensures;
       due_out = subst (IsLowestOf (λ p. HasSome (table_at c.args.router.now.due_out p))) (sym c.peering_of.ensures) c.first_due-2.ensures;
-      graft = lowest_in (router_part c.args.router.now) c.lowest_graft.result (subst (λ (xs : List Place). IsLowestOf (λ k. (p : ℕ) × (graft_at (place_of (place_at xs p)) ≡ Some k)) c.lowest_graft.result) c.deref.ensures.value c.lowest_graft.ensures);
-      stream = subst (IsLowestOf (λ p. HasStream (place_of (place_at c.args.router.now.places.items p)))) (sym c.peering_of-2.ensures)
-          (subst (λ (xs : List Place). IsLowestOf (λ p. HasStream (place_of (place_at xs p))) c.first_stream.result) c.deref-2.ensures.value c.first_stream.ensures);
+      graft = lowest_in (router_part c.args.router.now) c.lowest_graft.result c.lowest_graft.ensures;
+      stream = subst (IsLowestOf (λ p. HasStream (place_of (place_at c.args.router.now.places.places p)))) (sym c.peering_of-2.ensures) c.first_stream.ensures;
     }

@@ -7,6 +7,7 @@ begin-requires c = record {
   home = record {
     home_as = 65000;
     offered = c.args.opening.offered;
+    unicast = c.args.opening.unicast;
     is = refl;
     as_number = record { some = omega arith; fits = omega arith };
     hold_fits = omega arith;

@@ -17,4 +17,4 @@ returns c =
     let there : map.get rib.best c.args.prefix ≡ Some best = sym c.in_ok-best.ensures.best in
     let free : out.export_rules ≡ None = none_lent c.args.view.now.export (sym c.is_some.ensures ∙ c.if-is_some.false) in
     ap (tell_out rib.config.home_as out c.args.prefix) there
-    ∙ told_on rib.config.home_as out c.args.prefix best free (sym c.comes_from.ensures ∙ c.if-comes_from.false) (c.is_plain.ensures c.if-not-is_plain.false)
+    ∙ told_on rib.config.home_as out c.args.prefix best free (sym c.is_kept_back.ensures ∙ c.if-is_kept_back.false) (c.is_plain.ensures c.if-not-is_plain.false)

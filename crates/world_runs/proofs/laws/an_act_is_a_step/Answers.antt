@@ -10,4 +10,4 @@ pub returns-clause-run : goal.returns-clause-run
 returns-clause-run g c = λ session setup lab last deeds w sound reached is_lab below no_go run. acts_run session (returns-clause-step g c session) setup sound lab last deeds w reached is_lab below no_go run
 
 pub returns-clause-kept : goal.returns-clause-kept
-returns-clause-kept g c = none_dropped
+returns-clause-kept g c = none_dropped c.codes_are_exact.ensures.above

@@ -5,7 +5,7 @@ use Rattle.operator_core.specs.States.{part_of}
 use Rattle.operator_core.specs.Turns.{IsHeldUp}
 use Rattle.operator_core.specs.Progresses.{state}
 use Rattle.operator_core.proofs.Steps.{as_many_steps}
-use Rattle.operator_core.proofs.Calls.{group_is_small, differ, note_at}
+use Rattle.operator_core.proofs.Calls.{group_is_small, differ}
 use Rattle.operator_core.proofs.Goes.{go_held, go_begins, state_with}
 use Rattle.operator_core.proofs.progress.Progress.go.Goals as goal
 
@@ -21,9 +21,9 @@ overflow_add-self g c =
     omega arith
 
 pub returns-clause-ok : goal.returns-clause-ok
-returns-clause-ok g c = go_begins c.args.self.now _ c.args.post.now c.note.new.post c.requires (λ h. differ _ (c.is_held_up.ensures.1 h) c.if-is_held_up.false) c.in_ok-group.group
+returns-clause-ok g c = go_begins c.args.self.now _ c.args.post.now c.note_operator.new.post c.requires (λ h. differ _ (c.is_held_up.ensures.1 h) c.if-is_held_up.false) c.in_ok-group.group
     (subst (λ steps. IsGroupFrom steps c.args.self.now.next c.in_ok-group.group) c.as_slice.ensures c.in_ok-group.ensures)
     (record { script = c.requires.known.script; numbers = c.requires.known.numbers; few = c.requires.known.few; short = c.requires.known.short; ended = c.requires.known.ended }) refl
     (ap (λ ns. record (state c.args.self.now) { group = c.args.self.now.group + 1; next = c.in_ok-group.group.next; waiting = ns })
     (state_with c.args.self.now _ c.in_ok-group.group.steps (c.in_ok-waiting.ensures ∙ ap (map task_for) c.as_slice-2.ensures)))
-    (note_at c.args.post.now c.note.new.post c.number.result _ 0 [] c.number.ensures c.in_ok-note.ensures.ok)
+    c.in_ok-note_operator.ensures.ok

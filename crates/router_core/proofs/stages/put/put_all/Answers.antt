@@ -21,8 +21,8 @@ returns-clause-done c =
     let f = c.args.router.now in
     let g = c.loop-n.router in
     let first = c.loop-n.invariant.first in
-    let last : length f.places.items ≤ c.loop-n.n = omega (arith, c.loop-n-test.false, c.len-n-end.ensures) in
+    let last : length f.places.places ≤ c.loop-n.n = omega (arith, c.loop-n-test.false, c.len-n-end.ensures) in
     let setup : g.known.setup ≡ f.known.setup = ap (λ (h : Fields). h.known.setup) first.same in
-    let places : length g.places.items ≤ c.loop-n.n = subst (λ m. m ≤ c.loop-n.n) (sym (first.keeps.places ∙ (ap peerings_in setup ∙ sym c.requires.keeps.places))) last in
+    let places : length g.places.places ≤ c.loop-n.n = subst (λ m. m ≤ c.loop-n.n) (sym (first.keeps.places ∙ (ap peerings_in setup ∙ sym c.requires.keeps.places))) last in
     let due : length g.due_out ≤ c.loop-n.n = subst (λ m. m ≤ c.loop-n.n) (sym (first.keeps.due_out ∙ (ap peerings_in setup ∙ sym c.requires.keeps.places))) last in
     puts_all c.loop-n.n f g c.args.post.now c.loop-n.post first last places due

@@ -16,7 +16,7 @@ use Rattle.router_core.proofs.stages.put.put_at.Goals as goal
 use Rattle.router_core.proofs.stages.put.put_at.Goals.{then-not-is_writable-via-then-not-is_writable, then-not-is_writable-via-else-not-is_writable+in_ok-put_one+then-not-branch}
 
 abbrev Planned : Fields → ℕ → List Batch → Type 0
-Planned f n batches = PlannedAt f.known.setup f.number.0 (router_part f) n (place_at f.places.items n) batches
+Planned f n batches = PlannedAt f.known.setup f.number.0 (router_part f) n (place_at f.places.places n) batches
 
 when_false : (P Q : Type 0) (b : Bool) → b ≡ false → MatchBool b P Q → Q
 when_false P Q b e h = subst (λ (t : Bool). MatchBool t P Q) e h
@@ -37,13 +37,13 @@ returns-then-not-is_writable-clause-puts c =
     let f = c.loop-batch.router in
     let n = c.args.n in
     let plan = subst (λ (l : List Batch). Planned f n l) (reversed_pop c.loop-batch.batches.items c.pop.new.self.items c.in-Some.batch c.in-Some.ensures.items) c.loop-batch.invariant.planned in
-    let next = next_at f n (place_at f.places.items n) c.in-Some.batch (reverse c.pop.new.self.items) c.loop-batch.invariant.some.keeps refl plan in
+    let next = next_at f n (place_at f.places.places n) c.in-Some.batch (reverse c.pop.new.self.items) c.loop-batch.invariant.some.keeps refl plan in
     elim c.then-not-is_writable.branch [
       | then-not-is_writable-via-then-not-is_writable w ↦
           subst (λ (g : Fields). PutsAt n c.args.router.now c.args.post.now g c.then-not-is_writable.post) (sym w.router-is)
           (subst (λ q. PutsAt n c.args.router.now c.args.post.now f q) (sym w.post-is)
           (puts_done n c.args.router.now f c.args.post.now c.loop-batch.post c.loop-batch.invariant.some
-          (unwritable_then f n (place_at f.places.items n) c.in-Some.batch next
+          (unwritable_then f n (place_at f.places.places n) c.in-Some.batch next
           (when_false (IsWritableFor c.in-Some.batch) (¬ IsWritableFor c.in-Some.batch) c.is_writable.result w.if-not-is_writable.true c.is_writable.ensures))))
       | then-not-is_writable-via-else-not-is_writable+in_ok-put_one+then-not-branch w ↦
           subst (λ (g : Fields). PutsAt n c.args.router.now c.args.post.now g c.then-not-is_writable.post) (sym w.router-is)

@@ -11,7 +11,7 @@ abbrev pub invariant-loop-batch : goal.invariant-loop-batch
 invariant-loop-batch l = record {
   edges : SameEdges l.fn.post l.post;
   some : PutsSomeAt l.n l.fn.router l.fn.post l.router l.post;
-  planned : PlannedAt l.router.known.setup l.router.number.0 (router_part l.router) l.n (place_at l.router.places.items l.n) (reverse l.batches.items);
+  planned : PlannedAt l.router.known.setup l.router.number.0 (router_part l.router) l.n (place_at l.router.places.places l.n) (reverse l.batches.items);
   sound : AreSound l.batches.items;
 }
 

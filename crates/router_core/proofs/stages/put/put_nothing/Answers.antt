@@ -11,7 +11,7 @@ pub returns-clause-puts : goal.returns-clause-puts
 returns-clause-puts c =
     let f = c.args.router.now in
     let due = some_due (table_at f.due_out c.args.n) c.first.result c.is_none.result c.first.ensures c.is_none.ensures c.if-is_none.false in
-    on_ok_weaker c.note.result
-    (λ wrote. puts_nothing f (record f { due_out = c.clear.new.self }) c.args.post.now c.note.new.post c.args.n c.requires.keeps c.requires.clean due.0 due.1
+    on_ok_weaker c.note_router.result
+    (λ wrote. puts_nothing f (record f { due_out = c.clear.new.self }) c.args.post.now c.note_router.new.post c.args.n c.requires.keeps c.requires.clean due.0 due.1
     c.clear.ensures.cleared c.clear.ensures.length refl wrote c.requires.planned)
-    c.note.ensures.ok
+    c.note_router.ensures.ok

@@ -22,7 +22,7 @@ returns-in_ok-due-in-Established c = λ s o live own.
 
 pub returns-in-Changed : goal.returns-in-Changed
 returns-in-Changed c = λ s o live own.
-    both_ok c.enter_at.result c.enter_at.ensures.same (c.enter_at.ensures.entered s o (subst (λ (n : ℕ). RunsAt c.args.router.now.places.items n s o) (sym c.from-place.ensures) live))
+    both_ok c.enter_at.result c.enter_at.ensures.same (c.enter_at.ensures.entered s o (subst (λ (n : ℕ). RunsAt c.args.router.now.places.places n s o) (sym c.from-place.ensures) live))
     (λ same entered. subst (λ (st : ReadStep). FollowsStep c.args.router.now c.args.peering.0 s st c.enter_at.new.router) (sym c.in-Changed.is)
     (follows_same c.args.router.now c.enter_at.new.router c.args.peering.0 s c.in-Changed.prefixes same
     (subst (λ (n : ℕ). EntersAll (rib_of c.args.router.now.rib) n (entry_here c.args.router.now.home_as c.args.router.now.policies s.session) c.in-Changed.prefixes (rib_of c.enter_at.new.router.rib)) own
@@ -32,7 +32,7 @@ pub returns-in-Closed : goal.returns-in-Closed
 returns-in-Closed c = λ s o live own.
     let mid : Fields = record c.args.router.now { due_out = c.clear.new.self } in
     let g : Fields = c.enter_at-in-Closed.new.router in
-    both_ok c.enter_at-in-Closed.result c.enter_at-in-Closed.ensures.same (c.enter_at-in-Closed.ensures.entered s o (subst (λ (n : ℕ). RunsAt c.args.router.now.places.items n s o) (sym c.from-place.ensures) live))
+    both_ok c.enter_at-in-Closed.result c.enter_at-in-Closed.ensures.same (c.enter_at-in-Closed.ensures.entered s o (subst (λ (n : ℕ). RunsAt c.args.router.now.places.places n s o) (sym c.from-place.ensures) live))
     (λ same entered. subst (λ (st : ReadStep). FollowsStep c.args.router.now c.args.peering.0 s st g) (sym c.in-Closed.is)
     (follows_due c.args.router.now g c.args.peering.0 s (steps.Closed c.in-Closed.prefixes) map.empty
     (subst (λ (h : Fields). h ≡ record c.args.router.now { rib = h.rib; due_out = h.due_out }) (sym same) refl)

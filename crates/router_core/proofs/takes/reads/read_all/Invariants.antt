@@ -11,4 +11,4 @@ invariant-messages l = record {
 }
 
 abbrev pub decreases-messages : goal.decreases-messages
-decreases-messages l = unread_at (place_at l.router.places.items l.peering.0)
+decreases-messages l = unread_at (place_at l.router.places.places l.peering.0)

@@ -1,0 +1,15 @@
+-- What is told on a session has nothing of its remote's AS.
+use Rattle.std.specs.Prelude.{ℕ, ◌≡◌, ◌≢◌, false, Some}
+use Rattle.std.specs.FinMap as map
+use Rattle.bgp_types.specs.declared.attrs.Attrs.{Attrs}
+use Rattle.bgp_types.specs.Prefixes.{PrefixValue}
+use Rattle.route_policy.specs.Rules.{holds_as}
+use Rattle.session_value.specs.Sessions.{SessionValue}
+use Rattle.graft_model.specs.Setups.{Setup}
+use Rattle.graft_model.specs.Parts.{World}
+use Rattle.graft_laws.specs.Phases.{Phase}
+
+-- Where the remote is in another AS than the home routers, no path that was told on the session, in whichever world and phase, has the remote's AS.
+pub record AvoidsRemote (setup : Setup) (w : World) (p : ℕ) (phase : Phase) (session : SessionValue) : Type 0 where
+  pub avoids : setup.home_as ≢ session.config.remote_as → (x : PrefixValue) (attrs : Attrs) → map.get session.told x ≡ Some attrs
+      → holds_as attrs.path session.config.remote_as ≡ false

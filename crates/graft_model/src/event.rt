@@ -1,0 +1,85 @@
+//! The events of the world, each with its arguments.
+
+use bgp_types::Prefix;
+use tcp_seq::Way;
+
+/// An event of a home router. Peerings, routers and grafts are named by their numbers.
+#[derive(Clone, Copy, Debug, PartialEq, Eq, Hash)]
+pub enum RouterEvent {
+    /// The next UPDATE is put on a session, with this many prefixes; with 0, all that is due on it was told already.
+    Put { peering: u32, count: u32 },
+    /// `len` bytes of a session's stream go to the far side, from the place `from` on.
+    Emit { peering: u32, from: u32, len: u32 },
+    /// The next segment of a far side arrives at its session.
+    Arrive { peering: u32 },
+    /// The next segment of a far side finds no live session.
+    Stray { peering: u32 },
+    /// A session reads a message or a faulty header.
+    Got { peering: u32 },
+    /// The best route to a prefix is decided.
+    Decide { prefix: Prefix },
+    /// Another router is told the best route to a prefix.
+    Tell { router: u32, prefix: Prefix },
+    /// What another router told of a prefix is heard.
+    Hear { router: u32 },
+    /// The order of a graft is stored.
+    Admit { graft: u32 },
+    /// The source refuses a graft.
+    Refuse { graft: u32 },
+    /// A session is frozen for a graft.
+    Freeze { graft: u32 },
+    /// A frozen session leaves for its target.
+    Leave { graft: u32 },
+    /// A session that moves here from this router lands.
+    Land { router: u32 },
+    /// A session that moves here from this router is sent back.
+    TurnBack { router: u32 },
+    /// A session that this router refused is back.
+    Return { router: u32 },
+    /// A session is at its target, as this router says: its shadow here ends.
+    Clear { router: u32 },
+    /// The source of a graft is told that its session has landed here.
+    Confirm { graft: u32 },
+    /// A round of one second passes on a session.
+    Tick { peering: u32, round: u32 },
+}
+
+/// An event of a far side.
+#[derive(Clone, Copy, Debug, PartialEq, Eq, Hash)]
+pub enum FarEvent {
+    /// The remote says the bytes of a step of the script, counted from 0.
+    Say { step: u32 },
+    /// `len` bytes of the remote's stream go into the link, from the place `from` on.
+    Send { from: u32, len: u32 },
+    /// The next segment of a router goes into the link.
+    Take { router: u32 },
+    /// The segment at this place of the link is delivered to a router. Where `keep` holds, the link delivers it once more.
+    Pass { index: u32, keep: bool, router: u32 },
+    /// The segment at this place of the link is delivered to the remote. Where `keep` holds, the link delivers it once more.
+    Reach { index: u32, keep: bool },
+    /// The segment at this place of the link, on its way to that side, is lost.
+    Lose { way: Way, index: u32 },
+    /// The link is pointed at a router, as that one said.
+    Point { router: u32 },
+    /// The remote's timer says a KEEPALIVE in this round.
+    Beat { round: u32 },
+}
+
+/// An event of the operator.
+#[derive(Clone, Copy, Debug, PartialEq, Eq, Hash)]
+pub enum OperatorEvent {
+    /// A step of the script, counted from 0, is issued.
+    Order { step: u32 },
+    /// A router's report of how a graft ended goes into the log.
+    Note { router: u32 },
+    /// The next group of the script begins.
+    Go,
+}
+
+/// An event of an actor.
+#[derive(Clone, Copy, Debug, PartialEq, Eq, Hash)]
+pub enum ActorEvent {
+    OfRouter(RouterEvent),
+    OfFar(FarEvent),
+    OfOperator(OperatorEvent),
+}
