@@ -67,4 +67,5 @@ def main():
     sys.stdout.write("".join(text(int(sys.argv[1]), seed)))
 
 
-main()
+if __name__ == "__main__":
+    main()
