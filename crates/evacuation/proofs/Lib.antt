@@ -1,0 +1,4 @@
+pub mod Loads
+pub mod FreePlaces
+pub mod PlanLaws
+pub mod Turns

@@ -1,0 +1,4 @@
+pub mod Lists
+pub mod Sources
+pub mod Placed
+pub mod Forwarding

@@ -1,0 +1,4 @@
+pub mod Maps
+pub mod OneWalk
+pub mod TwoRouters
+pub mod Visits

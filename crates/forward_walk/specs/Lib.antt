@@ -1,0 +1,3 @@
+pub mod Solved
+pub mod Tables
+pub mod Walks

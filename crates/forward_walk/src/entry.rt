@@ -1,0 +1,16 @@
+//! The tables that a `Forwarder` is made from.
+
+use bgp_types::{From, Items, Prefix};
+
+/// Where a router's best route to a prefix comes from.
+#[derive(Clone, Copy, Debug, PartialEq, Eq)]
+pub struct ForwardEntry {
+    pub prefix: Prefix,
+    pub from: From,
+}
+
+/// A router's entries, with each prefix once.
+pub type ForwardTable = Items<ForwardEntry>;
+
+/// The tables of the routers, by their numbers.
+pub type ForwardTables = Items<ForwardTable>;
