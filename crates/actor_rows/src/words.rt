@@ -80,6 +80,14 @@ fn item_of_graft(words: &[&str]) -> Result<Item<u8>> {
             capsule: 0,
             refusal: Refusal::SameRouter,
         },
+        "asked" => Item::Asked {
+            graft,
+            peering: PeeringId(0),
+        },
+        "answered" => Item::Answered {
+            graft,
+            peering: PeeringId(0),
+        },
         "done" => Item::Done {
             graft,
             peering: PeeringId(0),

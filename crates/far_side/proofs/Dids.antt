@@ -13,7 +13,6 @@ use Rattle.graft_model.specs.Codes.{far_code}
 use Rattle.graft_model.specs.declared.event.FarEvent.{FarEvent}
 use Rattle.graft_model.specs.Steps.{far_row}
 use Rattle.graft_runs.specs.Actors.{FarSide, FarIs}
-use Rattle.graft_runs.specs.Makes.{HasCode}
 use Rattle.graft_actors.specs.Acts.{acts}
 use Rattle.graft_actors.specs.Emissions.{Tally}
 use Rattle.graft_actors.specs.Notes.{deed_of, WroteOne}

@@ -15,7 +15,6 @@ use Rattle.session_value.specs.Sessions.{SessionValue}
 use Rattle.graft_model.specs.Setups.{routers_in}
 use Rattle.graft_model.specs.Parts.{FarPart}
 use Rattle.graft_model.specs.FarRows.{without, left_by, Passes}
-use Rattle.graft_model.specs.Codes.{flag}
 use Rattle.graft_model.specs.declared.event.FarEvent.{FarEvent}
 use Rattle.graft_model.specs.declared.event.FarEvent.TheVariants.{Pass, Lose}
 use Rattle.graft_runs.specs.Actors.{Router, FarSide, Thing, SegmentItem, actor_at}

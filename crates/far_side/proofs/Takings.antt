@@ -24,7 +24,7 @@ use Rattle.graft_model.specs.declared.event.FarEvent.TheVariants.{Say, Take, Poi
 use Rattle.graft_model.specs.Steps.{far_row}
 use Rattle.graft_model.specs.Codes.{far_code}
 use Rattle.graft_runs.specs.Actors.{ActorName, Router, FarSide, Operator, Thing, number_in, actor_at}
-use Rattle.graft_runs.specs.Makes.{HasCode, taken_by_far}
+use Rattle.graft_runs.specs.Makes.{taken_by_far}
 use Rattle.graft_runs.proofs.Numbers.{there, of_number, at_operator}
 use Rattle.graft_actors.specs.Items.{home_first, remote_first, placed_for, segment_of, segment_thing, IsSegmentOf, thing_of}
 use Rattle.graft_actors.specs.Acts.{MayComeFrom, IsWelcome, acts}
@@ -132,6 +132,14 @@ module _ {C : Type 0} (session : C → SessionValue) where
       by_item (items.Back k capsule refusal) other (Some (Router q)) m = m
       by_item (items.Back k capsule refusal) other (Some (FarSide q)) m = m
       by_item (items.Back k capsule refusal) other (Some Operator) m = m
+      by_item (items.Asked k peering) other None m = m
+      by_item (items.Asked k peering) other (Some (Router q)) m = m
+      by_item (items.Asked k peering) other (Some (FarSide q)) m = m
+      by_item (items.Asked k peering) other (Some Operator) m = m
+      by_item (items.Answered k peering) other None m = m
+      by_item (items.Answered k peering) other (Some (Router q)) m = m
+      by_item (items.Answered k peering) other (Some (FarSide q)) m = m
+      by_item (items.Answered k peering) other (Some Operator) m = m
       by_item (items.Done k peering) other None m = m
       by_item (items.Done k peering) other (Some (Router q)) m = m
       by_item (items.Done k peering) other (Some (FarSide q)) m = m

@@ -14,7 +14,7 @@ use Rattle.graft_steps.specs.declared.refusal.Outcome.{Outcome}
 use Rattle.graft_steps.specs.declared.refusal.Refusal.{Refusal}
 use Rattle.session_value.specs.Sessions.{SessionValue}
 use Rattle.graft_model.specs.Setups.{Setup, SayStep, routers_in, peerings_in}
-use Rattle.graft_model.specs.Parts.{RouterPart, FarPart, OperatorPart, Vacant, Live, Shadow, GraftOrder, Report, Mesh, Told, Moved, Back, Done, Seg, PointAt}
+use Rattle.graft_model.specs.Parts.{RouterPart, FarPart, OperatorPart, Vacant, Live, Shadow, GraftOrder, Report, Mesh, Told, Moved, Back, Asked, Answered, Done, Seg, PointAt}
 use Rattle.graft_model.specs.RouterRows.{RouterTaken, OrderIn, SegmentIn, MeshIn}
 use Rattle.graft_model.specs.FarRows.{FarTaken, OutwardIn, SayIn}
 use Rattle.graft_model.specs.OperatorRows.{OperatorTaken, ReportIn}
@@ -102,6 +102,18 @@ module _ {C : Type 0} (session : C → SessionValue) (setup : Setup) where
   back_comes r k capsule refusal (Some (Router q)) m = ((q, refl), m)
   back_comes r k capsule refusal (Some (FarSide q)) m = absurd m
   back_comes r k capsule refusal (Some Operator) m = absurd m
+
+  asked_comes : (r k : ℕ) (peering : PeeringId) (o : Option ActorName) → MayComeFrom session setup o (Router r) (items.Asked k peering) → FromRouter o
+  asked_comes r k peering None m = absurd m
+  asked_comes r k peering (Some (Router q)) m = (q, refl)
+  asked_comes r k peering (Some (FarSide q)) m = absurd m
+  asked_comes r k peering (Some Operator) m = absurd m
+
+  answered_comes : (r k : ℕ) (peering : PeeringId) (o : Option ActorName) → MayComeFrom session setup o (Router r) (items.Answered k peering) → FromRouter o
+  answered_comes r k peering None m = absurd m
+  answered_comes r k peering (Some (Router q)) m = (q, refl)
+  answered_comes r k peering (Some (FarSide q)) m = absurd m
+  answered_comes r k peering (Some Operator) m = absurd m
 
   done_comes : (r k : ℕ) (peering : PeeringId) (o : Option ActorName) → MayComeFrom session setup o (Router r) (items.Done k peering) → FromRouter o
   done_comes r k peering None m = absurd m
@@ -218,6 +230,18 @@ module _ {C : Type 0} (session : C → SessionValue) (setup : Setup) where
       back : (((q : ℕ) × (actor_at setup n ≡ Some (Router q))) × IsOnItsWay setup (session capsule) × (part.places (session capsule).config.peering.0 ≡ Shadow k))
           → IsWelcome session (record { setup = setup; name = Router r; part = RouterIs part }) n (items.Back k capsule refusal)
       back ((q, e), way, may) = welcome (record { setup = setup; name = Router r; part = RouterIs part }) (items.Back k capsule refusal) (Router q) refl e way (MeshIn q (Back k (session capsule).config.peering.0 (session capsule) refusal), refl, may)
+
+    pub router_asked : (r k : ℕ) (part : RouterPart) (peering : PeeringId)
+        → IsWelcome session (record { setup = setup; name = Router r; part = RouterIs part }) n (items.Asked k peering) ↔ ((q : ℕ) × (actor_at setup n ≡ Some (Router q)))
+    router_asked r k part peering = ((λ w. asked_comes r k peering (actor_at setup n) w.comes), back) where
+      back : ((q : ℕ) × (actor_at setup n ≡ Some (Router q))) → IsWelcome session (record { setup = setup; name = Router r; part = RouterIs part }) n (items.Asked k peering)
+      back (q, e) = welcome (record { setup = setup; name = Router r; part = RouterIs part }) (items.Asked k peering) (Router q) refl e tt (MeshIn q (Asked k peering.0), refl, tt)
+
+    pub router_answered : (r k : ℕ) (part : RouterPart) (peering : PeeringId)
+        → IsWelcome session (record { setup = setup; name = Router r; part = RouterIs part }) n (items.Answered k peering) ↔ ((q : ℕ) × (actor_at setup n ≡ Some (Router q)))
+    router_answered r k part peering = ((λ w. answered_comes r k peering (actor_at setup n) w.comes), back) where
+      back : ((q : ℕ) × (actor_at setup n ≡ Some (Router q))) → IsWelcome session (record { setup = setup; name = Router r; part = RouterIs part }) n (items.Answered k peering)
+      back (q, e) = welcome (record { setup = setup; name = Router r; part = RouterIs part }) (items.Answered k peering) (Router q) refl e tt (MeshIn q (Answered k peering.0), refl, tt)
 
     pub router_done : (r k : ℕ) (part : RouterPart) (peering : PeeringId)
         → IsWelcome session (record { setup = setup; name = Router r; part = RouterIs part }) n (items.Done k peering)

@@ -1,5 +1,5 @@
 -- What an endpoint sends in one turn of its actor: old slices, new slices and answers.
-use Rattle.std.specs.Prelude.{ℕ, zero, suc, ◌≡◌, ◌⊎◌, ◌<◌, ◌+◌, ◌-◌, nat_lt, min, if◌then◌else◌, Bool, true, false, length}
+use Rattle.std.specs.Prelude.{ℕ, zero, suc, ◌≡◌, ◌⊎◌, ◌<◌, ◌+◌, ◌-◌, nat_lt, min, if◌then◌else◌, true, false, length}
 use Rattle.tcp_seq.specs.Endpoint.{Endpoint}
 
 -- how far all is emitted that may be: to the end of the stream, or of the flight of 15,360

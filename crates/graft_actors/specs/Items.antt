@@ -11,7 +11,7 @@ use Rattle.graft_steps.specs.declared.item.Item.TheVariants as items
 use Rattle.bgp_types.specs.declared.message.SessionState.TheVariants.{Established}
 use Rattle.session_value.specs.Sessions.{SessionValue, state}
 use Rattle.graft_model.specs.Setups.{Setup, config_of}
-use Rattle.graft_model.specs.Parts.{Told, Moved, Back, Done, Seg, PointAt}
+use Rattle.graft_model.specs.Parts.{Told, Moved, Back, Asked, Answered, Done, Seg, PointAt}
 use Rattle.graft_runs.specs.Actors.{Thing, MeshItem, OutwardItem, SegmentItem, OrderItem, ReportItem, StepItem, ActorName, Router, FarSide, Operator}
 
 -- the number of the first byte that a peering's home side sends, and of the first that its remote sends
@@ -40,6 +40,8 @@ thing_of session setup (items.PointAt k) = OutwardItem (PointAt k)
 thing_of session setup (items.Told prefix route) = MeshItem (Told prefix route)
 thing_of session setup (items.Moved k capsule) = MeshItem (Moved k (session capsule).config.peering.0 (session capsule))
 thing_of session setup (items.Back k capsule refusal) = MeshItem (Back k (session capsule).config.peering.0 (session capsule) refusal)
+thing_of session setup (items.Asked k peering) = MeshItem (Asked k peering.0)
+thing_of session setup (items.Answered k peering) = MeshItem (Answered k peering.0)
 thing_of session setup (items.Done k peering) = MeshItem (Done k peering.0)
 thing_of session setup (items.GraftOrder k peering target) = OrderItem (record { graft = k; peering = peering.0; target = target.0 })
 thing_of session setup (items.Report k outcome) = ReportItem (record { graft = k; outcome = outcome })
@@ -61,12 +63,14 @@ pub record IsOnItsWay (setup : Setup) (session : SessionValue) : Type 0 where
   pub sends : session.config.send_first.0 ≡ home_first setup session.config.peering.0
   pub receives : session.config.receive_first.0 ≡ remote_first setup session.config.peering.0
 
--- An item may go from one actor to another: between routers what they tell, sessions on their way and word of landings; between a router and a far side
+-- An item may go from one actor to another: between routers what they tell, sessions on their way, questions, answers and word of landings; between a router and a far side
 -- segments of its peering, and to it word of landings; from the operator orders, and to it reports.
 abbrev pub MayGo : {C : Type 0} (session : C → SessionValue) → Setup → ActorName → ActorName → Item C → Type 0
 MayGo session setup (Router q) (Router r) (items.Told prefix route) = Unit {0}
 MayGo session setup (Router q) (Router r) (items.Moved k capsule) = IsOnItsWay setup (session capsule)
 MayGo session setup (Router q) (Router r) (items.Back k capsule refusal) = IsOnItsWay setup (session capsule)
+MayGo session setup (Router q) (Router r) (items.Asked k peering) = Unit {0}
+MayGo session setup (Router q) (Router r) (items.Answered k peering) = Unit {0}
 MayGo session setup (Router q) (Router r) (items.Done k peering) = Unit {0}
 MayGo session setup (Router r) (FarSide p) (items.Seg g) = IsSegmentOf setup p Remote g
 MayGo session setup (Router r) (FarSide p) (items.PointAt k) = Unit {0}

@@ -48,6 +48,12 @@ pub fn routers_take_what_comes<C>()
     ensures back { (session : C → SessionValue) (setup : Setup) (r n k : ℕ) (part : RouterPart) (capsule : C) (refusal : Refusal)
         → IsWelcome session (record { setup = setup; name = Router r; part = RouterIs part }) n (items.Back k capsule refusal)
         ↔ (((q : ℕ) × (actor_at setup n ≡ Some (Router q))) × IsOnItsWay setup (session capsule) × (part.places (session capsule).config.peering.0 ≡ Shadow k)) }
+    ensures asked { (session : C → SessionValue) (setup : Setup) (r n k : ℕ) (part : RouterPart) (peering : PeeringId)
+        → IsWelcome session (record { setup = setup; name = Router r; part = RouterIs part }) n (items.Asked k peering)
+        ↔ ((q : ℕ) × (actor_at setup n ≡ Some (Router q))) }
+    ensures answered { (session : C → SessionValue) (setup : Setup) (r n k : ℕ) (part : RouterPart) (peering : PeeringId)
+        → IsWelcome session (record { setup = setup; name = Router r; part = RouterIs part }) n (items.Answered k peering)
+        ↔ ((q : ℕ) × (actor_at setup n ≡ Some (Router q))) }
     ensures done { (session : C → SessionValue) (setup : Setup) (r n k : ℕ) (part : RouterPart) (peering : PeeringId)
         → IsWelcome session (record { setup = setup; name = Router r; part = RouterIs part }) n (items.Done k peering)
         ↔ (((q : ℕ) × (actor_at setup n ≡ Some (Router q))) × (part.places peering.0 ≡ Shadow k)) }
@@ -71,6 +77,8 @@ pub fn far_sides_take_what_comes<C>()
         → (¬ IsWelcome session (record { setup = setup; name = FarSide p; part = FarIs part }) n (items.Told prefix route))
         × (¬ IsWelcome session (record { setup = setup; name = FarSide p; part = FarIs part }) n (items.Moved k capsule))
         × (¬ IsWelcome session (record { setup = setup; name = FarSide p; part = FarIs part }) n (items.Back k capsule refusal))
+        × (¬ IsWelcome session (record { setup = setup; name = FarSide p; part = FarIs part }) n (items.Asked k peering))
+        × (¬ IsWelcome session (record { setup = setup; name = FarSide p; part = FarIs part }) n (items.Answered k peering))
         × (¬ IsWelcome session (record { setup = setup; name = FarSide p; part = FarIs part }) n (items.Done k peering))
         × (¬ IsWelcome session (record { setup = setup; name = FarSide p; part = FarIs part }) n (items.GraftOrder k peering target))
         × (¬ IsWelcome session (record { setup = setup; name = FarSide p; part = FarIs part }) n (items.Report k outcome)) }
@@ -87,6 +95,8 @@ pub fn the_operator_takes_what_comes<C>()
         × (¬ IsWelcome session (record { setup = setup; name = Operator; part = OperatorIs part }) n (items.Told prefix route))
         × (¬ IsWelcome session (record { setup = setup; name = Operator; part = OperatorIs part }) n (items.Moved k capsule))
         × (¬ IsWelcome session (record { setup = setup; name = Operator; part = OperatorIs part }) n (items.Back k capsule refusal))
+        × (¬ IsWelcome session (record { setup = setup; name = Operator; part = OperatorIs part }) n (items.Asked k peering))
+        × (¬ IsWelcome session (record { setup = setup; name = Operator; part = OperatorIs part }) n (items.Answered k peering))
         × (¬ IsWelcome session (record { setup = setup; name = Operator; part = OperatorIs part }) n (items.Done k peering))
         × (¬ IsWelcome session (record { setup = setup; name = Operator; part = OperatorIs part }) n (items.GraftOrder k peering target))
         × (¬ IsWelcome session (record { setup = setup; name = Operator; part = OperatorIs part }) n (items.SayOrder k)) }

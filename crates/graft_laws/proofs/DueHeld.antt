@@ -15,7 +15,7 @@ use Rattle.session_value.proofs.Gets as gets
 use Rattle.session_value.proofs.Rounds as rounds
 use Rattle.session_value.proofs.Updates as updates
 use Rattle.graft_model.specs.First.{first_router}
-use Rattle.graft_model.specs.Parts.{Mesh, Told, Moved, Back, Done, Errand, Place, Vacant, Live, Frozen, Shadow, RouterPart, World}
+use Rattle.graft_model.specs.Parts.{Mesh, Told, Moved, Back, Asked, Answered, Done, Errand, Place, Vacant, Live, Frozen, Shadow, RouterPart, World}
 use Rattle.graft_model.specs.RouterRows.{RouterTaken, MeshIn, RouterSent, DueThen, Follows, update_for}
 use Rattle.graft_model.specs.Setups.{Setup, IsSetup}
 use Rattle.graft_model.specs.declared.event.RouterEvent.{RouterEvent}
@@ -164,6 +164,8 @@ carried_up : (setup : Setup) (w : World) → IsSetup setup → Reached setup w �
 carried_up setup w sound reached a q (Told x route) s h carries = absurd carries
 carried_up setup w sound reached a q (Moved k p t) s h carries = ap state (sym carries) ∙ moved_up setup w sound reached a q k p t h
 carried_up setup w sound reached a q (Back k p t refusal) s h carries = ap state (sym carries) ∙ back_up setup w sound reached a q k p t refusal h
+carried_up setup w sound reached a q (Asked k p) s h carries = absurd carries
+carried_up setup w sound reached a q (Answered k p) s h carries = absurd carries
 carried_up setup w sound reached a q (Done k p) s h carries = absurd carries
 
 first_due : (setup : Setup) (r : ℕ) → DueIsHeld (first_router setup r)

@@ -19,7 +19,7 @@ use Rattle.route_policy.specs.declared.best.Best.{Best}
 use Rattle.route_policy.specs.declared.entry.Entry.{Entry}
 use Rattle.session_value.specs.Sessions.{SessionValue, unread}
 use Rattle.graft_model.specs.Decisions.{chosen, entry_candidate, telling_candidate}
-use Rattle.graft_model.specs.Parts.{Errand, Place, Vacant, Live, Frozen, Shadow, RouterPart, Entries, Tellings, Mesh, Told, Moved, Back, Done}
+use Rattle.graft_model.specs.Parts.{Errand, Place, Vacant, Live, Frozen, Shadow, RouterPart, Entries, Tellings, Mesh, Told, Moved, Back, Asked, Answered, Done}
 use Rattle.graft_model.specs.RouterRows.{RouterTaken, MeshIn, RouterSent, MeshTo, OutwardTo, ReportOut, BringsIn, FollowsHeard, Follows}
 use Rattle.graft_model.specs.Setups.{Setup, has_network, peering_numbers, router_numbers}
 use Rattle.graft_model.specs.declared.event.RouterEvent.{RouterEvent}
@@ -74,6 +74,8 @@ IsFineItem (Told x None) = Unit {0}
 IsFineItem (Told x (Some route)) = IsSendable route.attrs
 IsFineItem (Moved graft p s) = IsFine s
 IsFineItem (Back graft p s refusal) = IsFine s
+IsFineItem (Asked graft p) = Unit {0}
+IsFineItem (Answered graft p) = Unit {0}
 IsFineItem (Done graft p) = Unit {0}
 
 abbrev pub IsFineTaken : Option RouterTaken → Type 0
@@ -114,6 +116,8 @@ carried_fine : (item : Mesh) (s : SessionValue) → Carries item s → IsFineIte
 carried_fine (Told x route) s carries own = absurd carries
 carried_fine (Moved k p t) s carries own = subst IsFine carries own
 carried_fine (Back k p t refusal) s carries own = subst IsFine carries own
+carried_fine (Asked k p) s carries own = absurd carries
+carried_fine (Answered k p) s carries own = absurd carries
 carried_fine (Done k p) s carries own = absurd carries
 
 told_item : (x : PrefixValue) (best : Option Best) → ((b : Best) → best ≡ Some b → IsSendable b.route.attrs) → IsFineItem (Told x (tell_in best))
@@ -254,11 +258,13 @@ module _ (setup : Setup) (ranges : IsInRange setup) (r : ℕ) (before after : Ro
         let own : IsFine session = carried_fine item session carries (subst IsFineTaken takes come) in
         placed p one (subst IsFinePlace (sym now) own) (elim entries [ inl same ↦ entries_stay p same | inr brought ↦ brings session (after.entries p) own brought ])
 
-    items : (sent : List RouterSent) → SendsNoTelling event before taken after sent → AllByRecursion IsFineSent sent
+    items : (sent : List RouterSent) → SendsNoTelling setup r event before taken after sent → AllByRecursion IsFineSent sent
     items [] told = tt
     items (MeshTo q (Told x route) ∷ []) told = absurd told
     items (MeshTo q (Moved k p s) ∷ []) (order, frozen) = (subst IsFinePlace frozen (fine.places p), tt)
     items (MeshTo q (Back k p s refusal) ∷ []) (from, takes) = (subst IsFineTaken takes come, tt)
+    items (MeshTo q (Asked k p) ∷ []) told = (tt, tt)
+    items (MeshTo q (Answered k p) ∷ []) told = (tt, tt)
     items (MeshTo q (Done k p) ∷ []) told = (tt, tt)
     items (OutwardTo p item ∷ []) told = (tt, tt)
     items (ReportOut report ∷ []) told = (tt, tt)

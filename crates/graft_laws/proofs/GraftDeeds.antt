@@ -1,7 +1,7 @@
 -- What the events of a graft at routers do.
-use Rattle.std.proofs.Common.{◌≡◌, ◌==◌, cond, ℕ, ◌<◌, ◌≤◌, ◌+◌, Bool, true, false, List, [], ◌∷◌, ◌++◌, Option, Some, None, refl, sym, ap, ◌∙◌, subst, arith}
+use Rattle.std.proofs.Common.{◌≡◌, ◌==◌, cond, ℕ, suc, ◌<◌, ◌≤◌, ◌+◌, Bool, true, false, List, [], ◌∷◌, ◌++◌, Option, Some, None, refl, sym, ap, ◌∙◌, subst, arith, inl, inr}
 use Rattle.std.proofs.lemmas.Bool.Decides.{nat_tests}
-use Rattle.std.specs.Prelude.{◌≢◌, IsSome}
+use Rattle.std.specs.Prelude.{◌≢◌, ◌⊎◌, IsSome}
 use Rattle.std.specs.List.{AllByRecursion}
 use Rattle.std.specs.FinMap as map
 use Rattle.graft_steps.specs.declared.refusal.Refusal.{Refusal}
@@ -12,26 +12,27 @@ use Rattle.bgp_types.specs.declared.message.SessionState.{SessionState}
 use Rattle.session_value.specs.Sessions.{SessionValue, state, hold_time}
 use Rattle.graft_model.specs.Points.{at}
 use Rattle.graft_model.specs.Setups.{Setup, peerings_in, room_of}
-use Rattle.graft_model.specs.Parts.{Order, Errand, Leaving, Owing, Place, Vacant, Live, Frozen, Shadow, RouterPart, Mesh, Moved, Back, Done, PointAt, GraftOrder, Report, World}
+use Rattle.graft_model.specs.Parts.{Order, Errand, Leaving, Owing, Asking as ToAnswer, Place, Vacant, Live, Frozen, Shadow, RouterPart, Mesh, Moved, Back, Asked, Answered, Done, PointAt, GraftOrder, Report, World}
 use Rattle.graft_model.specs.RouterRows.{RouterTaken, OrderIn, MeshIn, RouterSent, MeshTo, OutwardTo, ReportOut, BringsIn}
-use Rattle.graft_model.specs.GraftRows.{Admits, Refuses, Freezes, Leaves, Lands, TurnsBack, Returns, Confirms, Clears, is_taken, taken_in, refusal_of}
+use Rattle.graft_model.specs.GraftRows.{Admits, Refuses, Freezes, Leaves, Lands, TurnsBack, Returns, Asks, Answers, Counts, Ignores, Confirms, Clears, is_taken, taken_in, refusal_of}
 use Rattle.graft_model.specs.Steps.{Heads}
-use Rattle.graft_laws.specs.Phases.{Ordered, Stored, Halted, Moving, Landed, Confirmed, Returning, Phase, Busy, only}
+use Rattle.graft_laws.specs.Phases.{Ordered, Stored, Halted, Moving, Landed, Asking, Confirmed, Returning, Phase, Busy, only}
 use Rattle.graft_laws.specs.Log.{graft_at, is_of}
 use Rattle.graft_laws.specs.Owned.{is_on, Stands, Owned}
-use Rattle.graft_laws.specs.Moves.{RouterMoves}
-use Rattle.graft_laws.proofs.Phases.{live_session, stored_at, halted_at, owing_at, moved_in, back_in, done_in, order_in}
+use Rattle.graft_laws.specs.Moves.{inward_taken, outward_sent, reports_sent, RouterMoves}
+use Rattle.graft_laws.proofs.Phases.{live_session, stored_at, halted_at, owing_at, asking_at, moved_in, back_in, done_in, order_in}
+use Rattle.graft_laws.proofs.Others.{AreOthers}
 use Rattle.graft_laws.proofs.Logs.{own_known}
 use Rattle.graft_laws.proofs.Following.{at_phase, at_here, at_other, own_head}
-use Rattle.graft_laws.proofs.Grafts.{equal, admit_own, refuse_own, freeze_own, leave_own, land_own, confirm_own, turn_back_own, return_own, clear_own}
+use Rattle.graft_laws.proofs.Grafts.{equal, admit_own, refuse_own, freeze_own, leave_own, land_own, ask_own, count_own, confirm_own, turn_back_own, return_own, clear_own}
 use Rattle.graft_laws.proofs.Room.{no_more_taken, one_more_taken, room_left}
-use Rattle.graft_laws.proofs.Deeds.{differs, of_known, not_of, known_place, known_order, Deed, own_or_apart, no_items, other_order, other_report, other_mesh, other_sent, other_taken, no_outward}
+use Rattle.graft_laws.proofs.Deeds.{differs, of_known, not_of, known_place, known_order, Deed, all_apart, own_or_apart, no_items, other_order, other_report, other_mesh, other_sent, other_taken, no_outward}
 
 abbrev order_of : ℕ → ℕ → Order
 order_of k t = record { graft = k; target = t }
 
-abbrev word_of : ℕ → ℕ → Errand
-word_of k q = Owing (record { graft = k; source = q })
+abbrev word_of : ℕ → ℕ → ℕ → Errand
+word_of k q n = Owing (record { graft = k; source = q; next = n })
 
 -- the deed of an event whose items are known
 pub deed_as : (setup : Setup) (w v : World) (r : ℕ) (taken known : Option RouterTaken) (sent items : List RouterSent) (part : RouterPart) → taken ≡ known → sent ≡ items
@@ -66,6 +67,34 @@ place_stays before part p q place e ne = ap (λ (f : ℕ → Place). f p) e ∙ 
 
 pub place_here : (before part : RouterPart) (q : ℕ) (place : Place) → part.places ≡ at before.places q place → part.places q ≡ place
 place_here before part q place e = ap (λ (f : ℕ → Place). f q) e ∙ at_here before.places q place
+
+-- an answer is in no count
+other_answer : (setup : Setup) (p r q k n : ℕ) → AreOthers setup p r (Some (MeshIn q (Answered k n))) []
+other_answer setup p r q k n = record { mesh_taken = other_taken setup p r q (Answered k n) refl; mesh_sent = λ i j. refl; orders_taken = λ i. refl; reports_sent = λ i. refl }
+
+-- the part stays, and what is taken and sent is in no count
+unmoved_deed : (setup : Setup) (w v : World) (r : ℕ) (taken : Option RouterTaken) (sent : List RouterSent) (part : RouterPart) → part ≡ w.router r
+    → ((p : ℕ) → AreOthers setup p r taken sent) → ((a p : ℕ) → outward_sent r sent a p ≡ []) → ((p b : ℕ) → inward_taken r taken p b ≡ []) → ((a : ℕ) → reports_sent r sent a ≡ [])
+    → RouterMoves r taken sent part w v → Deed setup w v r taken sent part
+unmoved_deed setup w v r taken sent part stays items none_out none_in no_report m = record {
+  each = all_apart setup w v r taken sent part m (λ p. record {
+    places = ap (λ (x : RouterPart). x.places p) stays;
+    entries = ap (λ (x : RouterPart). x.entries p) stays;
+    items = items p;
+    outward_sent = λ a. none_out a p;
+    inward_taken = λ b. none_in p b;
+  });
+  reports = λ a. subst (λ (x : List Report). AllByRecursion (λ (o : Report). IsSome (graft_at setup o.graft)) x) (sym (no_report a)) tt;
+  room = λ l. subst (λ (x : RouterPart). taken_in setup x ≤ room_of setup r) (sym stays) l;
+}
+
+-- a router that is asked answers
+pub answer_deed : (setup : Setup) (w v : World) (r q : ℕ) (taken : Option RouterTaken) (sent : List RouterSent) (part : RouterPart) → Answers q (w.router r) taken sent part
+    → RouterMoves r taken sent part w v → Deed setup w v r taken sent part
+answer_deed setup w v r q taken sent part row =
+    deed_as setup w v r taken (Some (MeshIn q (Asked row.graft row.peering))) sent (MeshTo q (Answered row.graft row.peering) ∷ []) part row.takes row.sends
+    (unmoved_deed setup w v r (Some (MeshIn q (Asked row.graft row.peering))) (MeshTo q (Answered row.graft row.peering) ∷ []) part row.stays
+    (λ p. other_mesh setup p r q q (Asked row.graft row.peering) (Answered row.graft row.peering) refl refl) (λ a p. refl) (λ p b. refl) (λ a. refl))
 
 module _ (setup : Setup) (w v : World) (r : ℕ) (owned : Owned setup w) where
   abbrev before : RouterPart
@@ -194,7 +223,7 @@ module _ (setup : Setup) (w v : World) (r : ℕ) (owned : Owned setup w) where
       let k : ℕ = row.comes.graft in
       let n : ℕ = row.comes.peering in
       let item : Mesh = Moved k n row.comes.session in
-      let places : part.places ≡ at before.places n (Live row.comes.session (Some (word_of k q))) = ap (λ (x : RouterPart). x.places) row.effect in
+      let places : part.places ≡ at before.places n (Live row.comes.session (Some (word_of k q 0))) = ap (λ (x : RouterPart). x.places) row.effect in
       record {
         each = own_or_apart setup w v r n (Some (MeshIn q item)) (OutwardTo n (PointAt k) ∷ []) part m row.comes.known
             (λ p ne. record {
@@ -208,14 +237,65 @@ module _ (setup : Setup) (w v : World) (r : ℕ) (owned : Owned setup w) where
             let e = moved_in phase n s row.comes.session q r k _ (own_head (is_on n) (w.mesh q r) m.heads.rest item m.heads.is (equal n) ∙ b.mesh q r) in
             at_phase setup w v n phase (Busy q k r Moving) s e.0
             (land_own setup w v n q k r s part (subst (λ (x : SessionValue). RouterMoves r (Some (MeshIn q (Moved k n x))) (OutwardTo n (PointAt k) ∷ []) part w v) e.1 m)
-            (place_here before part n _ places ∙ ap (λ (x : SessionValue). Live x (Some (word_of k q))) e.1)
+            (place_here before part n _ places ∙ ap (λ (x : SessionValue). Live x (Some (word_of k q 0))) e.1)
             (subst (λ (x : SessionValue). BringsIn setup r x (part.entries n)) e.1 row.entries)
             (subst (λ (x : SessionValue). refusal_of setup r before x ≡ None) e.1 row.admitted)) b);
         reports = λ a. tt;
         room = λ l. le_trans _ _ _ (one_more_taken setup before part n _ places) (above _ _ (room_left setup r before row.comes.session row.admitted));
       })
 
-  pub confirm_deed : (k : ℕ) (taken : Option RouterTaken) (sent : List RouterSent) (part : RouterPart) → Confirms k before taken sent part → RouterMoves r taken sent part w v → Deed setup w v r taken sent part
+  pub ask_deed : (k q : ℕ) (taken : Option RouterTaken) (sent : List RouterSent) (part : RouterPart) → Asks setup r k q before taken sent part → RouterMoves r taken sent part w v → Deed setup w v r taken sent part
+  ask_deed k q taken sent part row = deed_as setup w v r taken None sent (MeshTo q (Asked k row.peering) ∷ []) part row.takes row.sends (λ m.
+      let n : ℕ = row.peering in
+      let asking : Errand = ToAnswer (record { graft = k; source = row.source; next = q }) in
+      let places : part.places ≡ at before.places n (Live row.session (Some asking)) = ap (λ (x : RouterPart). x.places) row.effect in
+      record {
+        each = own_or_apart setup w v r n None (MeshTo q (Asked k n) ∷ []) part m (known_place setup w owned r n _ row.live.is (λ e. absurd cc))
+            (λ p ne. record {
+              places = place_stays before part p n _ places ne;
+              entries = ap (λ (x : RouterPart). x.entries p) row.effect;
+              items = other_sent setup p r q (Asked k n) refl;
+              outward_sent = λ a. refl;
+              inward_taken = λ b. refl;
+            })
+            (λ phase s b.
+            let e = owing_at phase s row.session r k row.source row.next (sym row.live.is ∙ b.places r) in
+            at_phase setup w v n phase (Busy row.source k r (Landed row.next)) s e.0
+            (ask_own setup w v n row.source k r s part row.next q m (place_here before part n _ places ∙ ap (λ (x : SessionValue). Live x (Some asking)) e.1) (ap (λ (x : RouterPart). x.entries n) row.effect)) b);
+        reports = λ a. tt;
+        room = λ l. le_trans _ _ _ (no_more_taken setup before part n _ places (ap is_taken row.live.is)) l;
+      })
+
+  count_deed : (q : ℕ) (taken : Option RouterTaken) (sent : List RouterSent) (part : RouterPart) → Counts q before taken sent part → RouterMoves r taken sent part w v → Deed setup w v r taken sent part
+  count_deed q taken sent part row = deed_as setup w v r taken (Some (MeshIn q (Answered row.graft row.peering))) sent [] part row.takes row.sends (λ m.
+      let k : ℕ = row.graft in
+      let n : ℕ = row.peering in
+      let places : part.places ≡ at before.places n (Live row.session (Some (word_of k row.source (suc q)))) = ap (λ (x : RouterPart). x.places) row.effect in
+      record {
+        each = own_or_apart setup w v r n (Some (MeshIn q (Answered k n))) [] part m (known_place setup w owned r n _ row.live.is (λ e. absurd cc))
+            (λ p ne. record {
+              places = place_stays before part p n _ places ne;
+              entries = ap (λ (x : RouterPart). x.entries p) row.effect;
+              items = other_answer setup p r q k n;
+              outward_sent = λ a. refl;
+              inward_taken = λ b. refl;
+            })
+            (λ phase s b.
+            let e = asking_at phase s row.session r k row.source q (sym row.live.is ∙ b.places r) in
+            at_phase setup w v n phase (Busy row.source k r (Asking q)) s e.0
+            (count_own setup w v n row.source k r s part q (suc q) m (place_here before part n _ places ∙ ap (λ (x : SessionValue). Live x (Some (word_of k row.source (suc q)))) e.1)
+            (ap (λ (x : RouterPart). x.entries n) row.effect)) b);
+        reports = λ a. tt;
+        room = λ l. le_trans _ _ _ (no_more_taken setup before part n _ places (ap is_taken row.live.is)) l;
+      })
+
+  pub collect_deed : (q : ℕ) (taken : Option RouterTaken) (sent : List RouterSent) (part : RouterPart) → Counts q before taken sent part ⊎ Ignores q before taken sent part
+      → RouterMoves r taken sent part w v → Deed setup w v r taken sent part
+  collect_deed q taken sent part (inl row) = count_deed q taken sent part row
+  collect_deed q taken sent part (inr row) = deed_as setup w v r taken (Some (MeshIn q (Answered row.graft row.peering))) sent [] part row.takes row.sends
+      (unmoved_deed setup w v r (Some (MeshIn q (Answered row.graft row.peering))) [] part row.stays (λ p. other_answer setup p r q row.graft row.peering) (λ a p. refl) (λ p b. refl) (λ a. refl))
+
+  pub confirm_deed : (k : ℕ) (taken : Option RouterTaken) (sent : List RouterSent) (part : RouterPart) → Confirms setup r k before taken sent part → RouterMoves r taken sent part w v → Deed setup w v r taken sent part
   confirm_deed k taken sent part row = deed_as setup w v r taken None sent (MeshTo row.source (Done k row.peering) ∷ []) part row.takes row.sends (λ m.
       let n : ℕ = row.peering in
       let places : part.places ≡ at before.places n (Live row.session None) = ap (λ (x : RouterPart). x.places) row.effect in
@@ -229,9 +309,9 @@ module _ (setup : Setup) (w v : World) (r : ℕ) (owned : Owned setup w) where
               inward_taken = λ b. refl;
             })
             (λ phase s b.
-            let e = owing_at phase s row.session r k row.source (sym row.live.is ∙ b.places r) in
-            at_phase setup w v n phase (Busy row.source k r Landed) s e.0
-            (confirm_own setup w v n row.source k r s part m (place_here before part n _ places ∙ ap (λ (x : SessionValue). Live x None) e.1) (ap (λ (x : RouterPart). x.entries n) row.effect)) b);
+            let e = owing_at phase s row.session r k row.source row.next (sym row.live.is ∙ b.places r) in
+            at_phase setup w v n phase (Busy row.source k r (Landed row.next)) s e.0
+            (confirm_own setup w v n row.source k r s part row.next m (place_here before part n _ places ∙ ap (λ (x : SessionValue). Live x None) e.1) (ap (λ (x : RouterPart). x.entries n) row.effect)) b);
         reports = λ a. tt;
         room = λ l. le_trans _ _ _ (no_more_taken setup before part n _ places (ap is_taken row.live.is)) l;
       })

@@ -9,16 +9,16 @@ use Rattle.graft_steps.specs.declared.refusal.Outcome.TheVariants.{Accepted, Ref
 use Rattle.graft_steps.specs.Refusals.{freeze_refusal}
 use Rattle.session_value.specs.Sessions.{SessionValue, state, hold_time}
 use Rattle.graft_model.specs.Setups.{Setup}
-use Rattle.graft_model.specs.Parts.{Place, Vacant, Live, Frozen, Shadow, Leaving, Owing, RouterPart, Mesh, Moved, Back, Done, PointAt, GraftOrder, Report, World}
+use Rattle.graft_model.specs.Parts.{Place, Vacant, Live, Frozen, Shadow, Leaving, Owing, Asking as ToAnswer, RouterPart, Mesh, Moved, Back, Asked, Answered, Done, PointAt, GraftOrder, Report, World}
 use Rattle.graft_model.specs.RouterRows.{OrderIn, MeshIn, MeshTo, OutwardTo, ReportOut, BringsIn}
 use Rattle.graft_model.specs.GraftRows.{refusal_of}
-use Rattle.graft_laws.specs.Phases.{Ordered, Stored, Halted, Moving, Landed, Confirmed, Returning, Declined, Cleared, Busy, only, only2, place_by}
+use Rattle.graft_laws.specs.Phases.{Ordered, Stored, Halted, Moving, Landed, Asking, Confirmed, Returning, Declined, Cleared, Busy, only, only2, place_by}
 use Rattle.graft_laws.specs.Log.{is_of}
 use Rattle.graft_laws.specs.Owned.{is_on, mesh_of, Stands}
 use Rattle.graft_laws.specs.Moves.{RouterMoves}
-use Rattle.graft_laws.specs.Life.{Grafts, Admits, Refuses, Freezes, Leaves, Lands, TurnsBack, Returns, Confirms, Clears}
+use Rattle.graft_laws.specs.Life.{Grafts, Admits, Refuses, Freezes, Leaves, Lands, TurnsBack, Returns, Asks, Counts, Confirms, Clears}
 use Rattle.graft_laws.proofs.Logs.{log_on, own_known}
-use Rattle.graft_laws.proofs.Following.{Followed, own_only, own_only2, shifted, line_by_router, line_gets, same_entries, enters, drops}
+use Rattle.graft_laws.proofs.Following.{Followed, own_only, own_only2, none_only2, shifted, line_by_router, line_gets, same_entries, enters, drops}
 
 pub equal : (n : ℕ) → (n == n) ≡ true
 equal n = grind (arith, nat_tests)
@@ -32,6 +32,10 @@ place_now r x part_place place other e = by_test (x == r) where
 
 own_sent : (p j k a b : ℕ) (item : Mesh) → is_on p item ≡ true → mesh_of p (only2 j k item a b ++ []) ≡ only2 j k item a b
 own_sent p j k a b item e = ap (mesh_of p) (append-nil (only2 j k item a b)) ∙ own_only2 (is_on p) item j k a b e
+
+-- an item that no phase tracks
+untracked_sent : (p j k a b : ℕ) (item : Mesh) → is_on p item ≡ false → mesh_of p (only2 j k item a b ++ []) ≡ []
+untracked_sent p j k a b item e = ap (mesh_of p) (append-nil (only2 j k item a b)) ∙ none_only2 (is_on p) item j k a b e
 
 own_report : (setup : Setup) (p r a : ℕ) (o : Report) → is_of setup p o.graft ≡ true → filter (λ (x : Report). is_of setup p x.graft) (only r o a ++ []) ≡ only r o a
 own_report setup p r a o e = ap (filter (λ (x : Report). is_of setup p x.graft)) (append-nil (only r o a)) ∙ own_only (λ (x : Report). is_of setup p x.graft) o r a e
@@ -115,16 +119,19 @@ module _ (setup : Setup) (w v : World) (p q k t : ℕ) (s : SessionValue) (part 
     change = Grafts Leaves (line_by_router w v p q None _ part m (λ a. refl) (λ a. refl)) (same_entries w v p q part m.router entries);
   }
 
-  abbrev owing : Place
-  owing = Live s (Some (Owing (record { graft = k; source = q })))
+  abbrev owing : ℕ → Place
+  owing n = Live s (Some (Owing (record { graft = k; source = q; next = n })))
+
+  abbrev asking : ℕ → Place
+  asking n = Live s (Some (ToAnswer (record { graft = k; source = q; next = n })))
 
   -- the session lands
-  pub land_own : RouterMoves t (Some (MeshIn q (Moved k p s))) (OutwardTo p (PointAt k) ∷ []) part w v → part.places p ≡ owing → BringsIn setup t s (part.entries p)
+  pub land_own : RouterMoves t (Some (MeshIn q (Moved k p s))) (OutwardTo p (PointAt k) ∷ []) part w v → part.places p ≡ owing 0 → BringsIn setup t s (part.entries p)
       → refusal_of setup t (w.router t) s ≡ None → Stands setup w p (Busy q k t Moving) s → Followed setup w v p (Busy q k t Moving) s
   land_own m place brings admitted b = record {
-    next = Busy q k t Landed;
+    next = Busy q k t (Landed 0);
     session = s;
-    stands = shifted setup w v p t s (Some (MeshIn q (Moved k p s))) (OutwardTo p (PointAt k) ∷ []) part (Busy q k t Moving) (Busy q k t Landed) m
+    stands = shifted setup w v p t s (Some (MeshIn q (Moved k p s))) (OutwardTo p (PointAt k) ∷ []) part (Busy q k t Moving) (Busy q k t (Landed 0)) m
         (record {
           places = λ x. ap (λ (y : Place). cond (x == t) y (place_by (Busy q k t Moving) s x)) place;
           mesh_taken = λ i j. own_only2 (is_on p) (Moved k p s) q t i j (equal p);
@@ -133,33 +140,72 @@ module _ (setup : Setup) (w v : World) (p q k t : ℕ) (s : SessionValue) (part 
           no_order = λ x. refl;
           no_report = λ x. refl;
           reports_sent = λ x. refl;
-        }) b (log_on setup w.operator p q k t Moving Landed b.log) b.bounds;
+        }) b (log_on setup w.operator p q k t Moving (Landed 0) b.log) b.bounds;
     change = Lands admitted (line_gets w v p t _ _ part (PointAt k) m (λ a. (let e : only2 t p (PointAt k) a p ≡ only t (PointAt k) a = ap (λ c. cond (a == t) (cond c (PointAt k ∷ []) []) []) (equal p) in append-nil (only2 t p (PointAt k) a p) ∙ e)) (λ a. refl))
         (enters setup w v p t s part m.router brings);
   }
 
-  confirmed_place : (x : ℕ) (here other : Place) → here ≡ Live s None → cond (x == t) here (cond (x == t) owing other) ≡ cond (x == t) (Live s None) other
-  confirmed_place x here other e = by_test (x == t) where
-    by_test : (b : Bool) → cond b here (cond b owing other) ≡ cond b (Live s None) other
+  -- the place of the target goes on, and the others stay
+  landed_place : (x : ℕ) (here place was other : Place) → here ≡ place → cond (x == t) here (cond (x == t) was other) ≡ cond (x == t) place other
+  landed_place x here place was other e = by_test (x == t) where
+    by_test : (b : Bool) → cond b here (cond b was other) ≡ cond b place other
     by_test true = e
     by_test false = refl
 
+  -- the target asks a router
+  pub ask_own : (n m : ℕ) → RouterMoves t None (MeshTo m (Asked k p) ∷ []) part w v → part.places p ≡ asking m → part.entries p ≡ (w.router t).entries p
+      → Stands setup w p (Busy q k t (Landed n)) s → Followed setup w v p (Busy q k t (Landed n)) s
+  ask_own n m moves place entries b = record {
+    next = Busy q k t (Asking m);
+    session = s;
+    stands = shifted setup w v p t s None (MeshTo m (Asked k p) ∷ []) part (Busy q k t (Landed n)) (Busy q k t (Asking m)) moves
+        (record {
+          places = λ x. landed_place x (part.places p) (asking m) (owing n) (cond (x == q) (Shadow k) Vacant) place;
+          mesh_taken = λ i j. refl;
+          mesh_sent = λ i j. untracked_sent p t m i j (Asked k p) refl;
+          orders_taken = λ x. refl;
+          no_order = λ x. refl;
+          no_report = λ x. refl;
+          reports_sent = λ x. refl;
+        }) b (log_on setup w.operator p q k t (Landed n) (Asking m) b.log) b.bounds;
+    change = Grafts Asks (line_by_router w v p t None _ part moves (λ a. refl) (λ a. refl)) (same_entries w v p t part moves.router entries);
+  }
+
+  -- its answer is counted
+  pub count_own : (n m : ℕ) → RouterMoves t (Some (MeshIn n (Answered k p))) [] part w v → part.places p ≡ owing m → part.entries p ≡ (w.router t).entries p
+      → Stands setup w p (Busy q k t (Asking n)) s → Followed setup w v p (Busy q k t (Asking n)) s
+  count_own n m moves place entries b = record {
+    next = Busy q k t (Landed m);
+    session = s;
+    stands = shifted setup w v p t s (Some (MeshIn n (Answered k p))) [] part (Busy q k t (Asking n)) (Busy q k t (Landed m)) moves
+        (record {
+          places = λ x. landed_place x (part.places p) (owing m) (asking n) (cond (x == q) (Shadow k) Vacant) place;
+          mesh_taken = λ i j. none_only2 (is_on p) (Answered k p) n t i j refl;
+          mesh_sent = λ i j. refl;
+          orders_taken = λ x. refl;
+          no_order = λ x. refl;
+          no_report = λ x. refl;
+          reports_sent = λ x. refl;
+        }) b (log_on setup w.operator p q k t (Asking n) (Landed m) b.log) b.bounds;
+    change = Grafts Counts (line_by_router w v p t _ [] part moves (λ a. refl) (λ a. refl)) (same_entries w v p t part moves.router entries);
+  }
+
   -- the target gives word
-  pub confirm_own : RouterMoves t None (MeshTo q (Done k p) ∷ []) part w v → part.places p ≡ Live s None → part.entries p ≡ (w.router t).entries p
-      → Stands setup w p (Busy q k t Landed) s → Followed setup w v p (Busy q k t Landed) s
-  confirm_own m place entries b = record {
+  pub confirm_own : (n : ℕ) → RouterMoves t None (MeshTo q (Done k p) ∷ []) part w v → part.places p ≡ Live s None → part.entries p ≡ (w.router t).entries p
+      → Stands setup w p (Busy q k t (Landed n)) s → Followed setup w v p (Busy q k t (Landed n)) s
+  confirm_own n m place entries b = record {
     next = Busy q k t Confirmed;
     session = s;
-    stands = shifted setup w v p t s None (MeshTo q (Done k p) ∷ []) part (Busy q k t Landed) (Busy q k t Confirmed) m
+    stands = shifted setup w v p t s None (MeshTo q (Done k p) ∷ []) part (Busy q k t (Landed n)) (Busy q k t Confirmed) m
         (record {
-          places = λ x. confirmed_place x (part.places p) (cond (x == q) (Shadow k) Vacant) place;
+          places = λ x. landed_place x (part.places p) (Live s None) (owing n) (cond (x == q) (Shadow k) Vacant) place;
           mesh_taken = λ i j. refl;
           mesh_sent = λ i j. own_sent p t q i j (Done k p) (equal p);
           orders_taken = λ x. refl;
           no_order = λ x. refl;
           no_report = λ x. refl;
           reports_sent = λ x. refl;
-        }) b (log_on setup w.operator p q k t Landed Confirmed b.log) b.bounds;
+        }) b (log_on setup w.operator p q k t (Landed n) Confirmed b.log) b.bounds;
     change = Grafts Confirms (line_by_router w v p t None _ part m (λ a. refl) (λ a. refl)) (same_entries w v p t part m.router entries);
   }
 

@@ -7,15 +7,15 @@ use Rattle.graft_steps.specs.declared.refusal.Refusal.{Refusal}
 use Rattle.graft_steps.specs.declared.refusal.Outcome.TheVariants.{Accepted, Refused}
 use Rattle.session_value.specs.Sessions.{SessionValue}
 use Rattle.graft_model.specs.Setups.{Setup, ScriptGraft, peerings_in}
-use Rattle.graft_model.specs.Parts.{Place, Vacant, Live, Frozen, Shadow, Leaving, Owing, Moved, Back, Done, GraftOrder, Report, World}
+use Rattle.graft_model.specs.Parts.{Place, Vacant, Live, Frozen, Shadow, Leaving, Owing, Asking as ToAnswer, Moved, Back, Done, GraftOrder, Report, World}
 use Rattle.graft_model.specs.Claims.{sessions_at, sessions_on}
 use Rattle.graft_model.specs.Steps.{Heads}
-use Rattle.graft_laws.specs.Phases.{Stage, Ordered, Stored, Halted, Moving, Landed, Confirmed, Returning, Declined, Cleared, Phase, Idle, Busy, only, only2, place_by, mesh_by}
+use Rattle.graft_laws.specs.Phases.{Stage, Ordered, Stored, Halted, Moving, Landed, Asking, Confirmed, Returning, Declined, Cleared, Phase, Idle, Busy, only, only2, place_by, mesh_by}
 use Rattle.graft_laws.specs.Owned.{is_on, mesh_of, orders_of, Stands, Owned}
 use Rattle.graft_laws.specs.Facts.{IsNowhereElse}
 use Rattle.graft_model.specs.RouterRows.{OrderIn}
 use Rattle.graft_model.specs.Taking.{RouterMayTake}
-use Rattle.graft_laws.proofs.Phases.{stored_at, halted_at, owing_at, moved_in, back_in, done_in, order_in, refusal_in, success_in}
+use Rattle.graft_laws.proofs.Phases.{stored_at, halted_at, owing_at, asking_at, moved_in, back_in, done_in, order_in, refusal_in, success_in}
 use Rattle.graft_laws.proofs.Numbers.{the_graft}
 use Rattle.graft_laws.proofs.Following.{own_head}
 use Rattle.graft_laws.proofs.Deeds.{known_mesh, known_order}
@@ -53,7 +53,10 @@ module _ (setup : Setup) (w : World) (p q k t : ℕ) (s : SessionValue) (next : 
   busy_same Stored b = (stored_at next u s q k t (sym (placed_here q (Live s (Some (Leaving (record { graft = k; target = t }))))) ∙ (sym (b.places q) ∙ other.places q))).0
   busy_same Halted b = (halted_at next u s q k t (sym (placed_here q (Frozen s (record { graft = k; target = t }))) ∙ (sym (b.places q) ∙ other.places q))).0
   busy_same Moving b = (moved_in next p u s q t k [] (sym (only2_here q t (Moved k p s)) ∙ (sym (b.mesh q t) ∙ other.mesh q t))).0
-  busy_same Landed b = (owing_at next u s t k q (sym (landed_here t (Live s (Some (Owing (record { graft = k; source = q })))) (cond (t == q) (Shadow k) Vacant)) ∙ (sym (b.places t) ∙ other.places t))).0
+  busy_same (Landed n) b =
+      (owing_at next u s t k q n (sym (landed_here t (Live s (Some (Owing (record { graft = k; source = q; next = n })))) (cond (t == q) (Shadow k) Vacant)) ∙ (sym (b.places t) ∙ other.places t))).0
+  busy_same (Asking n) b =
+      (asking_at next u s t k q n (sym (landed_here t (Live s (Some (ToAnswer (record { graft = k; source = q; next = n })))) (cond (t == q) (Shadow k) Vacant)) ∙ (sym (b.places t) ∙ other.places t))).0
   busy_same Confirmed b = done_in next p u t q k [] (sym (only2_here t q (Done k p)) ∙ (sym (b.mesh t q) ∙ other.mesh t q))
   busy_same (Returning refusal) b = (back_in next p u s refusal t q k [] (sym (only2_here t q (Back k p s refusal)) ∙ (sym (b.mesh t q) ∙ other.mesh t q))).0
   busy_same (Declined refusal) b =
@@ -82,7 +85,8 @@ NoOther phase p s r = ((x : ℕ) → x ≢ r → sessions_at (place_by phase s x
 
 no_other : (phase : Phase) (p : ℕ) (s : SessionValue) (r : ℕ) → sessions_at (place_by phase s r) ≢ [] → NoOther phase p s r
 no_other (Busy q k t Moving) p s r some = absurd (some (grind (arith, nat_tests)))
-no_other (Busy q k t Landed) p s r some = (λ x ne. grind (arith, nat_tests), λ a b. grind (arith, nat_tests))
+no_other (Busy q k t (Landed n)) p s r some = (λ x ne. grind (arith, nat_tests), λ a b. grind (arith, nat_tests))
+no_other (Busy q k t (Asking n)) p s r some = (λ x ne. grind (arith, nat_tests), λ a b. grind (arith, nat_tests))
 no_other (Busy q k t Confirmed) p s r some = (λ x ne. grind (arith, nat_tests), λ a b. grind (arith, nat_tests))
 no_other (Busy q k t (Returning refusal)) p s r some = absurd (some (grind (arith, nat_tests)))
 no_other _ p s r some = (λ x ne. grind (arith, nat_tests), λ a b. refl)

@@ -6,9 +6,9 @@ use Rattle.std.specs.Prelude.{◌≢◌}
 use Rattle.std.specs.List.{flat_map, range_with_len}
 use Rattle.session_value.specs.Sessions.{SessionValue}
 use Rattle.graft_model.specs.Setups.{Setup, routers_in, router_numbers}
-use Rattle.graft_model.specs.Parts.{Mesh, Told, Moved, Back, Done, World}
+use Rattle.graft_model.specs.Parts.{Mesh, Told, Moved, Back, Asked, Answered, Done, World}
 use Rattle.graft_model.specs.Claims.{sessions_at, sessions_on, sessions_of}
-use Rattle.graft_laws.specs.Phases.{Ordered, Stored, Halted, Moving, Landed, Confirmed, Returning, Declined, Cleared, Phase, Idle, Busy, place_by, mesh_by, InBounds}
+use Rattle.graft_laws.specs.Phases.{Ordered, Stored, Halted, Moving, Landed, Asking, Confirmed, Returning, Declined, Cleared, Phase, Idle, Busy, place_by, mesh_by, InBounds}
 use Rattle.graft_laws.specs.Owned.{mesh_of, Stands}
 
 -- ---- lists joined over numbers
@@ -58,6 +58,8 @@ item_step p (Back k q s refusal) items h = by_test (q == p) refl where
   by_test : (b : Bool) → (q == p) ≡ b → cond b (s ∷ []) [] ++ flat_map (sessions_on p) items ≡ flat_map (sessions_on p) (cond b (Back k q s refusal ∷ mesh_of p items) (mesh_of p items))
   by_test true is = cc (ap (λ b. cond b (s ∷ []) []) is, h)
   by_test false is = h
+item_step p (Asked k q) items h = h
+item_step p (Answered k q) items h = h
 item_step p (Done k q) items h = by_test (q == p) where
   by_test : (b : Bool) → flat_map (sessions_on p) items ≡ flat_map (sessions_on p) (cond b (Done k q ∷ mesh_of p items) (mesh_of p items))
   by_test true = h
@@ -94,7 +96,8 @@ one_by setup (Busy q k t Ordered) p s l = at_router _ (Busy q k t Ordered) p q s
 one_by setup (Busy q k t Stored) p s l = at_router _ (Busy q k t Stored) p q s l.0 (grind (arith, nat_tests)) (λ k ne. grind (arith, nat_tests)) (λ a b. refl)
 one_by setup (Busy q k t Halted) p s l = at_router _ (Busy q k t Halted) p q s l.0 (grind (arith, nat_tests)) (λ k ne. grind (arith, nat_tests)) (λ a b. refl)
 one_by setup (Busy q k t Moving) p s l = on_the_way _ (Busy q k t Moving) p q t s l.0 l.1 (λ r. grind (arith, nat_tests)) (grind (arith, nat_tests)) (λ a b ne. grind (arith, nat_tests)) (λ a b ne. grind (arith, nat_tests))
-one_by setup (Busy q k t Landed) p s l = at_router _ (Busy q k t Landed) p t s l.1 (grind (arith, nat_tests)) (λ k ne. grind (arith, nat_tests)) (λ a b. grind (arith, nat_tests))
+one_by setup (Busy q k t (Landed n)) p s l = at_router _ (Busy q k t (Landed n)) p t s l.1 (grind (arith, nat_tests)) (λ k ne. grind (arith, nat_tests)) (λ a b. grind (arith, nat_tests))
+one_by setup (Busy q k t (Asking n)) p s l = at_router _ (Busy q k t (Asking n)) p t s l.1 (grind (arith, nat_tests)) (λ k ne. grind (arith, nat_tests)) (λ a b. grind (arith, nat_tests))
 one_by setup (Busy q k t Confirmed) p s l = at_router _ (Busy q k t Confirmed) p t s l.1 (grind (arith, nat_tests)) (λ k ne. grind (arith, nat_tests)) (λ a b. grind (arith, nat_tests))
 one_by setup (Busy q k t (Returning refusal)) p s l =
     on_the_way _ (Busy q k t (Returning refusal)) p t q s l.1 l.0 (λ r. grind (arith, nat_tests)) (grind (arith, nat_tests)) (λ a b ne. grind (arith, nat_tests)) (λ a b ne. grind (arith, nat_tests))

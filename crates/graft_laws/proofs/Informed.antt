@@ -13,7 +13,7 @@ use Rattle.route_policy.specs.Telling.{tell_in}
 use Rattle.session_value.specs.Sets.{BestRoutes, Prefixes, has}
 use Rattle.graft_model.specs.Decisions.{chosen}
 use Rattle.graft_model.specs.First.{first_world}
-use Rattle.graft_model.specs.Parts.{RouterPart, Tellings, Mesh, Told, Moved, Back, Done, World}
+use Rattle.graft_model.specs.Parts.{RouterPart, Tellings, Mesh, Told, Moved, Back, Asked, Answered, Done, World}
 use Rattle.graft_model.specs.Points.{at}
 use Rattle.graft_model.specs.RouterRows.{RouterTaken, OrderIn, SegmentIn, MeshIn, RouterSent, MeshTo, OutwardTo, ReportOut}
 use Rattle.graft_model.specs.Setups.{Setup, routers_in}
@@ -38,6 +38,8 @@ last_append x [] ys d = refl
 last_append x (Told y route ∷ xs) ys d = last_append x xs ys (if same_prefix x y then route else d)
 last_append x (Moved k p s ∷ xs) ys d = last_append x xs ys d
 last_append x (Back k p s refusal ∷ xs) ys d = last_append x xs ys d
+last_append x (Asked k p ∷ xs) ys d = last_append x xs ys d
+last_append x (Answered k p ∷ xs) ys d = last_append x xs ys d
 last_append x (Done k p ∷ xs) ys d = last_append x xs ys d
 
 -- an item that tells nothing
@@ -73,15 +75,17 @@ Deaf r taken = (a : ℕ) (x : PrefixValue) (rest was : List Mesh) (d : Option Ro
 mute_none : (r : ℕ) (sent : List RouterSent) → sent ≡ [] → Mute r sent
 mute_none r sent is b x d = ap (λ (s : List RouterSent). last_told x (mesh_sent r s r b) d) is
 
-mute : (event : RouterEvent) (before : RouterPart) (taken : Option RouterTaken) (after : RouterPart) (r : ℕ) (sent : List RouterSent) → SendsNoTelling event before taken after sent → Mute r sent
-mute event before taken after r [] none b x d = refl
-mute event before taken after r (MeshTo q (Told y route) ∷ []) none b x d = absurd none
-mute event before taken after r (MeshTo q (Moved k p s) ∷ []) none b x d = skip (Moved k p s) (λ y ys e. refl) r q r b x [] d
-mute event before taken after r (MeshTo q (Back k p s refusal) ∷ []) none b x d = skip (Back k p s refusal) (λ y ys e. refl) r q r b x [] d
-mute event before taken after r (MeshTo q (Done k p) ∷ []) none b x d = skip (Done k p) (λ y ys e. refl) r q r b x [] d
-mute event before taken after r (OutwardTo p item ∷ []) none b x d = refl
-mute event before taken after r (ReportOut report ∷ []) none b x d = refl
-mute event before taken after r (item ∷ more ∷ items) none b x d = absurd none
+mute : (setup : Setup) (event : RouterEvent) (before : RouterPart) (taken : Option RouterTaken) (after : RouterPart) (r : ℕ) (sent : List RouterSent) → SendsNoTelling setup r event before taken after sent → Mute r sent
+mute setup event before taken after r [] none b x d = refl
+mute setup event before taken after r (MeshTo q (Told y route) ∷ []) none b x d = absurd none
+mute setup event before taken after r (MeshTo q (Moved k p s) ∷ []) none b x d = skip (Moved k p s) (λ y ys e. refl) r q r b x [] d
+mute setup event before taken after r (MeshTo q (Back k p s refusal) ∷ []) none b x d = skip (Back k p s refusal) (λ y ys e. refl) r q r b x [] d
+mute setup event before taken after r (MeshTo q (Asked k p) ∷ []) none b x d = skip (Asked k p) (λ y ys e. refl) r q r b x [] d
+mute setup event before taken after r (MeshTo q (Answered k p) ∷ []) none b x d = skip (Answered k p) (λ y ys e. refl) r q r b x [] d
+mute setup event before taken after r (MeshTo q (Done k p) ∷ []) none b x d = skip (Done k p) (λ y ys e. refl) r q r b x [] d
+mute setup event before taken after r (OutwardTo p item ∷ []) none b x d = refl
+mute setup event before taken after r (ReportOut report ∷ []) none b x d = refl
+mute setup event before taken after r (item ∷ more ∷ items) none b x d = absurd none
 
 deaf_item : (r q : ℕ) (item : Mesh) → Skips item → Deaf r (Some (MeshIn q item))
 deaf_item r q item skips a x rest was d e = sym (skip item skips q r a r x rest d) ∙ ap (λ (xs : List Mesh). last_told x xs d) e
@@ -93,6 +97,8 @@ deaf setup before r (Some (SegmentIn p segment)) none a x rest was d e = ap (λ 
 deaf setup before r (Some (MeshIn q (Told y route))) none a x rest was d e = absurd none
 deaf setup before r (Some (MeshIn q (Moved k p s))) none a x rest was d e = deaf_item r q (Moved k p s) (λ y ys o. refl) a x rest was d e
 deaf setup before r (Some (MeshIn q (Back k p s refusal))) none a x rest was d e = deaf_item r q (Back k p s refusal) (λ y ys o. refl) a x rest was d e
+deaf setup before r (Some (MeshIn q (Asked k p))) none a x rest was d e = deaf_item r q (Asked k p) (λ y ys o. refl) a x rest was d e
+deaf setup before r (Some (MeshIn q (Answered k p))) none a x rest was d e = deaf_item r q (Answered k p) (λ y ys o. refl) a x rest was d e
 deaf setup before r (Some (MeshIn q (Done k p))) none a x rest was d e = deaf_item r q (Done k p) (λ y ys o. refl) a x rest was d e
 
 pub record Says (setup : Setup) (r : ℕ) (before : RouterPart) (taken : Option RouterTaken) (sent : List RouterSent) (after : RouterPart) : Type 0 where
@@ -244,8 +250,8 @@ module _ (setup : Setup) (r : ℕ) (before : RouterPart) (taken : Option RouterT
     by_print (Telling q prefix row) = tells q prefix row
     by_print (Hearing q row) = hears q row
     by_print (Staying silent is) =
-        quiet (mute event before taken after r sent silent.sends) (deaf setup before r taken silent.takes) (ap (λ (u : RouterPart). u.due_in) is) (ap (λ (u : RouterPart). u.best) is) (ap (λ (u : RouterPart). u.tellings) is)
-    by_print (Changing p silent one change) = quiet (mute event before taken after r sent silent.sends) (deaf setup before r taken silent.takes) one.due_in one.best one.tellings
+        quiet (mute setup event before taken after r sent silent.sends) (deaf setup before r taken silent.takes) (ap (λ (u : RouterPart). u.due_in) is) (ap (λ (u : RouterPart). u.best) is) (ap (λ (u : RouterPart). u.tellings) is)
+    by_print (Changing p silent one change) = quiet (mute setup event before taken after r sent silent.sends) (deaf setup before r taken silent.takes) one.due_in one.best one.tellings
 
 -- ---- the world
 

@@ -43,6 +43,9 @@ pub mod ToldNone
 pub mod HeardNone
 pub mod Answered
 pub mod TableLaws
+pub mod SentItems
+pub mod Errands
+pub mod HeardBefore
 pub mod MadeBefore
 pub mod AwayUp
 pub mod DueHeld

@@ -1,5 +1,5 @@
 -- Lists whose items all have a property, and what filters leave.
-use Rattle.std.proofs.Common.{◌≡◌, Bool, true, false, cond, List, [], ◌∷◌, ◌++◌, Option, Some, refl, sym, ap, ◌∙◌, subst, arith, ◌⊎◌, inl, inr}
+use Rattle.std.proofs.Common.{◌≡◌, Bool, true, false, cond, List, [], ◌∷◌, ◌++◌, Option, Some, refl, sym, ap, ◌∙◌, subst, arith, ◌⊎◌, inl, inr, append_assoc}
 use Rattle.std.specs.Prelude.{filter, ◌&&◌}
 use Rattle.std.specs.List.{AllByRecursion, last_or}
 
@@ -109,11 +109,21 @@ stands_in (x ∷ xs) ys (u ∷ us) vs z e = behind (stands_in xs ys us vs z (let
   behind (inr (ws, f, g)) = inr (ws, ap (λ y. y ∷ us) (sym same) ∙ ap (λ (l : List _). x ∷ l) f, g)
 
 -- in a list of one
-pub alone : {A : Type 0} (item z : A) (ws vs : List A) → item ∷ [] ≡ ws ++ z ∷ vs → (ws ≡ []) × (item ≡ z)
-alone item z [] vs e = (refl, cc)
+pub alone : {A : Type 0} (item z : A) (ws vs : List A) → item ∷ [] ≡ ws ++ z ∷ vs → (ws ≡ []) × (item ≡ z) × (vs ≡ [])
+alone item z [] vs e = (refl, cc, cc)
 alone item z (w ∷ []) vs e = absurd cc
 alone item z (w ∷ u ∷ ws) vs e = absurd cc
 
 pub none_stands : {A : Type 0} (z : A) (ws vs : List A) → [] ≡ ws ++ z ∷ vs → ⊥
 none_stands z [] vs e = cc
 none_stands z (w ∷ ws) vs e = cc
+
+-- all of a list, by where each stands
+pub all_standing : {A : Type 0} (P : A → Type 0) (xs : List A) → ((z : A) (ws vs : List A) → xs ≡ ws ++ z ∷ vs → P z) → AllByRecursion P xs
+all_standing P [] each = tt
+all_standing P (x ∷ xs) each = (each x [] xs refl, all_standing P xs (λ z ws vs e. each z (x ∷ ws) vs (ap (λ (ys : List _). x ∷ ys) e)))
+
+-- what stands behind an item in two joined lists, where it stands in the first
+pub behind_in : {A : Type 0} (xs ys us vs ws : List A) (z : A) → xs ++ ys ≡ us ++ z ∷ vs → xs ≡ us ++ z ∷ ws → vs ≡ ws ++ ys
+behind_in xs ys us vs ws z e f =
+    let g : z ∷ vs ≡ z ∷ (ws ++ ys) = append_same us (z ∷ vs) (z ∷ (ws ++ ys)) (sym e ∙ ap (λ (l : List _). l ++ ys) f ∙ append_assoc us (z ∷ ws) ys) in cc

@@ -7,13 +7,13 @@ use Rattle.graft_steps.specs.declared.refusal.Outcome.{Outcome}
 use Rattle.graft_steps.specs.declared.refusal.Outcome.TheVariants.{Accepted, Refused}
 use Rattle.session_value.specs.Sessions.{SessionValue}
 use Rattle.graft_model.specs.Setups.{Setup, IsSetup, ScriptGraft, MoveStep, peerings_in, grafts_in, graft_number}
-use Rattle.graft_model.specs.Parts.{Place, Vacant, Live, Frozen, Shadow, Leaving, Owing, OperatorPart, Told, Moved, Back, Done, Report, World}
+use Rattle.graft_model.specs.Parts.{Place, Vacant, Live, Frozen, Shadow, Leaving, Owing, Asking as ToAnswer, OperatorPart, Told, Moved, Back, Asked, Answered, Done, Report, World}
 use Rattle.graft_model.specs.RouterRows.{RouterTaken, OrderIn, SegmentIn, MeshIn}
 use Rattle.graft_model.specs.Taking.{RouterMayTake, OperatorMayTake}
 use Rattle.graft_model.specs.OperatorRows.{OperatorTaken, ReportIn, placement}
 use Rattle.graft_model.specs.Laws.{HasGraft, HasOnce}
 use Rattle.graft_model.specs.Steps.{Heads}
-use Rattle.graft_laws.specs.Phases.{Stage, Ordered, Stored, Halted, Moving, Landed, Confirmed, Returning, Declined, Cleared, Phase, Idle, Busy, source_of, under_way, place_by}
+use Rattle.graft_laws.specs.Phases.{Stage, Ordered, Stored, Halted, Moving, Landed, Asking, Confirmed, Returning, Declined, Cleared, Phase, Idle, Busy, source_of, under_way, place_by}
 use Rattle.graft_laws.specs.Log.{graft_at, is_peering, is_of, HasEnded, Waits, LogSays}
 use Rattle.graft_laws.specs.Owned.{reports_of, Stands, Owned}
 use Rattle.graft_laws.specs.Facts.{IsUnderWay}
@@ -83,6 +83,8 @@ module _ (setup : Setup) (w : World) (ok : IsSetup setup) (owned : Owned setup w
   router_may r (MeshIn q (Told prefix route)) h = tt
   router_may r (MeshIn q (Moved k p s)) h = vacant_at setup w owned q r k p s h
   router_may r (MeshIn q (Back k p s refusal)) h = shadow_back setup w owned q r k p s refusal h
+  router_may r (MeshIn q (Asked k p)) h = tt
+  router_may r (MeshIn q (Answered k p)) h = tt
   router_may r (MeshIn q (Done k p)) h = shadow_done setup w owned q r k p h
 
   pub operator_may : (taken : OperatorTaken) → OperatorHeads w (Some taken) → OperatorMayTake w.operator taken
@@ -174,9 +176,14 @@ has_graft_busy (Busy q l t Halted) s r k place e has = by_test (r == q) (subst (
   by_test : (b : Bool) → HasGraft k (cond b (Frozen s (record { graft = l; target = t })) Vacant) → (q' : ℕ) × (t' : ℕ) × (stage : Stage) × (Busy q l t Halted ≡ Busy q' k t' stage)
   by_test true h = (q, t, Halted, ap (λ x. Busy q x t Halted) h)
   by_test false h = absurd h
-has_graft_busy (Busy q l t Landed) s r k place e has = by_tests (r == t) (r == q) (subst (HasGraft k) e has) where
-  by_tests : (a b : Bool) → HasGraft k (cond a (Live s (Some (Owing (record { graft = l; source = q })))) (cond b (Shadow l) Vacant)) → (q' : ℕ) × (t' : ℕ) × (stage : Stage) × (Busy q l t Landed ≡ Busy q' k t' stage)
-  by_tests true b h = (q, t, Landed, ap (λ x. Busy q x t Landed) h)
+has_graft_busy (Busy q l t (Landed n)) s r k place e has = by_tests (r == t) (r == q) (subst (HasGraft k) e has) where
+  by_tests : (a b : Bool) → HasGraft k (cond a (Live s (Some (Owing (record { graft = l; source = q; next = n })))) (cond b (Shadow l) Vacant)) → (q' : ℕ) × (t' : ℕ) × (stage : Stage) × (Busy q l t (Landed n) ≡ Busy q' k t' stage)
+  by_tests true b h = (q, t, Landed n, ap (λ x. Busy q x t (Landed n)) h)
+  by_tests false true h = absurd h
+  by_tests false false h = absurd h
+has_graft_busy (Busy q l t (Asking n)) s r k place e has = by_tests (r == t) (r == q) (subst (HasGraft k) e has) where
+  by_tests : (a b : Bool) → HasGraft k (cond a (Live s (Some (ToAnswer (record { graft = l; source = q; next = n })))) (cond b (Shadow l) Vacant)) → (q' : ℕ) × (t' : ℕ) × (stage : Stage) × (Busy q l t (Asking n) ≡ Busy q' k t' stage)
+  by_tests true b h = (q, t, Asking n, ap (λ x. Busy q x t (Asking n)) h)
   by_tests false true h = absurd h
   by_tests false false h = absurd h
 has_graft_busy (Busy q l t Confirmed) s r k place e has = absurd (by_tests (r == t) (r == q) (subst (HasGraft k) e has)) where

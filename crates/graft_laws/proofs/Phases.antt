@@ -4,8 +4,8 @@ use Rattle.std.proofs.lemmas.Bool.Decides.{nat_tests}
 use Rattle.graft_steps.specs.declared.refusal.Refusal.{Refusal}
 use Rattle.graft_steps.specs.declared.refusal.Outcome.TheVariants.{Accepted, Refused}
 use Rattle.session_value.specs.Sessions.{SessionValue}
-use Rattle.graft_model.specs.Parts.{Errand, Leaving, Owing, Live, Frozen, Mesh, Moved, Back, Done, GraftOrder, Report}
-use Rattle.graft_laws.specs.Phases.{Ordered, Stored, Halted, Moving, Landed, Confirmed, Returning, Declined, Cleared, Phase, Busy, place_by, mesh_by, orders_by, reports_by}
+use Rattle.graft_model.specs.Parts.{Errand, Leaving, Owing, Asking as ToAnswer, Live, Frozen, Mesh, Moved, Back, Done, GraftOrder, Report}
+use Rattle.graft_laws.specs.Phases.{Ordered, Stored, Halted, Moving, Landed, Asking, Confirmed, Returning, Declined, Cleared, Phase, Busy, place_by, mesh_by, orders_by, reports_by}
 
 -- ---- at a router
 
@@ -23,9 +23,14 @@ halted_at (Busy q l v Halted) s t r k u e = grind (arith, nat_tests)
 halted_at _ s t r k u e = absurd (grind (arith, nat_tests))
 
 -- a session that has landed, and word of that is owed
-pub owing_at : (phase : Phase) (s t : SessionValue) (r k q : ℕ) → Live t (Some (Owing (record { graft = k; source = q }))) ≡ place_by phase s r → (phase ≡ Busy q k r Landed) × (t ≡ s)
-owing_at (Busy q l v Landed) s t r k u e = grind (arith, nat_tests)
-owing_at _ s t r k u e = absurd (grind (arith, nat_tests))
+pub owing_at : (phase : Phase) (s t : SessionValue) (r k q n : ℕ) → Live t (Some (Owing (record { graft = k; source = q; next = n }))) ≡ place_by phase s r → (phase ≡ Busy q k r (Landed n)) × (t ≡ s)
+owing_at (Busy q l v (Landed m)) s t r k u n e = grind (arith, nat_tests)
+owing_at _ s t r k u n e = absurd (grind (arith, nat_tests))
+
+-- one that has landed, where a router was asked
+pub asking_at : (phase : Phase) (s t : SessionValue) (r k q n : ℕ) → Live t (Some (ToAnswer (record { graft = k; source = q; next = n }))) ≡ place_by phase s r → (phase ≡ Busy q k r (Asking n)) × (t ≡ s)
+asking_at (Busy q l v (Asking m)) s t r k u n e = grind (arith, nat_tests)
+asking_at _ s t r k u n e = absurd (grind (arith, nat_tests))
 
 -- ---- between routers
 

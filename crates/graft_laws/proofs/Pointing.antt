@@ -17,11 +17,11 @@ use Rattle.graft_model.specs.First.{first_world, first_far}
 use Rattle.graft_model.specs.declared.event.FarEvent.{FarEvent}
 use Rattle.graft_model.specs.declared.event.FarEvent.TheVariants.{Say, Send, Take, Pass, Reach, Lose, Point, Beat}
 use Rattle.graft_model.specs.Steps.{far_row}
-use Rattle.graft_laws.specs.Phases.{Stage, Moving, Landed, Confirmed, Cleared, Phase, Idle, Busy, only, only2}
+use Rattle.graft_laws.specs.Phases.{Stage, Moving, Landed, Asking, Confirmed, Cleared, Phase, Idle, Busy, only, only2}
 use Rattle.graft_laws.specs.Log.{is_of}
 use Rattle.graft_laws.specs.Owned.{Stands}
 use Rattle.graft_laws.specs.Moves.{FarMoves, outward_taken}
-use Rattle.graft_laws.specs.Life.{Acts, SameLine, LineGets, LineGives, LineSays, Change, Rests, Lands, Confirms, Clears, NotesSuccess, Puts, Emits, Arrives, Gets, Ticks, Strays, IsToSay, FarActs, GraftMove, Grafts}
+use Rattle.graft_laws.specs.Life.{Acts, SameLine, LineGets, LineGives, LineSays, Change, Rests, Lands, Asks, Counts, Confirms, Clears, NotesSuccess, Puts, Emits, Arrives, Gets, Ticks, Strays, IsToSay, FarActs, GraftMove, Grafts}
 use Rattle.graft_laws.specs.Keeps.{Reached, Has}
 use Rattle.graft_laws.specs.Pointing.{home_of, IsUpTo, IsBelow, is_word_of, IsPast, HasLandedLast, WordOf, Words, Points}
 use Rattle.graft_laws.proofs.Lists.{all_map, all_join, all_back, all_head, filter_none, append_same}
@@ -40,7 +40,8 @@ module _ (setup : Setup) (w v : World) (p : ℕ) (grows : LogGrows w.operator v.
   past_still last (inr past) = inr (past.0, grows.outcome last past.1)
 
   landed_still : (phase : Phase) (last : ℕ) → HasLandedLast setup w p phase last → HasLandedLast setup v p phase last
-  landed_still (Busy q k t Landed) last is = is
+  landed_still (Busy q k t (Landed n)) last is = is
+  landed_still (Busy q k t (Asking n)) last is = is
   landed_still (Busy q k t Confirmed) last is = is
   landed_still (Busy q k t Cleared) last is = is
   landed_still _ last past = past_still last past
@@ -289,12 +290,16 @@ far_words setup w v p home last (Point router) taken sent part row m =
 -- ---- every change
 
 same_home : {setup : Setup} {w : World} {phase next : Phase} {s : SessionValue} → GraftMove setup w phase s next → home_of next ≡ home_of phase
+same_home Asks = refl
+same_home Counts = refl
 same_home Confirms = refl
 same_home _ = refl
 
 module _ (setup : Setup) (w v : World) (p : ℕ) (grows : LogGrows w.operator v.operator) where
   landed_on : (phase next : Phase) (s : SessionValue) → GraftMove setup w phase s next → (last : ℕ) → Stands setup w p phase s → Stands setup v p next s
       → HasLandedLast setup w p phase last → HasLandedLast setup v p next last
+  landed_on _ _ _ Asks last b then is = is
+  landed_on _ _ _ Counts last b then is = is
   landed_on _ _ _ Confirms last b then is = is
   landed_on _ _ s (NotesSuccess {q = q} {k = k} {t = t}) last b then is = subst (IsPast setup v p) (sym is) (landed_ended setup w v p q k t t Cleared s s grows b then)
   landed_on _ _ _ _ last b then past = past_still setup w v p grows last past

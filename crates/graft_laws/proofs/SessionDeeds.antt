@@ -22,7 +22,7 @@ use Rattle.graft_laws.specs.Owned.{Stands, Owned}
 use Rattle.graft_laws.specs.Log.{graft_at}
 use Rattle.graft_laws.specs.Moves.{inward_taken, outward_sent, reports_sent, RouterMoves}
 use Rattle.graft_model.specs.declared.event.RouterEvent.{RouterEvent}
-use Rattle.graft_model.specs.declared.event.RouterEvent.TheVariants.{Put, Emit, Arrive, Stray, Got, Decide, Tell, Hear, Admit, Refuse, Freeze, Leave, Land, TurnBack, Return, Clear, Confirm, Tick}
+use Rattle.graft_model.specs.declared.event.RouterEvent.TheVariants.{Put, Emit, Arrive, Stray, Got, Decide, Tell, Hear, Admit, Refuse, Freeze, Leave, Land, TurnBack, Return, Clear, Ask, Answer, Collect, Confirm, Tick}
 use Rattle.graft_model.specs.Steps.{router_row}
 use Rattle.graft_laws.specs.Life.{Acts, SameLine, SameEntries, EntersHeard, Change, Rests, Puts, Emits as ToEmit, Arrives as ToArrive, Gets, Ticks as ToTick, Strays as ToStray, IsUpdateToTell}
 use Rattle.graft_laws.proofs.Phases.{live_session}
@@ -32,7 +32,7 @@ use Rattle.graft_laws.proofs.Rests.{changed, stands_still}
 use Rattle.graft_laws.proofs.Room.{no_more_taken}
 use Rattle.graft_laws.proofs.Deeds.{known_place, equal_or_not, Deed, all_apart, own_or_apart, no_items, other_sent, other_taken, no_outward, no_inward}
 use Rattle.graft_laws.proofs.Grafts.{equal}
-use Rattle.graft_laws.proofs.GraftDeeds.{deed_as, place_stays, place_here, le_trans, admit_deed, refuse_deed, freeze_deed, leave_deed, land_deed, confirm_deed, turn_back_deed, return_deed, clear_deed}
+use Rattle.graft_laws.proofs.GraftDeeds.{deed_as, place_stays, place_here, le_trans, admit_deed, refuse_deed, freeze_deed, leave_deed, land_deed, ask_deed, answer_deed, collect_deed, confirm_deed, turn_back_deed, return_deed, clear_deed}
 
 sends_outward : (setup : Setup) (p r q : ℕ) (item : Outward) → AreOthers setup p r None (OutwardTo q item ∷ [])
 sends_outward setup p r q item = record { mesh_taken = λ i j. refl; mesh_sent = λ i j. refl; orders_taken = λ i. refl; reports_sent = λ i. refl }
@@ -240,5 +240,8 @@ deed setup w v r owned (Land q) taken sent part row = land_deed setup w v r owne
 deed setup w v r owned (TurnBack q) taken sent part row = turn_back_deed setup w v r owned q taken sent part row
 deed setup w v r owned (Return q) taken sent part row = return_deed setup w v r owned q taken sent part row
 deed setup w v r owned (Clear q) taken sent part row = clear_deed setup w v r owned q taken sent part row
+deed setup w v r owned (Ask k q) taken sent part row = ask_deed setup w v r owned k q taken sent part row
+deed setup w v r owned (Answer q) taken sent part row = answer_deed setup w v r q taken sent part row
+deed setup w v r owned (Collect q) taken sent part row = collect_deed setup w v r owned q taken sent part row
 deed setup w v r owned (Confirm k) taken sent part row = confirm_deed setup w v r owned k taken sent part row
 deed setup w v r owned (Tick p round) taken sent part row = tick_deed setup w v r owned p round taken sent part row

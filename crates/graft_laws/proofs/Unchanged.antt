@@ -186,7 +186,7 @@ module _ (setup : Setup) (ok : IsSetup setup) (events : List Event) (r k p targe
       (away.0, place_after setup f.w₃ after s p row.peering f.step.taken f.step.sent f.step.part row.session found None m (ap (λ (x : RouterPart). x.places) row.effect) parts.0 (parts.1 ∙ (e.1 ∙ away.3)))
 
   landed : (after : World) → FrozenBefore setup (first_world setup) events r k p target found s q (Land q) (Moved k p session) after
-      → (s ≡ target) × ((after.router s).places p ≡ Live found (Some (Owing (record { graft = k; source = r }))))
+      → (s ≡ target) × ((after.router s).places p ≡ Live found (Some (Owing (record { graft = k; source = r; next = 0 }))))
   landed after f =
       let item : Mesh = Moved k p session in
       let held = (always_owned setup ok f.w₃ (reached₃ setup ok events r k p target s q found session (Land q) item after f)).peerings p (known setup ok events r k p target s q found session (Land q) item after f) in
@@ -197,7 +197,7 @@ module _ (setup : Setup) (ok : IsSetup setup) (events : List Event) (r k p targe
       let parts = moved_parts row.comes.graft k row.comes.peering p row.comes.session session (taken_is setup f.w₃ after s q f.step.taken f.step.sent f.step.part item (Moved row.comes.graft row.comes.peering row.comes.session) f.items m row.comes.takes f.comes) in (
         away.2,
         place_after setup f.w₃ after s p row.comes.peering f.step.taken f.step.sent f.step.part row.comes.session found _ m (ap (λ (x : RouterPart). x.places) row.effect) parts.0 (parts.1 ∙ (e.1 ∙ away.3))
-            ∙ (ap (λ (x : ℕ). Live found (Some (Owing (record { graft = x; source = q })))) parts.2 ∙ ap (λ (x : ℕ). Live found (Some (Owing (record { graft = k; source = x })))) away.0),
+            ∙ (ap (λ (x : ℕ). Live found (Some (Owing (record { graft = x; source = q; next = 0 })))) parts.2 ∙ ap (λ (x : ℕ). Live found (Some (Owing (record { graft = k; source = x; next = 0 })))) away.0),
       )
 
 -- ---- a graft that the source refuses

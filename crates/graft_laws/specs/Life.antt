@@ -17,7 +17,7 @@ use Rattle.graft_model.specs.GraftRows.{refusal_of}
 use Rattle.graft_model.specs.FarRows.{FarTaken, FarSent}
 use Rattle.graft_model.specs.declared.event.FarEvent.{FarEvent}
 use Rattle.graft_model.specs.Steps.{far_row}
-use Rattle.graft_laws.specs.Phases.{Ordered, Stored, Halted, Moving, Landed, Confirmed, Returning, Declined, Cleared, Phase, Idle, Busy, place_by, only}
+use Rattle.graft_laws.specs.Phases.{Ordered, Stored, Halted, Moving, Landed, Asking, Confirmed, Returning, Declined, Cleared, Phase, Idle, Busy, place_by, only}
 use Rattle.graft_laws.specs.Moves.{FarMoves}
 
 -- ---- the far side of a peering, and the channels from and to it
@@ -88,7 +88,9 @@ pub data GraftMove (setup : Setup) (before : World) : Phase → SessionValue →
   Leaves : {q k t : ℕ} {s : SessionValue} → GraftMove setup before (Busy q k t Halted) s (Busy q k t Moving)
   TurnsBack : {q k t : ℕ} {s : SessionValue} {refusal : Refusal} → refusal_of setup t (before.router t) s ≡ Some refusal → GraftMove setup before (Busy q k t Moving) s (Busy q k t (Returning refusal))
   Returns : {q k t : ℕ} {s : SessionValue} {refusal : Refusal} → GraftMove setup before (Busy q k t (Returning refusal)) s (Busy q k t (Declined refusal))
-  Confirms : {q k t : ℕ} {s : SessionValue} → GraftMove setup before (Busy q k t Landed) s (Busy q k t Confirmed)
+  Asks : {q k t n m : ℕ} {s : SessionValue} → GraftMove setup before (Busy q k t (Landed n)) s (Busy q k t (Asking m))
+  Counts : {q k t n m : ℕ} {s : SessionValue} → GraftMove setup before (Busy q k t (Asking n)) s (Busy q k t (Landed m))
+  Confirms : {q k t n : ℕ} {s : SessionValue} → GraftMove setup before (Busy q k t (Landed n)) s (Busy q k t Confirmed)
   NotesRefusal : {q k t : ℕ} {s : SessionValue} {refusal : Refusal} → GraftMove setup before (Busy q k t (Declined refusal)) s (Idle q)
   NotesSuccess : {q k t : ℕ} {s : SessionValue} → GraftMove setup before (Busy q k t Cleared) s (Idle t)
 
@@ -110,7 +112,7 @@ pub data Change (setup : Setup) (before after : World) (p : ℕ) : Phase → Ses
   -- a graft goes on: the far side and the entries notice only the landing and the end of the shadow
   Grafts : {phase next : Phase} {s : SessionValue} → GraftMove setup before phase s next → SameLine p before after → SameEntries p before after → Change setup before after p phase s next s
   Lands : {q k t : ℕ} {s : SessionValue} → refusal_of setup t (before.router t) s ≡ None
-      → LineGets p t (PointAt k) before after → Enters setup p t s before after → Change setup before after p (Busy q k t Moving) s (Busy q k t Landed) s
+      → LineGets p t (PointAt k) before after → Enters setup p t s before after → Change setup before after p (Busy q k t Moving) s (Busy q k t (Landed 0)) s
   Clears : {q k t : ℕ} {s : SessionValue} → SameLine p before after → Drops p q before after → Change setup before after p (Busy q k t Confirmed) s (Busy q k t Cleared) s
   -- an event of the session at the router where it is live
   Acts : {phase : Phase} {s next : SessionValue} (r : ℕ) (errand : Option Errand) → place_by phase s r ≡ Live s errand → SessionAct setup before after p r s next → Change setup before after p phase s phase next

@@ -3,17 +3,19 @@ use Rattle.std.specs.Prelude.{ℕ, ◌==◌, ◌≡◌, ◌≤◌, ◌<◌, Bool
 use Rattle.std.specs.List.{AllByRecursion}
 use Rattle.session_value.specs.Sessions.{SessionValue}
 use Rattle.graft_model.specs.Setups.{Setup, routers_in, peerings_in, room_of}
-use Rattle.graft_model.specs.Parts.{Vacant, Mesh, Told, Moved, Back, Done, GraftOrder, Report, World}
+use Rattle.graft_model.specs.Parts.{Vacant, Mesh, Told, Moved, Back, Asked, Answered, Done, GraftOrder, Report, World}
 use Rattle.graft_model.specs.GraftRows.{taken_in}
 use Rattle.graft_laws.specs.Phases.{Phase, place_by, mesh_by, orders_by, reports_by, InBounds}
 use Rattle.graft_laws.specs.Log.{graft_at, is_of, LogSays}
 
--- ---- what channels have of a peering
+-- ---- what channels have of a peering: sessions, and word of landings; questions and answers are in no count
 
 abbrev pub is_on : ℕ → Mesh → Bool
 is_on p (Told prefix route) = false
 is_on p (Moved graft q session) = q == p
 is_on p (Back graft q session refusal) = q == p
+is_on p (Asked graft q) = false
+is_on p (Answered graft q) = false
 is_on p (Done graft q) = q == p
 
 abbrev pub mesh_of : ℕ → List Mesh → List Mesh

@@ -4,13 +4,14 @@ use Rattle.std.specs.List.{AllByRecursion}
 use Rattle.session_value.specs.Sessions.{SessionValue}
 use Rattle.graft_model.specs.Setups.{Setup}
 use Rattle.graft_model.specs.Parts.{FarPart, Outward, Seg, PointAt, World}
-use Rattle.graft_laws.specs.Phases.{Landed, Confirmed, Cleared, Phase, Idle, Busy}
+use Rattle.graft_laws.specs.Phases.{Landed, Asking, Confirmed, Cleared, Phase, Idle, Busy}
 use Rattle.graft_laws.specs.Log.{is_of}
 
 -- the router at which the session was begun, or landed last
 abbrev pub home_of : Phase → ℕ
 home_of (Idle q) = q
-home_of (Busy q k t Landed) = t
+home_of (Busy q k t (Landed n)) = t
+home_of (Busy q k t (Asking n)) = t
 home_of (Busy q k t Confirmed) = t
 home_of (Busy q k t Cleared) = t
 home_of (Busy q k t stage) = q
@@ -34,7 +35,8 @@ IsPast setup w p last = (last ≡ 0) ⊎ ((is_of setup p last ≡ true) × (w.op
 
 -- The last graft that landed is the one that is under way and has landed, or else one of the past, or there is none and this is 0.
 abbrev pub HasLandedLast : Setup → World → ℕ → Phase → ℕ → Type 0
-HasLandedLast setup w p (Busy q k t Landed) last = last ≡ k
+HasLandedLast setup w p (Busy q k t (Landed n)) last = last ≡ k
+HasLandedLast setup w p (Busy q k t (Asking n)) last = last ≡ k
 HasLandedLast setup w p (Busy q k t Confirmed) last = last ≡ k
 HasLandedLast setup w p (Busy q k t Cleared) last = last ≡ k
 HasLandedLast setup w p phase last = IsPast setup w p last

@@ -8,11 +8,11 @@ use Rattle.route_policy.specs.Telling.{tell_in}
 use Rattle.session_value.specs.Sessions.{SessionValue, state}
 use Rattle.session_value.specs.Sets.{has}
 use Rattle.graft_model.specs.Decisions.{chosen, to_tell}
-use Rattle.graft_model.specs.Parts.{Errand, Live, RouterPart, Mesh, Told, Moved, Back, Done, World}
+use Rattle.graft_model.specs.Parts.{Errand, Live, RouterPart, Mesh, Told, Moved, Back, Asked, Answered as AnswerTo, Done, World}
 use Rattle.graft_model.specs.RouterRows.{BringsIn}
 use Rattle.graft_model.specs.Setups.{Setup, routers_in}
 use Rattle.graft_model.specs.TableRows.{holds_established}
-use Rattle.graft_laws.specs.Phases.{Landed, Confirmed, Cleared, Phase, Idle, Busy}
+use Rattle.graft_laws.specs.Phases.{Landed, Asking, Confirmed, Cleared, Phase, Idle, Busy}
 use Rattle.graft_laws.specs.Streams.{IsUnbroken}
 
 -- ---- entries
@@ -20,14 +20,16 @@ use Rattle.graft_laws.specs.Streams.{IsUnbroken}
 -- the router r has the entries of the peering
 abbrev pub has_entries : Phase → ℕ → Bool
 has_entries (Idle q) r = r == q
-has_entries (Busy q k t Landed) r = r == t
+has_entries (Busy q k t (Landed n)) r = r == t
+has_entries (Busy q k t (Asking n)) r = r == t
 has_entries (Busy q k t Confirmed) r = r == t
 has_entries (Busy q k t Cleared) r = r == t
 has_entries (Busy q k t stage) r = r == q
 
 -- the router r is the old place of a session that has landed, and doesn't know yet
 abbrev pub is_late : Phase → ℕ → Bool
-is_late (Busy q k t Landed) r = r == q
+is_late (Busy q k t (Landed n)) r = r == q
+is_late (Busy q k t (Asking n)) r = r == q
 is_late (Busy q k t Confirmed) r = r == q
 is_late phase r = false
 
@@ -51,6 +53,8 @@ last_told x [] before = before
 last_told x (Told y route ∷ items) before = last_told x items (if same_prefix x y then route else before)
 last_told x (Moved graft p session ∷ items) before = last_told x items before
 last_told x (Back graft p session refusal ∷ items) before = last_told x items before
+last_told x (Asked graft p ∷ items) before = last_told x items before
+last_told x (AnswerTo graft p ∷ items) before = last_told x items before
 last_told x (Done graft p ∷ items) before = last_told x items before
 
 -- what the router b has of the router a for a prefix, once all that is on its way has come

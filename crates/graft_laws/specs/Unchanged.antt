@@ -2,7 +2,7 @@
 use Rattle.std.specs.Prelude.{ℕ, ◌≡◌, ◌≢◌, None, ◌⊎◌}
 use Rattle.session_value.specs.Sessions.{SessionValue}
 use Rattle.graft_model.specs.Parts.{World}
-use Rattle.graft_laws.specs.Phases.{Stage, Ordered, Stored, Halted, Moving, Landed, Confirmed, Returning, Declined, Cleared, Phase, Idle, Busy}
+use Rattle.graft_laws.specs.Phases.{Stage, Ordered, Stored, Halted, Moving, Landed, Asking, Confirmed, Returning, Declined, Cleared, Phase, Idle, Busy}
 
 -- frozen or on its way, a session is the one that was found; landed or refused, nothing is said of it any more
 abbrev pub IsFound : Stage → SessionValue → SessionValue → Type 0
@@ -11,7 +11,8 @@ IsFound Stored found session = ⊥
 IsFound Halted found session = session ≡ found
 IsFound Moving found session = session ≡ found
 IsFound (Returning refusal) found session = session ≡ found
-IsFound Landed found session = Unit {0}
+IsFound (Landed n) found session = Unit {0}
+IsFound (Asking n) found session = Unit {0}
 IsFound Confirmed found session = Unit {0}
 IsFound (Declined refusal) found session = Unit {0}
 IsFound Cleared found session = Unit {0}

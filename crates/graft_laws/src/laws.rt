@@ -87,7 +87,8 @@ pub fn always_unchanged()
 {}
 
 /// A source clears its shadow of a session that has landed only with the target's routes at hand: what it has heard from the target is, for each prefix, what the target told of the
-/// best route that it chose with the session's routes. So no route that lives on is withdrawn because a session moved.
+/// best route that it chose with the session's routes. Each other router has heard such routes of the target too, or what the target told it later. So no route that lives on is
+/// withdrawn because a session moved.
 pub fn always_made_before_broken()
     ensures { (setup : Setup) (events : List Event) → IsSetup setup → MadeBeforeBroken setup (first_world setup) events }
 {}

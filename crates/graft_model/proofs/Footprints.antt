@@ -11,12 +11,12 @@ use Rattle.session_value.specs.Cases.{GetsFrame, PassesRound}
 use Rattle.session_value.specs.Sets.{Prefixes, has, Marks}
 use Rattle.graft_model.specs.Points.{at}
 use Rattle.graft_model.specs.Setups.{Setup}
-use Rattle.graft_model.specs.Parts.{Order, Errand, Place, Vacant, Live, Frozen, Shadow, RouterPart, Entries, Mesh, Told, Moved, Back, Done}
+use Rattle.graft_model.specs.Parts.{Order, Errand, Place, Vacant, Live, Frozen, Shadow, RouterPart, Entries, Mesh, Told, Moved, Back, Asked, Answered, Done}
 use Rattle.graft_model.specs.RouterRows.{RouterTaken, MeshIn, RouterSent, MeshTo, OutwardTo, ReportOut, Alone, BringsIn, Follows, PutsNothing, PutsSome}
 use Rattle.graft_model.specs.TableRows.{Decides, Tells, Hears}
-use Rattle.graft_model.specs.GraftRows.{Confirms, DueAgain}
+use Rattle.graft_model.specs.GraftRows.{Asks, Confirms, DueAgain}
 use Rattle.graft_model.specs.declared.event.RouterEvent.{RouterEvent}
-use Rattle.graft_model.specs.declared.event.RouterEvent.TheVariants.{Put, Emit, Arrive, Stray, Got, Decide, Tell, Hear, Admit, Refuse, Freeze, Leave, Land, TurnBack, Return, Clear, Confirm, Tick}
+use Rattle.graft_model.specs.declared.event.RouterEvent.TheVariants.{Put, Emit, Arrive, Stray, Got, Decide, Tell, Hear, Admit, Refuse, Freeze, Leave, Land, TurnBack, Return, Clear, Ask, Answer, Collect, Confirm, Tick}
 use Rattle.graft_model.specs.Steps.{router_row}
 use Rattle.graft_model.specs.Taking.{RouterMayTake}
 
@@ -46,25 +46,28 @@ TakesNoTelling setup before None = Unit {0}
 TakesNoTelling setup before (Some (MeshIn q (Told x route))) = ⊥
 TakesNoTelling setup before (Some item) = RouterMayTake setup before item
 
--- No telling is sent: a session that leaves was frozen here, one that goes back was taken, and word of a landing is given by its own event.
-abbrev pub IsNoTelling : RouterEvent → RouterPart → Option RouterTaken → RouterPart → RouterSent → Type 0
-IsNoTelling event before taken after (MeshTo q (Told x route)) = ⊥
-IsNoTelling event before taken after (MeshTo q (Moved k p s)) = (order : Order) × (before.places p ≡ Frozen s order)
-IsNoTelling event before taken after (MeshTo q (Back k p s refusal)) = (from : ℕ) × (taken ≡ Some (MeshIn from (Moved k p s)))
-IsNoTelling event before taken after (MeshTo q (Done k p)) = (event ≡ Confirm k) × Confirms k before taken (MeshTo q (Done k p) ∷ []) after
-IsNoTelling event before taken after (OutwardTo p item) = Unit {0}
-IsNoTelling event before taken after (ReportOut report) = Unit {0}
+-- No telling is sent: a session that leaves was frozen here, one that goes back was taken, an answer is to a question that was taken, and questions and
+-- word of a landing have events of their own.
+abbrev pub IsNoTelling : Setup → ℕ → RouterEvent → RouterPart → Option RouterTaken → RouterPart → RouterSent → Type 0
+IsNoTelling setup r event before taken after (MeshTo q (Told x route)) = ⊥
+IsNoTelling setup r event before taken after (MeshTo q (Moved k p s)) = (order : Order) × (before.places p ≡ Frozen s order)
+IsNoTelling setup r event before taken after (MeshTo q (Back k p s refusal)) = (from : ℕ) × (taken ≡ Some (MeshIn from (Moved k p s)))
+IsNoTelling setup r event before taken after (MeshTo q (Asked k p)) = (event ≡ Ask k q) × Asks setup r k q before taken (MeshTo q (Asked k p) ∷ []) after
+IsNoTelling setup r event before taken after (MeshTo q (Answered k p)) = (taken ≡ Some (MeshIn q (Asked k p))) × (after ≡ before)
+IsNoTelling setup r event before taken after (MeshTo q (Done k p)) = (event ≡ Confirm k) × Confirms setup r k before taken (MeshTo q (Done k p) ∷ []) after
+IsNoTelling setup r event before taken after (OutwardTo p item) = Unit {0}
+IsNoTelling setup r event before taken after (ReportOut report) = Unit {0}
 
 -- one item is sent at most
-abbrev pub SendsNoTelling : RouterEvent → RouterPart → Option RouterTaken → RouterPart → List RouterSent → Type 0
-SendsNoTelling event before taken after [] = Unit {0}
-SendsNoTelling event before taken after (item ∷ []) = IsNoTelling event before taken after item
-SendsNoTelling event before taken after (item ∷ more ∷ items) = ⊥
+abbrev pub SendsNoTelling : Setup → ℕ → RouterEvent → RouterPart → Option RouterTaken → RouterPart → List RouterSent → Type 0
+SendsNoTelling setup r event before taken after [] = Unit {0}
+SendsNoTelling setup r event before taken after (item ∷ []) = IsNoTelling setup r event before taken after item
+SendsNoTelling setup r event before taken after (item ∷ more ∷ items) = ⊥
 
-pub record TellsNothing (setup : Setup) (event : RouterEvent)
+pub record TellsNothing (setup : Setup) (r : ℕ) (event : RouterEvent)
     (before : RouterPart) (taken : Option RouterTaken) (sent : List RouterSent) (after : RouterPart) : Type 0 where
   pub takes : TakesNoTelling setup before taken
-  pub sends : SendsNoTelling event before taken after sent
+  pub sends : SendsNoTelling setup r event before taken after sent
 
 -- ---- one peering
 
@@ -118,8 +121,8 @@ pub data Footprint (setup : Setup) (r : ℕ) (event : RouterEvent)
   Deciding : (prefix : PrefixValue) → Decides setup r prefix before taken sent after → Footprint setup r event before taken sent after
   Telling : (q : ℕ) (prefix : PrefixValue) → Tells q prefix before taken sent after → Footprint setup r event before taken sent after
   Hearing : (q : ℕ) → Hears q before taken sent after → Footprint setup r event before taken sent after
-  Staying : TellsNothing setup event before taken sent after → after ≡ before → Footprint setup r event before taken sent after
-  Changing : (p : ℕ) → TellsNothing setup event before taken sent after → OnePeering p before after → PeeringChange setup r p before taken sent after
+  Staying : TellsNothing setup r event before taken sent after → after ≡ before → Footprint setup r event before taken sent after
+  Changing : (p : ℕ) → TellsNothing setup r event before taken sent after → OnePeering p before after → PeeringChange setup r p before taken sent after
       → Footprint setup r event before taken sent after
 
 -- ---- the footprint of each row
@@ -129,16 +132,16 @@ no_marks dirty entries = record { marked = λ x there. inl there; others = λ x 
 
 module _ (setup : Setup) (r : ℕ) (before after : RouterPart) (taken : Option RouterTaken) (sent : List RouterSent) where
   abbrev Silent : RouterEvent → Type 0
-  Silent event = TellsNothing setup event before taken sent after
+  Silent event = TellsNothing setup r event before taken sent after
 
   abbrev Print : RouterEvent → Type 0
   Print event = Footprint setup r event before taken sent after
 
   silent : {event : RouterEvent} (some : Option RouterTaken) (items : List RouterSent) → taken ≡ some → sent ≡ items
-      → TakesNoTelling setup before some → SendsNoTelling event before taken after items → Silent event
+      → TakesNoTelling setup before some → SendsNoTelling setup r event before taken after items → Silent event
   silent {event} some items takes sends no_taken no_sent = record {
     takes = subst (TakesNoTelling setup before) (sym takes) no_taken;
-    sends = subst (SendsNoTelling event before taken after) (sym sends) no_sent;
+    sends = subst (SendsNoTelling setup r event before taken after) (sym sends) no_sent;
   }
 
   alone : {event : RouterEvent} → Alone taken sent → Silent event
@@ -242,7 +245,13 @@ module _ (setup : Setup) (r : ℕ) (before after : RouterPart) (taken : Option R
       (Emptying (empties row.peering Vacant (place_is row.peering _ _ _ _ row.effect) (λ s held. held))
       (inr (ap (λ (u : RouterPart). u.entries row.peering) row.effect ∙ at_same before.entries row.peering map.empty))
       (λ x there. (ap (λ (u : RouterPart). has (u.due_out row.peering) x) (sym row.effect) ∙ there, subst HoldsNone (sym row.shadow) (λ s held. held))))
+  footprint (Ask k q) row =
+      keeps row.peering row.session _ row.session.end _ row.live.is refl row.effect
+      (silent _ _ row.takes row.sends tt (refl, subst (λ (xs : List RouterSent). Asks setup r k q before taken xs after) row.sends row))
+  footprint (Answer q) row = Staying (silent _ _ row.takes row.sends tt (row.takes, row.stays)) row.stays
+  footprint (Collect q) (inl row) = keeps row.peering row.session _ row.session.end _ row.live.is refl row.effect (silent _ _ row.takes row.sends tt tt)
+  footprint (Collect q) (inr row) = Staying (silent _ _ row.takes row.sends tt tt) row.stays
   footprint (Confirm k) row =
       keeps row.peering row.session _ row.session.end _ row.live.is refl row.effect
-      (silent _ _ row.takes row.sends tt (refl, subst (λ (xs : List RouterSent). Confirms k before taken xs after) row.sends row))
+      (silent _ _ row.takes row.sends tt (refl, subst (λ (xs : List RouterSent). Confirms setup r k before taken xs after) row.sends row))
   footprint (Tick p round) row = follows p row.session row.next row.errand row.live.is (ByRound round row.passes) row.follows (alone row.alone)

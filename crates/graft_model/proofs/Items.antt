@@ -4,7 +4,7 @@ use Rattle.bgp_types.specs.declared.attrs.Route.{Route}
 use Rattle.bgp_types.specs.Prefixes.{PrefixValue}
 use Rattle.graft_steps.specs.declared.refusal.Refusal.{Refusal}
 use Rattle.session_value.specs.Sessions.{SessionValue}
-use Rattle.graft_model.specs.Parts.{Told, Moved, Back, Done}
+use Rattle.graft_model.specs.Parts.{Told, Moved, Back, Asked, Answered, Done}
 use Rattle.graft_model.specs.RouterRows.{MeshIn}
 
 pub told_is : (q : ℕ) (x y : PrefixValue) (s t : Option Route) → Some (MeshIn q (Told x s)) ≡ Some (MeshIn q (Told y t)) → (x ≡ y) × (s ≡ t)
@@ -19,3 +19,9 @@ back_is q k l p m s t f g e = (cc, cc, cc, cc)
 
 pub done_is : (q k l p m : ℕ) → Some (MeshIn q (Done k p)) ≡ Some (MeshIn q (Done l m)) → (k ≡ l) × (p ≡ m)
 done_is q k l p m e = (cc, cc)
+
+pub asked_is : (q k l p m : ℕ) → Some (MeshIn q (Asked k p)) ≡ Some (MeshIn q (Asked l m)) → (k ≡ l) × (p ≡ m)
+asked_is q k l p m e = (cc, cc)
+
+pub answered_is : (q k l p m : ℕ) → Some (MeshIn q (Answered k p)) ≡ Some (MeshIn q (Answered l m)) → (k ≡ l) × (p ≡ m)
+answered_is q k l p m e = (cc, cc)

@@ -7,6 +7,7 @@ mod Same
 mod Needs
 mod OneOutcome
 mod FarOutcome
+mod Answered
 pub mod Footprints
 pub mod Takes
 pub mod GoAlone

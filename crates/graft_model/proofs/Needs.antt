@@ -14,14 +14,15 @@ use Rattle.bgp_types.proofs.OnceLaws.{is_same}
 use Rattle.graft_steps.specs.declared.refusal.Refusal.{Refusal}
 use Rattle.graft_steps.specs.declared.refusal.Refusal.TheVariants.{SameRouter, NotEstablished, HoldTooShort, RouterFull, PolicyMissing}
 use Rattle.graft_steps.specs.declared.refusal.Outcome.TheVariants.{Refused}
+use Rattle.graft_steps.specs.Landings.{IsNextToAsk, AreAllAsked}
 use Rattle.graft_steps.specs.Refusals.{freeze_refusal, admit_refusal, session_refusal, is_too_short}
 use Rattle.session_value.specs.Sessions.{SessionValue, state, hold_time}
 use Rattle.session_value.specs.Sets.{has}
 use Rattle.graft_model.specs.Setups.{Setup, peerings_in, peering_numbers, routers_in, room_of, missing_policy}
-use Rattle.graft_model.specs.Parts.{Place, Vacant, Live, Frozen, Shadow, Leaving, Owing, RouterPart, GraftOrder, Moved, Back, Done}
+use Rattle.graft_model.specs.Parts.{Place, Vacant, Live, Frozen, Shadow, Leaving, Owing, RouterPart, GraftOrder, Moved, Back, Asked, Done}
 use Rattle.graft_model.specs.Decisions.{to_tell}
 use Rattle.graft_model.specs.RouterRows.{RouterTaken, OrderIn, MeshIn, RouterSent, MeshTo, ReportOut, IsToTell}
-use Rattle.graft_model.specs.GraftRows.{Admits, Refuses, Freezes, Leaves, Lands, Confirms, TurnsBack, taken_in, is_taken}
+use Rattle.graft_model.specs.GraftRows.{Admits, Refuses, Freezes, Leaves, Lands, Asks, Confirms, TurnsBack, taken_in, is_taken}
 use Rattle.graft_model.specs.Steps.{Put, router_row}
 use Rattle.graft_model.specs.Conditions.{MayFreeze, IsWhyNotFrozen, is_vacant, vacant_in, HasRoom, IsWhyNot}
 use Rattle.graft_model.proofs.Items.{moved_is}
@@ -104,9 +105,15 @@ pub leaves : (k : ℕ) (before after : RouterPart) (taken : Option RouterTaken) 
     → (p : ℕ) × (session : SessionValue) × (target : ℕ) × (before.places p ≡ Frozen session (record { graft = k; target = target })) × (sent ≡ MeshTo target (Moved k p session) ∷ [])
 leaves k before after taken sent row = (row.peering, row.session, row.target, row.frozen, row.sends)
 
-pub confirms : (r k : ℕ) (before after : RouterPart) (taken : Option RouterTaken) (sent : List RouterSent) → Confirms k before taken sent after
-    → (p : ℕ) × (session : SessionValue) × (source : ℕ) × (before.places p ≡ Live session (Some (Owing (record { graft = k; source = source })))) × (sent ≡ MeshTo source (Done k p) ∷ [])
-confirms r k before after taken sent row = (row.peering, row.session, row.source, row.live.is, row.sends)
+pub asks : (setup : Setup) (r k q : ℕ) (before after : RouterPart) (taken : Option RouterTaken) (sent : List RouterSent) → Asks setup r k q before taken sent after
+    → (p : ℕ) × (session : SessionValue) × (source : ℕ) × (next : ℕ) × (before.places p ≡ Live session (Some (Owing (record { graft = k; source = source; next = next }))))
+    × IsNextToAsk source r (routers_in setup) next q × (sent ≡ MeshTo q (Asked k p) ∷ [])
+asks setup r k q before after taken sent row = (row.peering, row.session, row.source, row.next, row.live.is, row.asked, row.sends)
+
+pub confirms : (setup : Setup) (r k : ℕ) (before after : RouterPart) (taken : Option RouterTaken) (sent : List RouterSent) → Confirms setup r k before taken sent after
+    → (p : ℕ) × (session : SessionValue) × (source : ℕ) × (next : ℕ) × (before.places p ≡ Live session (Some (Owing (record { graft = k; source = source; next = next }))))
+    × AreAllAsked source r (routers_in setup) next × (sent ≡ MeshTo source (Done k p) ∷ [])
+confirms setup r k before after taken sent row = (row.peering, row.session, row.source, row.next, row.live.is, row.answered, row.sends)
 
 -- ---- landings
 

@@ -14,14 +14,14 @@ use Rattle.session_value.specs.Sets.{Prefixes, Marks}
 use Rattle.graft_model.specs.Points.{at}
 use Rattle.graft_model.specs.Slices.{EmitsAt}
 use Rattle.graft_model.specs.Setups.{Setup}
-use Rattle.graft_model.specs.Parts.{Errand, Place, Live, Frozen, Shadow, Leaving, Owing, Vacant, RouterPart, Entries, Told, Moved, Back, Done, Seg, PointAt}
+use Rattle.graft_model.specs.Parts.{Errand, Place, Live, Frozen, Shadow, Leaving, Owing, Asking, Word, Vacant, RouterPart, Entries, Told, Moved, Back, Asked, Answered, Done, Seg, PointAt}
 use Rattle.graft_model.specs.Decisions.{chosen}
 use Rattle.graft_model.specs.RouterRows.{RouterTaken, OrderIn, SegmentIn, MeshIn, RouterSent, MeshTo, OutwardTo, ReportOut, PutsNothing, Emits, Arrives, Strays, GetsNext, Ticks, Follows, FollowsHeard, BringsIn}
 use Rattle.graft_model.specs.TableRows.{Decides, Tells, Hears, DueEverywhere, with_telling}
-use Rattle.graft_model.specs.GraftRows.{Admits, Refuses, Freezes, Leaves, Lands, Confirms, TurnsBack, Returns, Clears, DueAgain, refusal_of}
-use Rattle.graft_model.specs.Steps.{RouterEvent, Put, Emit, Arrive, Stray, Got, Decide, Tell, Hear, Admit, Refuse, Freeze, Leave, Land, TurnBack, Return, Clear, Confirm, Tick, router_row}
+use Rattle.graft_model.specs.GraftRows.{Admits, Refuses, Freezes, Leaves, Lands, Asks, Answers, Counts, Ignores, Confirms, TurnsBack, Returns, Clears, DueAgain, refusal_of}
+use Rattle.graft_model.specs.Steps.{RouterEvent, Put, Emit, Arrive, Stray, Got, Decide, Tell, Hear, Admit, Refuse, Freeze, Leave, Land, TurnBack, Return, Clear, Ask, Answer, Collect, Confirm, Tick, router_row}
 use Rattle.graft_model.specs.Laws.{HasGraft, HasOnce, HasOneOutcome}
-use Rattle.graft_model.proofs.Items.{told_is, moved_is, back_is, done_is}
+use Rattle.graft_model.proofs.Items.{told_is, moved_is, back_is, asked_is, answered_is, done_is}
 use Rattle.graft_model.proofs.Same.{same_table, same_set, same_marks, same_session, same_order, live_here, same_segment, same_end, same_next, same_round, same_due}
 
 module _ (setup : Setup) (r : ℕ) (before a b : RouterPart) (taken : Option RouterTaken) (sent items : List RouterSent) where
@@ -191,7 +191,7 @@ module _ (setup : Setup) (r : ℕ) (before a b : RouterPart) (taken : Option Rou
   abbrev target_of : Option Errand → ℕ
   target_of None = 0
   target_of (Some (Leaving o)) = o.target
-  target_of (Some (Owing o)) = o.source
+  target_of (Some errand) = 0
 
   order_target : (k t u : ℕ) (s v : SessionValue) → Live s (Some (Leaving (record { graft = k; target = t }))) ≡ Live v (Some (Leaving (record { graft = k; target = u }))) → t ≡ u
   order_target k t u s v e = ap (λ (x : Option Errand). target_of x) (same_order s v (Some (Leaving (record { graft = k; target = t }))) (Some (Leaving (record { graft = k; target = u }))) e)
@@ -251,26 +251,90 @@ module _ (setup : Setup) (r : ℕ) (before a b : RouterPart) (taken : Option Rou
 
   -- ---- word of a landing
 
-  has_word : (k p q : ℕ) (s : SessionValue) → before.places p ≡ Live s (Some (Owing (record { graft = k; source = q }))) → HasGraft k (before.places p)
-  has_word k p q s e = subst (λ (z : Place). HasGraft k z) (sym e) refl
+  abbrev word_in : Option Errand → Word
+  word_in (Some (Owing word)) = word
+  word_in (Some (Asking word)) = word
+  word_in x = record { graft = 0; source = 0; next = 0 }
 
-  word_source : (k q u : ℕ) (s v : SessionValue) → Live s (Some (Owing (record { graft = k; source = q }))) ≡ Live v (Some (Owing (record { graft = k; source = u }))) → q ≡ u
-  word_source k q u s v e = ap (λ (x : Option Errand). target_of x) (same_order s v (Some (Owing (record { graft = k; source = q }))) (Some (Owing (record { graft = k; source = u }))) e)
+  abbrev word : ℕ → ℕ → ℕ → Word
+  word k q n = record { graft = k; source = q; next = n }
 
-  one_confirms : (k : ℕ) → HasOnce k before → Confirms k before taken sent a → Confirms k before taken items b → Same
+  has_word : (k p q n : ℕ) (s : SessionValue) → before.places p ≡ Live s (Some (Owing (word k q n))) → HasGraft k (before.places p)
+  has_word k p q n s e = subst (λ (z : Place). HasGraft k z) (sym e) refl
+
+  same_word : (s v : SessionValue) (x y : Errand) → Live s (Some x) ≡ Live v (Some y) → (s ≡ v) × (word_in (Some x) ≡ word_in (Some y))
+  same_word s v x y e = (same_session s v (Some x) (Some y) e, ap (λ (z : Option Errand). word_in z) (same_order s v (Some x) (Some y) e))
+
+  -- the same place has the same session and the same source
+  abbrev SameWord : ℕ → ℕ → SessionValue → SessionValue → Type 0
+  SameWord q u s v = (s ≡ v) × (q ≡ u)
+
+  owed_once : (k p o q u n m : ℕ) (s v : SessionValue) → p ≡ o → before.places p ≡ Live s (Some (Owing (word k q n))) → before.places o ≡ Live v (Some (Owing (word k u m))) → SameWord q u s v
+  owed_once k p o q u n m s v e f g =
+      let both = same_word s v (Owing (word k q n)) (Owing (word k u m)) (sym f ∙ (ap before.places e ∙ g)) in
+      (both.0, ap (λ (w : Word). w.source) both.1)
+
+  awaited_once : (k l p o q u n m : ℕ) (s v : SessionValue) → p ≡ o → before.places p ≡ Live s (Some (Asking (word k q n))) → before.places o ≡ Live v (Some (Asking (word l u m))) → SameWord q u s v
+  awaited_once k l p o q u n m s v e f g =
+      let both = same_word s v (Asking (word k q n)) (Asking (word l u m)) (sym f ∙ (ap before.places e ∙ g)) in
+      (both.0, ap (λ (w : Word). w.source) both.1)
+
+  abbrev asking_at : ℕ → ℕ → ℕ → ℕ → SessionValue → RouterPart
+  asking_at k q p u s = record before { places = at before.places p (Live s (Some (Asking (word k u q)))) }
+
+  one_asks : (k q : ℕ) → HasOnce k before → Asks setup r k q before taken sent a → Asks setup r k q before taken items b → Same
+  one_asks k q once x y =
+      let p : y.peering ≡ x.peering = once y.peering x.peering (has_word k y.peering y.source y.next y.session y.live.is) (has_word k x.peering x.source x.next x.session x.live.is) in
+      let l = owed_once k y.peering x.peering y.source x.source y.next x.next y.session x.session p y.live.is x.live.is in (
+        y.sends ∙ (ap (λ (z : ℕ). MeshTo q (Asked k z) ∷ []) p ∙ sym x.sends),
+        y.effect ∙ (ap (λ (z : ℕ). asking_at k q z y.source y.session) p ∙ (ap (λ (z : ℕ). asking_at k q x.peering z y.session) l.1
+            ∙ (ap (λ (z : SessionValue). asking_at k q x.peering x.source z) l.0 ∙ sym x.effect))),
+      )
+
+  one_answers : (q : ℕ) → Answers q before taken sent a → Answers q before taken items b → Same
+  one_answers q x y =
+      let t = asked_is q y.graft x.graft y.peering x.peering (sym y.takes ∙ x.takes) in
+      (y.sends ∙ (ap (λ (z : ℕ). MeshTo q (Answered z y.peering) ∷ []) t.0 ∙ (ap (λ (z : ℕ). MeshTo q (Answered x.graft z) ∷ []) t.1 ∙ sym x.sends)), y.stays ∙ sym x.stays)
+
+  abbrev counted_at : ℕ → ℕ → ℕ → ℕ → SessionValue → RouterPart
+  counted_at q k p u s = record before { places = at before.places p (Live s (Some (Owing (word k u (suc q))))) }
+
+  one_counts : (q : ℕ) → Counts q before taken sent a → Counts q before taken items b → Same
+  one_counts q x y =
+      let t = answered_is q y.graft x.graft y.peering x.peering (sym y.takes ∙ x.takes) in
+      let l = awaited_once y.graft x.graft y.peering x.peering y.source x.source q q y.session x.session t.1 y.live.is x.live.is in (
+        y.sends ∙ sym x.sends,
+        y.effect ∙ (ap (λ (z : ℕ). counted_at q z y.peering y.source y.session) t.0 ∙ (ap (λ (z : ℕ). counted_at q x.graft z y.source y.session) t.1
+            ∙ (ap (λ (z : ℕ). counted_at q x.graft x.peering z y.session) l.1 ∙ (ap (λ (z : SessionValue). counted_at q x.graft x.peering x.source z) l.0 ∙ sym x.effect)))),
+      )
+
+  -- an answer that is waited for and isn't
+  in_both_ways : {v w : RouterPart} {u s : List RouterSent} (q : ℕ) → Counts q before taken u v → Ignores q before taken s w → ⊥
+  in_both_ways q x y =
+      let t = answered_is q x.graft y.graft x.peering y.peering (sym x.takes ∙ y.takes) in
+      y.unawaited x.source x.session (record {
+        is =
+            sym (ap before.places t.1) ∙ (x.live.is ∙ ap (λ (z : ℕ). Live x.session (Some (Asking (word z x.source q)))) t.0);
+      })
+
+  one_collects : (q : ℕ) → Counts q before taken sent a ⊎ Ignores q before taken sent a → Counts q before taken items b ⊎ Ignores q before taken items b → Same
+  one_collects q (inl x) (inl y) = one_counts q x y
+  one_collects q (inl x) (inr y) = absurd (in_both_ways q x y)
+  one_collects q (inr x) (inl y) = absurd (in_both_ways q y x)
+  one_collects q (inr x) (inr y) = (y.sends ∙ sym x.sends, y.stays ∙ sym x.stays)
+
+  one_confirms : (k : ℕ) → HasOnce k before → Confirms setup r k before taken sent a → Confirms setup r k before taken items b → Same
   one_confirms k once x y =
-      let p : y.peering ≡ x.peering = once y.peering x.peering (has_word k y.peering y.source y.session y.live.is) (has_word k x.peering x.source x.session x.live.is) in
-      let l = sym (subst (λ (z : ℕ). before.places z ≡ Live y.session (Some (Owing (record { graft = k; source = y.source })))) p y.live.is) ∙ x.live.is in
-      let s : y.session ≡ x.session = same_session y.session x.session (Some (Owing (record { graft = k; source = y.source }))) (Some (Owing (record { graft = k; source = x.source }))) l in
-      let q : y.source ≡ x.source = word_source k y.source x.source y.session x.session l in (
-        y.sends ∙ (ap (λ (z : ℕ). MeshTo y.source (Done k z) ∷ []) p ∙ (ap (λ (z : ℕ). MeshTo z (Done k x.peering) ∷ []) q ∙ sym x.sends)),
-        y.effect ∙ (ap (λ (z : ℕ). alone_at z y.session) p ∙ (ap (λ (z : SessionValue). alone_at x.peering z) s ∙ sym x.effect)),
+      let p : y.peering ≡ x.peering = once y.peering x.peering (has_word k y.peering y.source y.next y.session y.live.is) (has_word k x.peering x.source x.next x.session x.live.is) in
+      let l = owed_once k y.peering x.peering y.source x.source y.next x.next y.session x.session p y.live.is x.live.is in (
+        y.sends ∙ (ap (λ (z : ℕ). MeshTo y.source (Done k z) ∷ []) p ∙ (ap (λ (z : ℕ). MeshTo z (Done k x.peering) ∷ []) l.1 ∙ sym x.sends)),
+        y.effect ∙ (ap (λ (z : ℕ). alone_at z y.session) p ∙ (ap (λ (z : SessionValue). alone_at x.peering z) l.0 ∙ sym x.effect)),
       )
 
   -- ---- at the target
 
   abbrev landed_at : ℕ → ℕ → ℕ → SessionValue → Entries → Prefixes → Prefixes → RouterPart
-  landed_at q k p s entries dirty due = record before { places = at before.places p (Live s (Some (Owing (record { graft = k; source = q })))); entries = at before.entries p entries; dirty = dirty; due_out = at before.due_out p due }
+  landed_at q k p s entries dirty due = record before { places = at before.places p (Live s (Some (Owing (record { graft = k; source = q; next = 0 })))); entries = at before.entries p entries; dirty = dirty; due_out = at before.due_out p due }
 
   -- what landing leaves, of the peering and the session that came
   record Landed (q k p : ℕ) (s : SessionValue) (v : RouterPart) : Type 0 where
@@ -349,5 +413,8 @@ one_router setup r (Land q) before a b taken sent items one x y = one_lands setu
 one_router setup r (TurnBack q) before a b taken sent items one x y = one_turns_back setup r before a b taken sent items q x y
 one_router setup r (Return q) before a b taken sent items one x y = one_returns setup r before a b taken sent items q x y
 one_router setup r (Clear q) before a b taken sent items one x y = one_clears setup r before a b taken sent items q x y
+one_router setup r (Ask k q) before a b taken sent items one x y = one_asks setup r before a b taken sent items k q one x y
+one_router setup r (Answer q) before a b taken sent items one x y = one_answers setup r before a b taken sent items q x y
+one_router setup r (Collect q) before a b taken sent items one x y = one_collects setup r before a b taken sent items q x y
 one_router setup r (Confirm k) before a b taken sent items one x y = one_confirms setup r before a b taken sent items k one x y
 one_router setup r (Tick p round) before a b taken sent items one x y = one_ticks setup r before a b taken sent items p round x y

@@ -15,7 +15,7 @@ use Rattle.tcp_seq.specs.declared.segment.Way.{Way}
 use Rattle.tcp_seq.specs.declared.segment.Way.TheVariants.{Home, Remote}
 use Rattle.graft_model.specs.FarRows.{FarTaken, OutwardIn, SayIn, link}
 use Rattle.graft_model.specs.OperatorRows.{OperatorTaken, ReportIn, OrdersSay, OrdersGraft}
-use Rattle.graft_model.specs.Steps.{RouterEvent, Put, Emit, Arrive, Stray, Got, Decide, Tell, Hear, Admit, Refuse, Freeze, Leave, Land, TurnBack, Return, Clear, Confirm, Tick, FarEvent, Say, Send, Take, Pass, Reach, Lose, Point, Beat, OperatorEvent, Go, Note, Event, ByRouter, ByFar, ByOperator, RouterTook, FarTook, OperatorTook, RouterStep, FarStep, OperatorStep, Step}
+use Rattle.graft_model.specs.Steps.{RouterEvent, Put, Emit, Arrive, Stray, Got, Decide, Tell, Hear, Admit, Refuse, Freeze, Leave, Land, TurnBack, Return, Clear, Ask, Answer, Collect, Confirm, Tick, FarEvent, Say, Send, Take, Pass, Reach, Lose, Point, Beat, OperatorEvent, Go, Note, Event, ByRouter, ByFar, ByOperator, RouterTook, FarTook, OperatorTook, RouterStep, FarStep, OperatorStep, Step}
 use Rattle.graft_model.specs.Steps.{Order as OrderOf}
 use Rattle.graft_model.specs.Quiet.{Quiet, IsIdle}
 use Rattle.graft_model.specs.Laws.{MayStillHappen}
@@ -91,6 +91,12 @@ by_router setup r (Land q) w v quiet step = router_had setup w step.without r st
 by_router setup r (TurnBack q) w v quiet step = router_had setup w step.without r step.taken _ quiet step.took step.row.comes.takes
 by_router setup r (Return q) w v quiet step = router_had setup w step.without r step.taken _ quiet step.took step.row.takes
 by_router setup r (Clear q) w v quiet step = router_had setup w step.without r step.taken _ quiet step.took step.row.takes
+by_router setup r (Ask k q) w v quiet step = idle_at setup w r _ _ quiet step.row.live.is
+by_router setup r (Answer q) w v quiet step = router_had setup w step.without r step.taken _ quiet step.took step.row.takes
+by_router setup r (Collect q) w v quiet step = elim step.row [
+  | inl counts ↦ router_had setup w step.without r step.taken _ quiet step.took counts.takes
+  | inr ignores ↦ router_had setup w step.without r step.taken _ quiet step.took ignores.takes
+]
 by_router setup r (Confirm k) w v quiet step = idle_at setup w r _ _ quiet step.row.live.is
 by_router setup r (Tick p round) w v quiet step = tt
 

@@ -1,9 +1,10 @@
 -- What is claimed of worlds and of runs.
-use Rattle.std.specs.Prelude.{ℕ, ◌≡◌, ◌≢◌, ◌<◌, List, [], ◌∷◌, ◌++◌, length, Some, None, ◌⊎◌, filter, map, if◌then◌else◌, ◌==◌, not}
+use Rattle.std.specs.Prelude.{ℕ, ◌≡◌, ◌≢◌, ◌<◌, List, [], ◌∷◌, ◌++◌, length, Option, Some, None, ◌⊎◌, filter, map, if◌then◌else◌, ◌==◌, not}
 use Rattle.std.specs.FinMap as map
 use Rattle.std.specs.List.{AllByRecursion, flat_map}
 use Rattle.bgp_types.specs.declared.message.SessionState.TheVariants.{Closed}
 use Rattle.bgp_types.specs.Prefixes.{PrefixValue}
+use Rattle.bgp_types.specs.declared.attrs.Route.{Route}
 use Rattle.bgp_story.specs.Laws.{IsGotLine}
 use Rattle.bgp_story.specs.Readings.{IsLegal, put_bytes, got_bytes, heard, told}
 use Rattle.decision_core.specs.Choice.{choice}
@@ -14,10 +15,10 @@ use Rattle.tcp_seq.specs.Endpoint.{received_bytes}
 use Rattle.session_value.specs.Sessions.{SessionValue, peering_of, state, while_established}
 use Rattle.session_value.specs.Fronts.{AreFirst, BeginsNothing}
 use Rattle.graft_model.specs.Setups.{Setup, routers_in, peerings_in, router_numbers, peering_numbers, identifier_of, cost_between, has_network, config_of}
-use Rattle.graft_model.specs.Parts.{Place, Vacant, Live, Frozen, Shadow, Leaving, Owing, Mesh, Told, Moved, Back, Done, World}
+use Rattle.graft_model.specs.Parts.{Place, Vacant, Live, Frozen, Shadow, Leaving, Owing, Mesh, Told, Moved, Back, Asked, Answered, Done, World}
 use Rattle.graft_model.specs.Decisions.{chosen, session_route, to_tell}
 use Rattle.graft_model.specs.OperatorRows.{placement}
-use Rattle.graft_model.specs.Steps.{RouterEvent, Refuse, Freeze, Land, Return, Clear, Confirm, Event, ByRouter, Step, Run}
+use Rattle.graft_model.specs.Steps.{RouterEvent, Tell, Refuse, Freeze, Land, Return, Clear, Ask, Confirm, Event, ByRouter, Step, Run}
 
 -- ---- where a session is
 
@@ -32,6 +33,8 @@ abbrev pub sessions_on : ℕ → Mesh → List SessionValue
 sessions_on p (Told prefix route) = []
 sessions_on p (Moved graft q session) = if q == p then session ∷ [] else []
 sessions_on p (Back graft q session refusal) = if q == p then session ∷ [] else []
+sessions_on p (Asked graft q) = []
+sessions_on p (Answered graft q) = []
 sessions_on p (Done graft q) = []
 
 -- All sessions of a peering: those that routers hold, and those on their way between routers.
@@ -86,7 +89,7 @@ pub record Unchanged (setup : Setup) (first : World) (events : List Event) : Typ
       → (s ≡ r) × ((after.router s).places p ≡ Live found None)
   pub landed : (r k p target s q : ℕ) (found session : SessionValue) (after : World)
       → FrozenBefore setup first events r k p target found s q (Land q) (Moved k p session) after
-      → (s ≡ target) × ((after.router s).places p ≡ Live found (Some (Owing (record { graft = k; source = r }))))
+      → (s ≡ target) × ((after.router s).places p ≡ Live found (Some (Owing (record { graft = k; source = r; next = 0 }))))
   pub refused : (begun rest : List Event) (r k p : ℕ) (w₁ w₂ : World)
       → events ≡ begun ++ ByRouter r (Refuse k) ∷ rest
       → Run setup first begun w₁ → Step setup (ByRouter r (Refuse k)) w₁ w₂
@@ -94,9 +97,36 @@ pub record Unchanged (setup : Setup) (first : World) (events : List Event) : Typ
 
 -- ---- made before broken
 
+-- Among the events from one world to another there is one by which the router t told x this of the prefix, of the route that it had then and had chosen.
+pub record IsToldIn (setup : Setup) (t x : ℕ) (prefix : PrefixValue) (first : World) (events : List Event) (route : Option Route) : Type 0 where
+  pub begun : List Event
+  pub rest : List Event
+  pub among : events ≡ begun ++ ByRouter t (Tell x prefix) ∷ rest
+  pub telling : World
+  pub before : Run setup first begun telling
+  pub decided : map.get (telling.router t).best prefix ≡ chosen setup t (telling.router t) prefix
+  pub told : route ≡ tell_in (map.get (telling.router t).best prefix)
+
+-- Among the events that lead to the world `now` there is one by which the router t asked x in graft k, in the world `asking`. The best routes of t were then
+-- the choices between all that it had; and what x has heard from t in the world `now` is, for each prefix, what t tells of the best route that it had then,
+-- or what it told x since.
+pub record HasHeard (setup : Setup) (first : World) (events : List Event) (t x k : ℕ) (now : World) : Type 0 where
+  pub begun : List Event
+  pub since : List Event
+  pub among : events ≡ begun ++ ByRouter t (Ask k x) ∷ since
+  pub asking : World
+  pub asked : World
+  pub before : Run setup first begun asking
+  pub asks : Step setup (ByRouter t (Ask k x)) asking asked
+  pub meanwhile : Run setup asked since now
+  pub decided : (prefix : PrefixValue) → map.get (asking.router t).best prefix ≡ chosen setup t (asking.router t) prefix
+  pub heard : (prefix : PrefixValue)
+      → (map.get ((now.router x).tellings t) prefix ≡ tell_in (map.get (asking.router t).best prefix))
+      ⊎ IsToldIn setup t x prefix asked since (map.get ((now.router x).tellings t) prefix)
+
 -- Among the events that lead to the world `clearing` there is one by which the router t gave word that the session of graft k has landed there, in the
 -- world `giving`. Its best routes were then the choices between all that it had, with the routes of that session; and what the router s has heard from t in the
--- world `clearing` is, for each prefix, what t tells of the best route that it had then.
+-- world `clearing` is, for each prefix, what t tells of the best route that it had then. All other routers have heard such routes of t too.
 pub record IsMadeBefore (setup : Setup) (first : World) (events : List Event) (s t k : ℕ) (clearing : World) : Type 0 where
   pub begun : List Event
   pub since : List Event
@@ -108,9 +138,10 @@ pub record IsMadeBefore (setup : Setup) (first : World) (events : List Event) (s
   pub meanwhile : Run setup given since clearing
   pub decided : (x : PrefixValue) → map.get (giving.router t).best x ≡ chosen setup t (giving.router t) x
   pub heard : (x : PrefixValue) → map.get ((clearing.router s).tellings t) x ≡ tell_in (map.get (giving.router t).best x)
+  pub others : (x : ℕ) → x < routers_in setup → x ≢ s → x ≢ t → HasHeard setup first events t x k clearing
 
--- Wherever in the events a router s clears its shadow of graft k, as the router t said, it has the routes that t told when it gave word. So no route that
--- lives on is withdrawn because a session moved.
+-- Wherever in the events a router s clears its shadow of graft k, as the router t said, it has the routes that t told when it gave word, and every other
+-- router has those that t told when it asked it, or later ones. So a route that t tells is at hand everywhere before the one of s goes.
 abbrev pub MadeBeforeBroken : Setup → World → List Event → Type 0
 MadeBeforeBroken setup first events = (begun rest : List Event) (s t k p : ℕ) (items : List Mesh) (before after : World)
     → events ≡ begun ++ ByRouter s (Clear t) ∷ rest

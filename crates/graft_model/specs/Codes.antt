@@ -7,7 +7,7 @@ use Rattle.graft_model.specs.declared.code.Code.{Code}
 use Rattle.graft_model.specs.declared.event.ActorEvent.{ActorEvent}
 use Rattle.graft_model.specs.declared.event.ActorEvent.TheVariants.{OfRouter, OfFar, OfOperator}
 use Rattle.graft_model.specs.declared.event.RouterEvent.{RouterEvent}
-use Rattle.graft_model.specs.declared.event.RouterEvent.TheVariants.{Put, Emit, Arrive, Stray, Got, Decide, Tell, Hear, Admit, Refuse, Freeze, Leave, Land, TurnBack, Return, Clear, Confirm, Tick}
+use Rattle.graft_model.specs.declared.event.RouterEvent.TheVariants.{Put, Emit, Arrive, Stray, Got, Decide, Tell, Hear, Admit, Refuse, Freeze, Leave, Land, TurnBack, Return, Clear, Ask, Answer, Collect, Confirm, Tick}
 use Rattle.graft_model.specs.declared.event.FarEvent.{FarEvent}
 use Rattle.graft_model.specs.declared.event.FarEvent.TheVariants.{Say, Send, Take, Pass, Reach, Lose, Point, Beat}
 use Rattle.graft_model.specs.declared.event.OperatorEvent.{OperatorEvent}
@@ -48,6 +48,9 @@ router_code (Return q) = coded 15 q 0 0
 router_code (Clear q) = coded 16 q 0 0
 router_code (Tick p round) = coded 31 p round 0
 router_code (Confirm k) = coded 33 k 0 0
+router_code (Ask k q) = coded 34 k q 0
+router_code (Answer q) = coded 35 q 0 0
+router_code (Collect q) = coded 36 q 0 0
 
 -- No bit is set past the length of the event's prefix, if it has one.
 abbrev pub HasPrefix : RouterEvent → Type 0

@@ -1,16 +1,17 @@
 -- The events of a router in a graft: the order, the freeze, the way out, the landing or the way back, and the end. No standard knows
 -- them.
-use Rattle.std.specs.Prelude.{◌≡◌, ℕ, ◌<◌, List, [], ◌∷◌, length, filter, Option, Some, None, Bool, true, false, ◌||◌, is_some}
+use Rattle.std.specs.Prelude.{◌≡◌, ℕ, suc, ◌<◌, List, [], ◌∷◌, length, filter, Option, Some, None, Bool, true, false, ◌||◌, is_some}
 use Rattle.std.specs.FinMap as map
 use Rattle.bgp_types.specs.Prefixes.{PrefixValue}
 use Rattle.graft_steps.specs.declared.refusal.Refusal.{Refusal}
 use Rattle.graft_steps.specs.declared.refusal.Outcome.TheVariants.{Accepted, Refused}
+use Rattle.graft_steps.specs.Landings.{IsNextToAsk, AreAllAsked}
 use Rattle.graft_steps.specs.Refusals.{freeze_refusal, admit_refusal}
 use Rattle.session_value.specs.Sessions.{SessionValue, state, hold_time}
 use Rattle.session_value.specs.Sets.{Prefixes, has, Marks}
 use Rattle.graft_model.specs.Points.{at}
 use Rattle.graft_model.specs.Setups.{Setup, routers_in, peerings_in, peering_numbers, room_of, missing_policy}
-use Rattle.graft_model.specs.Parts.{Place, Vacant, Live, Frozen, Shadow, Leaving, Owing, RouterPart, Moved, Back, Done, PointAt}
+use Rattle.graft_model.specs.Parts.{Place, Vacant, Live, Frozen, Shadow, Leaving, Owing, Asking, RouterPart, Moved, Back, Asked, Answered, Done, PointAt}
 use Rattle.graft_model.specs.RouterRows.{RouterTaken, OrderIn, MeshIn, RouterSent, MeshTo, OutwardTo, ReportOut, Alone, IsLive, BringsIn}
 
 -- The order of a graft is stored with the live session that it is for.
@@ -95,19 +96,64 @@ pub record Lands (setup : Setup) (r q : ℕ) (before : RouterPart) (taken : Opti
   pub dirty : Marks before.dirty (before.entries comes.peering) (after.entries comes.peering) after.dirty
   pub due : DueAgain before comes.session (after.due_out comes.peering)
   pub effect : after ≡ record before {
-    places = at before.places comes.peering (Live comes.session (Some (Owing (record { graft = comes.graft; source = q }))));
+    places = at before.places comes.peering (Live comes.session (Some (Owing (record { graft = comes.graft; source = q; next = 0 }))));
     entries = at before.entries comes.peering (after.entries comes.peering);
     dirty = after.dirty;
     due_out = at before.due_out comes.peering (after.due_out comes.peering);
   }
 
--- The source is told that its session has landed here. That is told once nothing is to be decided here and nothing is to be told to another router,
--- so that it comes behind all routes that the source has of this router.
-pub record Confirms (k : ℕ) (before : RouterPart) (taken : Option RouterTaken) (sent : List RouterSent) (after : RouterPart) : Type 0 where
+-- The first router that was not asked, and is neither source nor target, is asked whether it has heard what was told. That is asked once nothing is to
+-- be decided here and nothing is to be told to that router, so that it comes behind all routes that it has of this one.
+pub record Asks (setup : Setup) (r k q : ℕ) (before : RouterPart) (taken : Option RouterTaken) (sent : List RouterSent) (after : RouterPart) : Type 0 where
   pub peering : ℕ
   pub source : ℕ
+  pub next : ℕ
   pub session : SessionValue
-  pub live : IsLive before peering session (Some (Owing (record { graft = k; source = source })))
+  pub live : IsLive before peering session (Some (Owing (record { graft = k; source = source; next = next })))
+  pub asked : IsNextToAsk source r (routers_in setup) next q
+  pub clean : (x : PrefixValue) → has before.dirty x ≡ false
+  pub told : (x : PrefixValue) → has (before.due_in q) x ≡ false
+  pub takes : taken ≡ None
+  pub sends : sent ≡ MeshTo q (Asked k peering) ∷ []
+  pub effect : after ≡ record before { places = at before.places peering (Live session (Some (Asking (record { graft = k; source = source; next = q })))) }
+
+-- A router that is asked answers: it has heard all that stood before the question.
+pub record Answers (q : ℕ) (before : RouterPart) (taken : Option RouterTaken) (sent : List RouterSent) (after : RouterPart) : Type 0 where
+  pub graft : ℕ
+  pub peering : ℕ
+  pub takes : taken ≡ Some (MeshIn q (Asked graft peering))
+  pub sends : sent ≡ MeshTo q (Answered graft peering) ∷ []
+  pub stays : after ≡ before
+
+-- The answer that a landed session waits for has come: the next router may be asked.
+pub record Counts (q : ℕ) (before : RouterPart) (taken : Option RouterTaken) (sent : List RouterSent) (after : RouterPart) : Type 0 where
+  pub graft : ℕ
+  pub peering : ℕ
+  pub takes : taken ≡ Some (MeshIn q (Answered graft peering))
+  pub sends : sent ≡ []
+  pub source : ℕ
+  pub session : SessionValue
+  pub live : IsLive before peering session (Some (Asking (record { graft = graft; source = source; next = q })))
+  pub effect : after ≡ record before { places = at before.places peering (Live session (Some (Owing (record { graft = graft; source = source; next = suc q })))) }
+
+-- An answer that nothing waits for changes nothing.
+pub record Ignores (q : ℕ) (before : RouterPart) (taken : Option RouterTaken) (sent : List RouterSent) (after : RouterPart) : Type 0 where
+  pub graft : ℕ
+  pub peering : ℕ
+  pub takes : taken ≡ Some (MeshIn q (Answered graft peering))
+  pub sends : sent ≡ []
+  pub unawaited : (source : ℕ) (session : SessionValue) → IsLive before peering session (Some (Asking (record { graft = graft; source = source; next = q }))) → ⊥
+  pub stays : after ≡ before
+
+-- The source is told that its session has landed here. That is told once all other routers have answered, nothing is to be decided here and nothing is to
+-- be told to another router, so that it comes behind all routes that the source has of this router.
+pub record Confirms (setup : Setup) (r k : ℕ) (before : RouterPart) (taken : Option RouterTaken) (sent : List RouterSent) (after : RouterPart) : Type 0 where
+  pub peering : ℕ
+  pub source : ℕ
+  pub next : ℕ
+  pub session : SessionValue
+  pub live : IsLive before peering session (Some (Owing (record { graft = k; source = source; next = next })))
+  pub answered : AreAllAsked source r (routers_in setup) next
   pub clean : (x : PrefixValue) → has before.dirty x ≡ false
   pub told : (q : ℕ) (x : PrefixValue) → has (before.due_in q) x ≡ false
   pub takes : taken ≡ None
@@ -136,7 +182,7 @@ pub record Returns (q : ℕ) (before : RouterPart) (taken : Option RouterTaken) 
   pub due : DueAgain before session (after.due_out peering)
   pub effect : after ≡ record before { places = at before.places peering (Live session None); due_out = at before.due_out peering (after.due_out peering) }
 
--- The session is at its target, and its routes were told from there: the shadow ends, with the entries of the peering.
+-- The session is at its target, and all routers have heard its routes from there: the shadow ends, with the entries of the peering.
 pub record Clears (q : ℕ) (before : RouterPart) (taken : Option RouterTaken) (sent : List RouterSent) (after : RouterPart) : Type 0 where
   pub graft : ℕ
   pub peering : ℕ

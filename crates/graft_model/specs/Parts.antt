@@ -17,21 +17,25 @@ pub record Order : Type 0 where
   pub graft : ℕ
   pub target : ℕ
 
--- word of a landing that a router owes: the number of the graft, and its source
+-- word of a landing that a router owes: the number of the graft, its source, and the first router that is still to be asked whether it has heard
+-- what was told, or the one that was asked and hasn't answered
 pub record Word : Type 0 where
   pub graft : ℕ
   pub source : ℕ
+  pub next : ℕ
 
--- What a router still has to do for a graft whose session is live there: to send the session away, as it was ordered; or to tell the source
--- that the session has landed.
+-- What a router still has to do for a graft whose session is live there: to send the session away, as it was ordered; or to ask the other routers,
+-- one after another, and then to tell the source that the session has landed; or to wait for the answer of the router that it asked.
 pub data Errand : Type 0 where
   Leaving : Order → Errand
   Owing : Word → Errand
+  Asking : Word → Errand
 
 -- the graft that it is for
 abbrev pub graft_of : Errand → ℕ
 graft_of (Leaving order) = order.graft
 graft_of (Owing word) = word.graft
+graft_of (Asking word) = word.graft
 
 -- A router's place for a peering: nothing is there; the session is held, with what is to be done for its graft; the session is
 -- held and frozen for a graft, so that nothing but its leaving can happen to it; or the session has left in a graft, and its routes
@@ -78,12 +82,14 @@ pub record OperatorPart : Type 0 where
 
 -- ---- items
 
--- from a router to a router: a route that is told, or that there is none; a session that moves, or comes back refused; word that a
--- session has landed, and that its routes were told
+-- from a router to a router: a route that is told, or that there is none; a session that moves, or comes back refused; the question whether all that
+-- was told is heard, and the answer that it is; word that a session has landed, and that all other routers have heard its routes
 pub data Mesh : Type 0 where
   Told : PrefixValue → Option Route → Mesh
   Moved : (graft peering : ℕ) → SessionValue → Mesh
   Back : (graft peering : ℕ) → SessionValue → Refusal → Mesh
+  Asked : (graft peering : ℕ) → Mesh
+  Answered : (graft peering : ℕ) → Mesh
   Done : (graft peering : ℕ) → Mesh
 
 -- from a router to a far side: a segment, or word that the session landed here in this graft

@@ -6,12 +6,12 @@ use Rattle.graft_model.specs.Parts.{RouterPart, FarPart, OperatorPart, World}
 use Rattle.graft_model.specs.RouterRows.{RouterTaken, OrderIn, SegmentIn, MeshIn, RouterSent, MeshTo, OutwardTo, ReportOut, PutsNothing, PutsSome, Emits, Arrives, Strays, GetsNext, Ticks}
 use Rattle.graft_model.specs.TableRows.{Decides, Tells, Hears}
 pub use Rattle.graft_model.specs.declared.event.RouterEvent.{RouterEvent}
-pub use Rattle.graft_model.specs.declared.event.RouterEvent.TheVariants.{Put, Emit, Arrive, Stray, Got, Decide, Tell, Hear, Admit, Refuse, Freeze, Leave, Land, TurnBack, Return, Clear, Confirm, Tick}
+pub use Rattle.graft_model.specs.declared.event.RouterEvent.TheVariants.{Put, Emit, Arrive, Stray, Got, Decide, Tell, Hear, Admit, Refuse, Freeze, Leave, Land, TurnBack, Return, Clear, Ask, Answer, Collect, Confirm, Tick}
 pub use Rattle.graft_model.specs.declared.event.FarEvent.{FarEvent}
 pub use Rattle.graft_model.specs.declared.event.FarEvent.TheVariants.{Say, Send, Take, Pass, Reach, Lose, Point, Beat}
 pub use Rattle.graft_model.specs.declared.event.OperatorEvent.{OperatorEvent}
 pub use Rattle.graft_model.specs.declared.event.OperatorEvent.TheVariants.{Order, Note, Go}
-use Rattle.graft_model.specs.GraftRows.{Admits, Refuses, Freezes, Leaves, Lands, Confirms, TurnsBack, Returns, Clears}
+use Rattle.graft_model.specs.GraftRows.{Admits, Refuses, Freezes, Leaves, Lands, Asks, Answers, Counts, Ignores, Confirms, TurnsBack, Returns, Clears}
 use Rattle.graft_model.specs.FarRows.{FarTaken, OutwardIn, SayIn, FarSent, Says, Beats, SendsSegment, TakesIn, Passes, Reaches, Loses, TurnsLink}
 use Rattle.graft_model.specs.OperatorRows.{OperatorTaken, ReportIn, OperatorSent, OrderTo, SayTo, OrdersSay, OrdersGraft, Notes, BeginsGroup}
 use Rattle.graft_model.specs.Quiet.{Quiet}
@@ -46,7 +46,10 @@ router_row setup r (Land q) before taken sent after = Lands setup r q before tak
 router_row setup r (TurnBack q) before taken sent after = TurnsBack setup r q before taken sent after
 router_row setup r (Return q) before taken sent after = Returns q before taken sent after
 router_row setup r (Clear q) before taken sent after = Clears q before taken sent after
-router_row setup r (Confirm k) before taken sent after = Confirms k before taken sent after
+router_row setup r (Ask k q) before taken sent after = Asks setup r k q before taken sent after
+router_row setup r (Answer q) before taken sent after = Answers q before taken sent after
+router_row setup r (Collect q) before taken sent after = Counts q before taken sent after ⊎ Ignores q before taken sent after
+router_row setup r (Confirm k) before taken sent after = Confirms setup r k before taken sent after
 router_row setup r (Tick p round) before taken sent after = Ticks setup r p round before taken sent after
 
 abbrev pub far_row : Setup → ℕ → FarEvent → FarPart → Option FarTaken → List FarSent → FarPart → Type 0

@@ -2,13 +2,13 @@
 use Rattle.std.specs.Prelude.{ℕ, ◌≡◌, ◌≢◌, ◌<◌, ◌≤◌, ◌+◌, ◌^◌, List, length, Some, None, slice_get}
 use Rattle.session_value.specs.Sessions.{SessionValue}
 use Rattle.graft_model.specs.Setups.{Setup, SayStep, routers_in, peerings_in}
-use Rattle.graft_model.specs.Parts.{Vacant, Shadow, RouterPart, FarPart, OperatorPart, Told, Moved, Back, Done}
+use Rattle.graft_model.specs.Parts.{Vacant, Shadow, RouterPart, FarPart, OperatorPart, Told, Moved, Back, Asked, Answered, Done}
 use Rattle.graft_model.specs.RouterRows.{RouterTaken, OrderIn, SegmentIn, MeshIn, IsLive}
 use Rattle.graft_model.specs.FarRows.{FarTaken, OutwardIn, SayIn}
 use Rattle.graft_model.specs.OperatorRows.{OperatorTaken, ReportIn}
 
--- A router takes a graft's order where the session is live without a stored graft and the target is one of the routers; every segment and every
--- telling; a session that moves where the peering is one of the laboratory's and nothing of it is here; and a session that comes back, or word
+-- A router takes a graft's order where the session is live without a stored graft and the target is one of the routers; every segment, every
+-- telling, every question and every answer; a session that moves where the peering is one of the laboratory's and nothing of it is here; and a session that comes back, or word
 -- that one landed, where its shadow is here for that graft.
 abbrev pub RouterMayTake : Setup → RouterPart → RouterTaken → Type 0
 RouterMayTake setup part (OrderIn order) = (order.target < routers_in setup) × (session : SessionValue) × IsLive part order.peering session None
@@ -16,6 +16,8 @@ RouterMayTake setup part (SegmentIn p segment) = Unit {0}
 RouterMayTake setup part (MeshIn q (Told prefix route)) = Unit {0}
 RouterMayTake setup part (MeshIn q (Moved k p session)) = (p < peerings_in setup) × (part.places p ≡ Vacant)
 RouterMayTake setup part (MeshIn q (Back k p session refusal)) = part.places p ≡ Shadow k
+RouterMayTake setup part (MeshIn q (Asked k p)) = Unit {0}
+RouterMayTake setup part (MeshIn q (Answered k p)) = Unit {0}
 RouterMayTake setup part (MeshIn q (Done k p)) = part.places p ≡ Shadow k
 
 -- A far side takes every segment and every word of a landing; and the order to say a step that is its remote's, where the stream has room.

@@ -75,6 +75,9 @@ impl RouterEvent {
             RouterEvent::Clear { router } => coded(16, router, 0, 0),
             RouterEvent::Tick { peering, round } => coded(31, peering, round, 0),
             RouterEvent::Confirm { graft } => coded(33, graft, 0, 0),
+            RouterEvent::Ask { graft, router } => coded(34, graft, router, 0),
+            RouterEvent::Answer { router } => coded(35, router, 0, 0),
+            RouterEvent::Collect { router } => coded(36, router, 0, 0),
         }
     }
 }
@@ -216,6 +219,12 @@ fn router_event(code: Code) -> Option<RouterEvent>
             RouterEvent::Tick { peering, round }
         }
         33 => RouterEvent::Confirm { graft: one(code)? },
+        34 => {
+            let (graft, router) = two(code)?;
+            RouterEvent::Ask { graft, router }
+        }
+        35 => RouterEvent::Answer { router: one(code)? },
+        36 => RouterEvent::Collect { router: one(code)? },
         _ => return None,
     })
 }

@@ -9,13 +9,14 @@ ghost use Rattle.tcp_seq.specs.Endpoint.{received};
 ghost use Rattle.session_value.specs.declared.config.SessionConfig.{SessionConfig};
 ghost use Rattle.session_value.specs.Sessions.{SessionValue, state, hold_time};
 ghost use Rattle.session_value.specs.Sets.{has};
+ghost use Rattle.graft_steps.specs.Landings.{IsNextToAsk, AreAllAsked};
 ghost use Rattle.graft_model.specs.Setups.{Setup, PeeringSetup, SayStep, MoveStep, peerings_in, routers_in, room_of, missing_policy, group_of, groups_in, graft_number, beat_of, rules_named};
-ghost use Rattle.graft_model.specs.Parts.{RouterPart, FarPart, OperatorPart, World, GraftOrder, Errand, Vacant, Live, Frozen, Shadow, Leaving, Owing, Moved, Back, Done, PointAt};
+ghost use Rattle.graft_model.specs.Parts.{RouterPart, FarPart, OperatorPart, World, GraftOrder, Errand, Vacant, Live, Frozen, Shadow, Leaving, Owing, Moved, Back, Asked, Done, PointAt};
 ghost use Rattle.graft_model.specs.RouterRows.{RouterTaken, OrderIn, MeshIn, RouterSent, MeshTo, ReportOut};
 ghost use Rattle.graft_model.specs.FarRows.{FarTaken, OutwardIn, FarSent};
 ghost use Rattle.graft_model.specs.OperatorRows.{OperatorTaken, OperatorSent, OrderTo, SayTo, placement};
 ghost use Rattle.graft_model.specs.Taking.{RouterMayTake, FarMayTake, OperatorMayTake};
-ghost use Rattle.graft_model.specs.Steps.{Step, RouterEvent, FarEvent, OperatorEvent, ByOperator, Go, Put, Emit, Arrive, Stray, Got, Tell, Admit, Refuse, Freeze, Leave, Land, TurnBack, Return, Clear, Confirm, Tick, Point, Beat, router_row, far_row, operator_row};
+ghost use Rattle.graft_model.specs.Steps.{Step, RouterEvent, FarEvent, OperatorEvent, ByOperator, Go, Put, Emit, Arrive, Stray, Got, Tell, Admit, Refuse, Freeze, Leave, Land, TurnBack, Return, Clear, Ask, Confirm, Tick, Point, Beat, router_row, far_row, operator_row};
 ghost use Rattle.graft_model.specs.Steps.{Order as OrderOf};
 ghost use Rattle.graft_model.specs.Quiet.{Quiet};
 ghost use Rattle.graft_model.specs.Claims.{sessions_at};
@@ -62,7 +63,7 @@ pub fn dirty_prefixes_wait()
 
 /// A graft goes on only where it stands: its order is taken by a live session for which nothing is to be done, to one of the routers; the session is frozen only as
 /// `MayFreeze` says, and refused only with a reason why not; it leaves only where it is frozen; and its shadow alone is cleared, or made live again. Its source is told
-/// of the landing only where the session is live and word of that is owed.
+/// of the landing only where the session is live, word of that is owed and all other routers were asked; and these are asked in their order.
 pub fn grafts_go_on_where_they_stand()
     ensures admit { (setup : Setup) (r k : ℕ) (order : GraftOrder) (before after : RouterPart) (sent : List RouterSent)
         → router_row setup r (Admit k) before (Some (OrderIn order)) sent after
@@ -78,19 +79,29 @@ pub fn grafts_go_on_where_they_stand()
         → (p : ℕ) × (session : SessionValue) × (target : ℕ) × (before.places p ≡ Frozen session (record { graft = k; target = target })) × (sent ≡ MeshTo target (Moved k p session) ∷ []) }
     ensures confirm { (setup : Setup) (r k : ℕ) (before after : RouterPart) (taken : Option RouterTaken) (sent : List RouterSent)
         → router_row setup r (Confirm k) before taken sent after
-        → (p : ℕ) × (session : SessionValue) × (source : ℕ) × (before.places p ≡ Live session (Some (Owing (record { graft = k; source = source })))) × (sent ≡ MeshTo source (Done k p) ∷ []) }
+        → (p : ℕ) × (session : SessionValue) × (source : ℕ) × (next : ℕ) × (before.places p ≡ Live session (Some (Owing (record { graft = k; source = source; next = next }))))
+        × AreAllAsked source r (routers_in setup) next × (sent ≡ MeshTo source (Done k p) ∷ []) }
+    ensures ask { (setup : Setup) (r k q : ℕ) (before after : RouterPart) (taken : Option RouterTaken) (sent : List RouterSent)
+        → router_row setup r (Ask k q) before taken sent after
+        → (p : ℕ) × (session : SessionValue) × (source : ℕ) × (next : ℕ) × (before.places p ≡ Live session (Some (Owing (record { graft = k; source = source; next = next }))))
+        × IsNextToAsk source r (routers_in setup) next q × (sent ≡ MeshTo q (Asked k p) ∷ []) }
     ensures comes_back { (setup : Setup) (r q k p : ℕ) (session : SessionValue) (refusal : Refusal) (before after : RouterPart) (sent : List RouterSent)
         → router_row setup r (Return q) before (Some (MeshIn q (Back k p session refusal))) sent after → before.places p ≡ Shadow k }
     ensures clear { (setup : Setup) (r q k p : ℕ) (before after : RouterPart) (sent : List RouterSent)
         → router_row setup r (Clear q) before (Some (MeshIn q (Done k p))) sent after → before.places p ≡ Shadow k }
 {}
 
-/// A source is told of a landing only where nothing is to be decided and nothing is to be told to another router.
+/// A router is asked only where nothing is to be decided and nothing is to be told to it, and a source is told of a landing only where nothing is to be told to any
+/// other router.
 pub fn word_waits_for_what_is_told()
     ensures decided { (setup : Setup) (r k : ℕ) (x : PrefixValue) (before after : RouterPart) (taken : Option RouterTaken) (sent : List RouterSent)
         → has before.dirty x ≡ true → ¬ router_row setup r (Confirm k) before taken sent after }
     ensures told { (setup : Setup) (r k q : ℕ) (x : PrefixValue) (before after : RouterPart) (taken : Option RouterTaken) (sent : List RouterSent)
         → has (before.due_in q) x ≡ true → ¬ router_row setup r (Confirm k) before taken sent after }
+    ensures decided_before_asking { (setup : Setup) (r k q : ℕ) (x : PrefixValue) (before after : RouterPart) (taken : Option RouterTaken) (sent : List RouterSent)
+        → has before.dirty x ≡ true → ¬ router_row setup r (Ask k q) before taken sent after }
+    ensures told_before_asking { (setup : Setup) (r k q : ℕ) (x : PrefixValue) (before after : RouterPart) (taken : Option RouterTaken) (sent : List RouterSent)
+        → has (before.due_in q) x ≡ true → ¬ router_row setup r (Ask k q) before taken sent after }
 {}
 
 /// A session lands only at a vacant place of a known peering, where there is room beside every session and shadow and where its policies are; and is

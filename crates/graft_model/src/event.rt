@@ -38,7 +38,13 @@ pub enum RouterEvent {
     Return { router: u32 },
     /// A session is at its target, as this router says: its shadow here ends.
     Clear { router: u32 },
-    /// The source of a graft is told that its session has landed here.
+    /// A router is asked, for a graft whose session has landed here, whether it has heard what it was told.
+    Ask { graft: u32, router: u32 },
+    /// This router asked, and is told that all was heard.
+    Answer { router: u32 },
+    /// What this router answered is counted, where a graft waits for it.
+    Collect { router: u32 },
+    /// The source of a graft is told that its session has landed here, and that all other routers have heard its routes.
     Confirm { graft: u32 },
     /// A round of one second passes on a session.
     Tick { peering: u32, round: u32 },

@@ -1,6 +1,6 @@
 //! What holds of every event and every step of the world.
 
-ghost use Rattle.std.specs.Prelude.{◌≡◌, ◌≢◌, ◌<◌, ℕ, List, [], ◌∷◌, ◌++◌, Option, Some, None};
+ghost use Rattle.std.specs.Prelude.{◌≡◌, ◌≢◌, ◌<◌, ℕ, suc, List, [], ◌∷◌, ◌++◌, Option, Some, None};
 ghost use Rattle.std.specs.List.{flat_map};
 ghost use Rattle.std.specs.FinMap as map;
 ghost use Rattle.graft_steps.specs.declared.refusal.Refusal.{Refusal};
@@ -8,11 +8,11 @@ ghost use Rattle.graft_steps.specs.declared.refusal.Outcome.TheVariants.{Accepte
 ghost use Rattle.session_value.specs.Sessions.{SessionValue};
 ghost use Rattle.graft_model.specs.declared.event.ActorEvent.{ActorEvent};
 ghost use Rattle.graft_model.specs.Setups.{Setup};
-ghost use Rattle.graft_model.specs.Parts.{RouterPart, FarPart, OperatorPart, World, Order, Word, Vacant, Live, Frozen, Shadow, Owing, Moved, Back, Done, PointAt};
+ghost use Rattle.graft_model.specs.Parts.{RouterPart, FarPart, OperatorPart, World, Order, Word, Vacant, Live, Frozen, Shadow, Owing, Asking, Moved, Back, Asked, Answered, Done, PointAt};
 ghost use Rattle.graft_model.specs.RouterRows.{RouterTaken, MeshIn, RouterSent, MeshTo, OutwardTo, ReportOut};
 ghost use Rattle.graft_model.specs.FarRows.{FarTaken, FarSent};
 ghost use Rattle.graft_model.specs.OperatorRows.{OperatorTaken, OperatorSent};
-ghost use Rattle.graft_model.specs.Steps.{Event, Step, RouterEvent, Stray, Leave, Land, TurnBack, Return, Clear, Confirm, FarEvent, OperatorEvent, RouterStep, FarStep, OperatorStep, router_row, far_row, operator_row};
+ghost use Rattle.graft_model.specs.Steps.{Event, Step, RouterEvent, Stray, Leave, Land, TurnBack, Return, Clear, Ask, Answer, Collect, Confirm, FarEvent, OperatorEvent, RouterStep, FarStep, OperatorStep, router_row, far_row, operator_row};
 ghost use Rattle.graft_model.specs.Quiet.{Quiet};
 ghost use Rattle.graft_model.specs.Claims.{sessions_at};
 ghost use Rattle.graft_model.specs.Codes.{router_code, far_code, operator_code, actor_code};
@@ -61,14 +61,20 @@ pub fn grafts_keep_sessions()
 
 /// Where a session is after an event of its graft. It leaves for the target of the order for which it was frozen, and its shadow stays. It is live where
 /// it lands and where it comes back; at its source nothing of it is left when the graft ends. Word of a landing goes to the far side, and is owed to the
-/// source, to which it goes later; and word of the outcome goes to the operator.
+/// source, to which it goes once the other routers were asked one after another; and word of the outcome goes to the operator.
 pub fn grafts_move_sessions()
     ensures left { (setup : Setup) (r k p : ℕ) (session : SessionValue) (order : Order) (before after : RouterPart) (taken : Option RouterTaken) (sent : List RouterSent)
         → HasOnce k before → before.places p ≡ Frozen session order → order.graft ≡ k → router_row setup r (Leave k) before taken sent after
         → (sent ≡ MeshTo order.target (Moved k p session) ∷ []) × (after.places p ≡ Shadow k) }
     ensures landed { (setup : Setup) (r q k p : ℕ) (session : SessionValue) (before after : RouterPart) (sent : List RouterSent)
         → router_row setup r (Land q) before (Some (MeshIn q (Moved k p session))) sent after
-        → (after.places p ≡ Live session (Some (Owing (record { graft = k; source = q })))) × (sent ≡ OutwardTo p (PointAt k) ∷ []) }
+        → (after.places p ≡ Live session (Some (Owing (record { graft = k; source = q; next = 0 })))) × (sent ≡ OutwardTo p (PointAt k) ∷ []) }
+    ensures asked { (setup : Setup) (r k q p : ℕ) (session : SessionValue) (word : Word) (before after : RouterPart) (taken : Option RouterTaken) (sent : List RouterSent)
+        → HasOnce k before → before.places p ≡ Live session (Some (Owing word)) → word.graft ≡ k → router_row setup r (Ask k q) before taken sent after
+        → (sent ≡ MeshTo q (Asked k p) ∷ []) × (after.places p ≡ Live session (Some (Asking (record word { next = q })))) }
+    ensures counted { (setup : Setup) (r q p : ℕ) (session : SessionValue) (word : Word) (before after : RouterPart) (sent : List RouterSent)
+        → before.places p ≡ Live session (Some (Asking word)) → word.next ≡ q → router_row setup r (Collect q) before (Some (MeshIn q (Answered word.graft p))) sent after
+        → after.places p ≡ Live session (Some (Owing (record word { next = suc q }))) }
     ensures confirmed { (setup : Setup) (r k p : ℕ) (session : SessionValue) (word : Word) (before after : RouterPart) (taken : Option RouterTaken) (sent : List RouterSent)
         → HasOnce k before → before.places p ≡ Live session (Some (Owing word)) → word.graft ≡ k → router_row setup r (Confirm k) before taken sent after
         → (sent ≡ MeshTo word.source (Done k p) ∷ []) × (after.places p ≡ Live session None) }
@@ -80,10 +86,12 @@ pub fn grafts_move_sessions()
         → (after.places p ≡ Vacant) × (after.entries p ≡ map.empty) × (sent ≡ ReportOut (record { graft = k; outcome = Accepted }) ∷ []) }
 {}
 
-/// A segment that strays and a session that is turned back leave the router as it is.
+/// A segment that strays, a session that is turned back and a question that is answered leave the router as it is.
 pub fn refused_items_change_nothing()
     ensures strays { (setup : Setup) (r p : ℕ) (before after : RouterPart) (taken : Option RouterTaken) (sent : List RouterSent)
         → router_row setup r (Stray p) before taken sent after → (after ≡ before) × (sent ≡ []) }
     ensures turned_back { (setup : Setup) (r q : ℕ) (before after : RouterPart) (taken : Option RouterTaken) (sent : List RouterSent)
         → router_row setup r (TurnBack q) before taken sent after → after ≡ before }
+    ensures answered { (setup : Setup) (r q k p : ℕ) (before after : RouterPart) (sent : List RouterSent)
+        → router_row setup r (Answer q) before (Some (MeshIn q (Asked k p))) sent after → (after ≡ before) × (sent ≡ MeshTo q (Answered k p) ∷ []) }
 {}

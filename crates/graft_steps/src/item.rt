@@ -31,7 +31,19 @@ pub enum Item<C> {
         capsule: C,
         refusal: Refusal,
     },
-    /// From the target to the source: it holds the session now, and has told the source the routes that it has with it.
+    /// From the target to a router that is neither source nor target: it holds the session now, and has told this router the routes
+    /// that it has with it. Has it heard them?
+    Asked {
+        graft: u32,
+        peering: PeeringId,
+    },
+    /// From that router to the target: it has heard all that the target told it before it asked.
+    Answered {
+        graft: u32,
+        peering: PeeringId,
+    },
+    /// From the target to the source: it holds the session now, has told the source the routes that it has with it, and all other
+    /// routers have heard them.
     Done {
         graft: u32,
         peering: PeeringId,

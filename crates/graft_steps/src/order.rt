@@ -1,8 +1,9 @@
 //! A graft at its source, step by step: ordered, frozen, away; and at its target: landed. Each step is a type of its own, which
 //! only the step before it makes and the next one uses up, so no step is skipped and none is made twice.
 
-ghost use Rattle.std.specs.Prelude.{◌≡◌, IfOk};
+ghost use Rattle.std.specs.Prelude.{◌≡◌, ◌<◌, ◌+◌, ◌-◌, ◌^◌, IfOk, IfSome, IfNone, MatchBool};
 ghost use Rattle.std.specs.Result.{result_err};
+ghost use Rattle.graft_steps.specs.Landings.{IsNextToAsk, AreAllAsked};
 ghost use Rattle.graft_steps.specs.Refusals.{freeze_refusal};
 
 use crate::refusal::{Outcome, Refusal};
@@ -39,10 +40,12 @@ pub struct Away {
     ids: GraftIds,
 }
 
-/// A graft whose session has landed at its target, where the source isn't told of that yet.
+/// A graft whose session has landed at its target, where the source isn't told of that yet. Before it is, each router that is neither
+/// source nor target is asked, one after another, whether it has heard what the target told.
 #[derive(Debug, Drop)]
 pub struct Landed {
     ids: GraftIds,
+    next: u32,
 }
 
 impl Model for Ordered {
@@ -70,11 +73,11 @@ impl Model for Away {
 }
 
 impl Model for Landed {
-    ghost use Rattle.graft_steps.specs.declared.order.GraftIds.{GraftIds};
+    ghost use Rattle.graft_steps.specs.Landings.{Landing};
 
-    ghost Value = { GraftIds };
+    ghost Value = { Landing };
 
-    ghost view = { λ step. step.ids };
+    ghost view = { λ step. record { ids = step.ids; next = step.next } };
 }
 
 impl Ordered {
@@ -158,8 +161,9 @@ impl Away {
 }
 
 impl Landed {
+    /// No router was asked yet.
     pub fn new(graft: u32, peering: PeeringId, source: RouterId, target: RouterId) -> Landed
-        ensures { result ≡ record { graft = graft; peering = peering; source = source; target = target } }
+        ensures { result ≡ record { ids = record { graft = graft; peering = peering; source = source; target = target }; next = 0 } }
     {
         Landed {
             ids: GraftIds {
@@ -168,18 +172,63 @@ impl Landed {
                 source,
                 target,
             },
+            next: 0,
         }
     }
 
     pub fn ids(&self) -> GraftIds
-        ensures { result ≡ self.now }
+        ensures { result ≡ self.now.ids }
     {
         self.ids
     }
 
+    /// The router that is to answer next, of so many: the first that was not asked, and is neither source nor target. None where all have
+    /// answered.
+    pub fn next(&self, routers: u32) -> Option<u32>
+        ensures some { IfSome result (λ q. IsNextToAsk self.now.ids.source.0 self.now.ids.target.0 routers self.now.next q) }
+        ensures none { IfNone result (AreAllAsked self.now.ids.source.0 self.now.ids.target.0 routers self.now.next) }
+    {
+        let source = u32::from(self.ids.source.0);
+        let target = u32::from(self.ids.target.0);
+        for router in self.next..routers {
+            if router != source && router != target {
+                return Some(router);
+            }
+        }
+        None
+    }
+
+    /// Whether this router is the one that is to answer, for this graft.
+    pub fn awaits(&self, graft: u32, router: u32) -> bool
+        ensures { MatchBool result ((self.now.ids.graft ≡ graft) × (self.now.next ≡ router)) (¬ ((self.now.ids.graft ≡ graft) × (self.now.next ≡ router))) }
+    {
+        self.ids.graft == graft && self.next == router
+    }
+
+    /// This router is asked.
+    pub fn asked(self, router: u32) -> Landed
+        ensures { result ≡ record self { next = router } }
+    {
+        Landed {
+            next: router,
+            ..self
+        }
+    }
+
+    /// The router that was asked has answered.
+    pub fn answered(self) -> Landed
+        requires { self.next < 2 ^ 32 - 1 }
+        ensures { result ≡ record self { next = self.next + 1 } }
+    {
+        Landed {
+            next: self.next + 1,
+            ..self
+        }
+    }
+
     /// The source is told, by which the graft has ended here.
     pub fn confirmed(self) -> GraftIds
-        ensures { result ≡ self }
+        ensures { result ≡ self.ids }
     {
         self.ids
     }

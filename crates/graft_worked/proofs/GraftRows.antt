@@ -1,5 +1,5 @@
 -- The rows of the worked graft, each computed.
-use Rattle.std.proofs.Common.{◌≡◌, ◌≢◌, ℕ, ◌<◌, ◌==◌, ◌&&◌, ◌||◌, Bool, true, false, cond, [], ◌∷◌, ◌++◌, Option, Some, None, is_some, refl, sym, ap, ◌∙◌, inl, inr, lit<}
+use Rattle.std.proofs.Common.{◌≡◌, ◌≢◌, ◌⊎◌, ℕ, zero, suc, ◌<◌, ◌==◌, ◌&&◌, ◌||◌, Bool, true, false, cond, [], ◌∷◌, ◌++◌, Option, Some, None, is_some, refl, sym, ap, ◌∙◌, inl, inr, lit<, arith}
 use Rattle.std.specs.Prelude.{option_map, slice_get}
 use Rattle.std.specs.FinMap as map
 use Rattle.std.specs.List.{filter_map}
@@ -152,12 +152,20 @@ lands = record {
   effect = refl;
 }
 
-pub confirms : Confirms 1 b_told None (MeshTo 0 (Done 1 0) ∷ []) b_confirmed
+-- there is no router beside the two
+two_alone : (n : ℕ) → n < 2 → (n ≡ 0) ⊎ (n ≡ 1)
+two_alone zero below = inl refl
+two_alone (suc zero) below = inr refl
+two_alone (suc (suc n)) below = absurd (omega arith)
+
+pub confirms : Confirms base 1 1 b_told None (MeshTo 0 (Done 1 0) ∷ []) b_confirmed
 confirms = record {
   peering = 0;
   source = 0;
+  next = 0;
   session = session;
   live = record { is = refl };
+  answered = λ n from below. two_alone n below;
   clean = some_in_none _;
   told = λ q. some_in_none _;
   takes = refl;

@@ -10,6 +10,7 @@ pub mod Arrivals
 pub mod StartTables
 pub mod StartRun
 pub mod Others
+mod Asked
 pub mod Moves
 pub mod Puts
 pub mod Sends

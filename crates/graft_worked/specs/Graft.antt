@@ -140,7 +140,7 @@ a_after = record a_decided { due_in = λ q. map.empty }
 
 -- what b owes to a
 abbrev pub to_a : Word
-to_a = record { graft = 1; source = 0 }
+to_a = record { graft = 1; source = 0; next = 0 }
 
 abbrev pub b_landed : RouterPart
 b_landed = record b_before {

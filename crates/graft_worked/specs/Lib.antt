@@ -4,6 +4,7 @@ pub mod First
 pub mod Graft
 pub mod Start
 pub mod Others
+pub mod Asked
 pub mod Puts
 pub mod Refused
 pub mod Wrong

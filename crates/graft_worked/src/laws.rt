@@ -1,4 +1,4 @@
-//! What holds of the worked worlds. Each of the 29 kinds of events has among them a world in which it can happen, and one in which it can't:
+//! What holds of the worked worlds. Each of the 32 kinds of events has among them a world in which it can happen, and one in which it can't:
 //!
 //! | Kinds | Can happen | Can't happen, of router a, router b, the far side or the operator |
 //! |---|---|---|
@@ -7,19 +7,23 @@
 //! | Put of one | `an_update_may_be_put` | at its end |
 //! | Refuse, TurnBack, Return | in grafts that are refused (`refused_grafts_run_to_their_end`) | at its end |
 //! | Stray, Lose, Beat, Tick | `other_events_may_happen` | at its end |
+//! | Ask, Answer, Collect | `every_router_is_asked` | at its end |
 
-ghost use Rattle.std.specs.Prelude.{◌≡◌, ◌≢◌, ◌++◌, ℕ, suc};
+ghost use Rattle.std.specs.Prelude.{◌≡◌, ◌≢◌, ◌++◌, ℕ, suc, List, [], ◌∷◌, Option, Some, None};
 ghost use Rattle.graft_model.specs.Claims.{Transparent, Solves};
 ghost use Rattle.graft_model.specs.First.{first_world};
 ghost use Rattle.graft_model.specs.Laws.{MayStillHappen};
 ghost use Rattle.graft_model.specs.Quiet.{Quiet};
 ghost use Rattle.graft_model.specs.Setups.{IsSetup};
-ghost use Rattle.graft_model.specs.declared.event.RouterEvent.TheVariants.{Put, Emit, Tick, Stray};
+ghost use Rattle.graft_model.specs.declared.event.RouterEvent.TheVariants.{Put, Emit, Tick, Stray, Ask, Answer, Collect, Confirm};
 ghost use Rattle.graft_model.specs.declared.event.FarEvent.TheVariants.{Send, Lose, Beat};
 ghost use Rattle.graft_model.specs.declared.event.OperatorEvent.TheVariants.{Go};
-ghost use Rattle.graft_model.specs.Steps.{Run, Step, Event, ByRouter, ByFar, ByOperator};
+ghost use Rattle.graft_model.specs.Steps.{Run, Step, Event, ByRouter, ByFar, ByOperator, router_row};
 ghost use Rattle.tcp_seq.specs.declared.segment.Way.TheVariants.{Home};
-ghost use Rattle.graft_model.specs.Parts.{World};
+ghost use Rattle.graft_model.specs.Parts.{RouterPart, World, Asked, Answered, Done};
+ghost use Rattle.graft_model.specs.RouterRows.{RouterTaken, MeshIn, RouterSent, MeshTo};
+ghost use Rattle.graft_worked.specs.Asked.{three, landed, asking, answered, confirmed};
+ghost use Rattle.graft_worked.specs.Places.{idle_router};
 ghost use Rattle.graft_worked.specs.Others as others;
 ghost use Rattle.graft_worked.specs.Puts.{with_route_due, with_route_put, with_link_at_source};
 ghost use Rattle.graft_worked.specs.Base.{base};
@@ -69,6 +73,16 @@ pub fn other_events_may_happen()
     ensures lose { Step base (ByFar 0 (Lose Home 0)) others.with_segment others.without_segment }
     ensures beat { Step others.beating (ByFar 0 (Beat 30)) before_graft others.with_beat }
     ensures tick { Step others.beating (ByRouter 0 (Tick 0 1)) others.with_round_due others.with_round }
+{}
+
+/// Where there is a third router, the target of a graft asks it before it tells the source; the third answers, and its answer is counted once. Word isn't given before.
+pub fn every_router_is_asked()
+    ensures asked { router_row three 1 (Ask 1 2) landed None (MeshTo 2 (Asked 1 0) ∷ []) asking }
+    ensures answered { router_row three 2 (Answer 1) idle_router (Some (MeshIn 1 (Asked 1 0))) (MeshTo 1 (Answered 1 0) ∷ []) idle_router }
+    ensures counted { router_row three 1 (Collect 2) asking (Some (MeshIn 2 (Answered 1 0))) [] answered }
+    ensures again { router_row three 1 (Collect 2) answered (Some (MeshIn 2 (Answered 1 0))) [] answered }
+    ensures confirmed { router_row three 1 (Confirm 1) answered None (MeshTo 0 (Done 1 0) ∷ []) confirmed }
+    ensures not_before { (taken : Option RouterTaken) (sent : List RouterSent) (after : RouterPart) → ¬ router_row three 1 (Confirm 1) landed taken sent after }
 {}
 
 /// At the end of the worked run no item is taken and nothing is put, said, delivered, decided or moved. No further group begins, no round

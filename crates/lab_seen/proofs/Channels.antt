@@ -41,6 +41,8 @@ module _ (P : Found → Type 0) where
   found_to_things setup (items.Told prefix route ∷ xs) all = (tt, found_to_things setup xs all)
   found_to_things setup (items.Moved k capsule ∷ xs) all = (λ same. all.0, found_to_things setup xs all.1)
   found_to_things setup (items.Back k capsule refusal ∷ xs) all = (λ same. all.0, found_to_things setup xs all.1)
+  found_to_things setup (items.Asked k peering ∷ xs) all = (tt, found_to_things setup xs all)
+  found_to_things setup (items.Answered k peering ∷ xs) all = (tt, found_to_things setup xs all)
   found_to_things setup (items.Done k peering ∷ xs) all = (tt, found_to_things setup xs all)
   found_to_things setup (items.GraftOrder k peering target ∷ xs) all = (tt, found_to_things setup xs all)
   found_to_things setup (items.Report k outcome ∷ xs) all = (tt, found_to_things setup xs all)
@@ -54,6 +56,8 @@ module _ (P : Found → Type 0) where
   things_to_found setup (items.Told prefix route ∷ xs) all = things_to_found setup xs all.1
   things_to_found setup (items.Moved k capsule ∷ xs) all = (all.0 refl, things_to_found setup xs all.1)
   things_to_found setup (items.Back k capsule refusal ∷ xs) all = (all.0 refl, things_to_found setup xs all.1)
+  things_to_found setup (items.Asked k peering ∷ xs) all = things_to_found setup xs all.1
+  things_to_found setup (items.Answered k peering ∷ xs) all = things_to_found setup xs all.1
   things_to_found setup (items.Done k peering ∷ xs) all = things_to_found setup xs all.1
   things_to_found setup (items.GraftOrder k peering target ∷ xs) all = things_to_found setup xs all.1
   things_to_found setup (items.Report k outcome ∷ xs) all = things_to_found setup xs all.1

@@ -5,10 +5,10 @@ use Rattle.std.specs.List.{AllByRecursion}
 use Rattle.std.proofs.lemmas.Bool.Decides.{eqb_tells, nat_tests}
 use Rattle.session_value.specs.Sessions.{SessionValue}
 use Rattle.graft_model.specs.Setups.{Setup, routers_in}
-use Rattle.graft_model.specs.Parts.{Place, Vacant, Live, Frozen, Shadow, Order, Errand, Mesh, Told, Moved, Back, Done, Leaving, Owing}
+use Rattle.graft_model.specs.Parts.{Place, Vacant, Live, Frozen, Shadow, Order, Errand, Mesh, Told, Moved, Back, Asked, Answered, Done, Leaving, Owing, Asking as AskingOf}
 use Rattle.graft_model.specs.Claims.{sessions_at}
 use Rattle.graft_laws.specs.Owned.{mesh_of}
-use Rattle.graft_laws.specs.Phases.{Ordered, Stored, Halted, Moving, Landed, Confirmed, Returning, Declined, Cleared, Phase, Idle, Busy, place_by, placed_at, mesh_by, only2, InBounds}
+use Rattle.graft_laws.specs.Phases.{Ordered, Stored, Halted, Moving, Landed, Asking, Confirmed, Returning, Declined, Cleared, Phase, Idle, Busy, place_by, placed_at, mesh_by, only2, InBounds}
 use Rattle.lab_report.specs.declared.lab.Place.{Place as LabPlace}
 use Rattle.lab_report.specs.declared.lab.Place.TheVariants as labs
 use Rattle.lab_seen.specs.Seen.{view_of}
@@ -19,7 +19,8 @@ abbrev pub place_in : Phase → LabPlace
 place_in (Idle q) = labs.Held (record { 0 = q })
 place_in (Busy q k t Moving) = labs.Moving
 place_in (Busy q k t (Returning refusal)) = labs.Moving
-place_in (Busy q k t Landed) = labs.Held (record { 0 = t })
+place_in (Busy q k t (Landed next)) = labs.Held (record { 0 = t })
+place_in (Busy q k t (Asking next)) = labs.Held (record { 0 = t })
 place_in (Busy q k t Confirmed) = labs.Held (record { 0 = t })
 place_in (Busy q k t Cleared) = labs.Held (record { 0 = t })
 place_in (Busy q k t stage) = labs.Held (record { 0 = q })
@@ -72,7 +73,8 @@ live_by (Busy q k t Ordered) s r x o e = let h = live_is q r s x None o e in rec
 live_by (Busy q k t Stored) s r x o e = let h = live_is q r s x (Some (Leaving (record { graft = k; target = t }))) o e in record { same = h.0; place = h.1 }
 live_by (Busy q k t Halted) s r x o e = absurd (no_live q r (Frozen s (record { graft = k; target = t })) x o (no_frozen s (record { graft = k; target = t }) x o) e)
 live_by (Busy q k t Moving) s r x o e = absurd (no_live q r (Shadow k) x o (no_shadow k x o) e)
-live_by (Busy q k t Landed) s r x o e = let h = landed_is q r t k s x o _ e in record { same = h.0; place = h.1 }
+live_by (Busy q k t (Asking next)) s r x o e = let h = landed_is q r t k s x o _ e in record { same = h.0; place = h.1 }
+live_by (Busy q k t (Landed next)) s r x o e = let h = landed_is q r t k s x o _ e in record { same = h.0; place = h.1 }
 live_by (Busy q k t Confirmed) s r x o e = let h = landed_is q r t k s x o _ e in record { same = h.0; place = h.1 }
 live_by (Busy q k t (Returning refusal)) s r x o e = absurd (no_live q r (Shadow k) x o (no_shadow k x o) e)
 live_by (Busy q k t (Declined refusal)) s r x o e = let h = live_is q r s x None o e in record { same = h.0; place = h.1 }
@@ -89,6 +91,8 @@ abbrev pub OnMesh : (Found → Type 0) → Mesh → Type 0
 OnMesh P (Told prefix route) = Unit {0}
 OnMesh P (Moved k q x) = q ≡ x.config.peering.0 → P (moving x)
 OnMesh P (Back k q x refusal) = q ≡ x.config.peering.0 → P (moving x)
+OnMesh P (Asked k q) = Unit {0}
+OnMesh P (Answered k q) = Unit {0}
 OnMesh P (Done k q) = Unit {0}
 
 abbrev pub IsNotOn : ℕ → Found → Type 0
@@ -99,6 +103,8 @@ abbrev pub CarriesOnly : ℕ → Phase → SessionValue → Mesh → Type 0
 CarriesOnly p phase s (Told prefix route) = Unit {0}
 CarriesOnly p phase s (Moved k q x) = q ≡ p → (x ≡ s) × (labs.Moving ≡ place_in phase)
 CarriesOnly p phase s (Back k q x refusal) = q ≡ p → (x ≡ s) × (labs.Moving ≡ place_in phase)
+CarriesOnly p phase s (Asked k q) = Unit {0}
+CarriesOnly p phase s (Answered k q) = Unit {0}
 CarriesOnly p phase s (Done k q) = Unit {0}
 
 only_item : (P : Mesh → Type 0) (j k a b : ℕ) (item : Mesh) → P item → AllByRecursion P (only2 j k item a b)
@@ -114,7 +120,8 @@ moved_by p (Busy q k t Ordered) s a b = tt
 moved_by p (Busy q k t Stored) s a b = tt
 moved_by p (Busy q k t Halted) s a b = tt
 moved_by p (Busy q k t Moving) s a b = only_item (CarriesOnly p (Busy q k t Moving) s) q t a b (Moved k p s) (λ same. (refl, refl))
-moved_by p (Busy q k t Landed) s a b = tt
+moved_by p (Busy q k t (Landed next)) s a b = tt
+moved_by p (Busy q k t (Asking next)) s a b = tt
 moved_by p (Busy q k t Confirmed) s a b = only_item (CarriesOnly p (Busy q k t Confirmed) s) t q a b (Done k p) tt
 moved_by p (Busy q k t (Returning refusal)) s a b = only_item (CarriesOnly p (Busy q k t (Returning refusal)) s) t q a b (Back k p s refusal) (λ same. (refl, refl))
 moved_by p (Busy q k t (Declined refusal)) s a b = tt
@@ -134,6 +141,8 @@ carries_all p phase s (Back k q x refusal ∷ items) all = by_test (q == p) refl
       → AllByRecursion (CarriesOnly p phase s) (cond b (Back k q x refusal ∷ mesh_of p items) (mesh_of p items)) → AllByRecursion (CarriesOnly p phase s) (Back k q x refusal ∷ items)
   by_test true e rest all = (all.0, rest all.1)
   by_test false e rest all = (λ same. absurd (differs q p e same), rest all)
+carries_all p phase s (Asked k q ∷ items) all = (tt, carries_all p phase s items all)
+carries_all p phase s (Answered k q ∷ items) all = (tt, carries_all p phase s items all)
 carries_all p phase s (Done k q ∷ items) all = by_test (q == p) (carries_all p phase s items) all where
   by_test : (b : Bool) → (AllByRecursion (CarriesOnly p phase s) (mesh_of p items) → AllByRecursion (CarriesOnly p phase s) items)
       → AllByRecursion (CarriesOnly p phase s) (cond b (Done k q ∷ mesh_of p items) (mesh_of p items)) → AllByRecursion (CarriesOnly p phase s) (Done k q ∷ items)
@@ -170,7 +179,8 @@ whereabouts setup p (Busy q k t Ordered) s l = AtRouter q None l.0 (placed q (Li
 whereabouts setup p (Busy q k t Stored) s l = AtRouter q (Some (Leaving (record { graft = k; target = t }))) l.0 (placed q (Live s (Some (Leaving (record { graft = k; target = t }))))) refl
 whereabouts setup p (Busy q k t Halted) s l = Halts q (record { graft = k; target = t }) l.0 (placed q (Frozen s (record { graft = k; target = t }))) refl
 whereabouts setup p (Busy q k t Moving) s l = OnWay q t (Moved k p s) l.0 l.1 (λ e. l.2 (sym e)) (alone q t (Moved k p s)) (λ not number. not (sym number) number) refl (shadows q k)
-whereabouts setup p (Busy q k t Landed) s l = AtRouter t (Some (Owing (record { graft = k; source = q }))) l.1 (rw (itself t) refl) refl
+whereabouts setup p (Busy q k t (Landed next)) s l = AtRouter t (Some (Owing (record { graft = k; source = q; next = next }))) l.1 (rw (itself t) refl) refl
+whereabouts setup p (Busy q k t (Asking next)) s l = AtRouter t (Some (AskingOf (record { graft = k; source = q; next = next }))) l.1 (rw (itself t) refl) refl
 whereabouts setup p (Busy q k t Confirmed) s l = AtRouter t None l.1 (rw (itself t) refl) refl
 whereabouts setup p (Busy q k t (Returning refusal)) s l =
     OnWay t q (Back k p s refusal) l.1 l.0 l.2 (alone t q (Back k p s refusal)) (λ not number. not (sym number) number) refl (shadows q k)

@@ -166,6 +166,8 @@ module _ (setup : Setup) (w : World) (actors : List Node) (left : List (Left Mai
         carries (model.Told prefix route) c = tt
         carries (model.Moved graft q x) c = λ tied on. let it = c (tied ∙ on) in same_one x labs.Moving it.0 it.1
         carries (model.Back graft q x refusal) c = λ tied on. let it = c (tied ∙ on) in same_one x labs.Moving it.0 it.1
+        carries (model.Asked graft q) c = tt
+        carries (model.Answered graft q) c = tt
         carries (model.Done graft q) c = tt
 
     moving_only : AllByRecursion IsOnly (flat_map carried_in left)

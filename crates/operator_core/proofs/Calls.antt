@@ -208,6 +208,14 @@ module _ {C : Type 0} where
   only_reports session setup (Some (Router r)) (items.Back k capsule refusal) not_report comes = absurd comes
   only_reports session setup (Some (FarSide p)) (items.Back k capsule refusal) not_report comes = absurd comes
   only_reports session setup (Some Operator) (items.Back k capsule refusal) not_report comes = absurd comes
+  only_reports session setup None (items.Asked k peering) not_report comes = absurd comes
+  only_reports session setup (Some (Router r)) (items.Asked k peering) not_report comes = absurd comes
+  only_reports session setup (Some (FarSide p)) (items.Asked k peering) not_report comes = absurd comes
+  only_reports session setup (Some Operator) (items.Asked k peering) not_report comes = absurd comes
+  only_reports session setup None (items.Answered k peering) not_report comes = absurd comes
+  only_reports session setup (Some (Router r)) (items.Answered k peering) not_report comes = absurd comes
+  only_reports session setup (Some (FarSide p)) (items.Answered k peering) not_report comes = absurd comes
+  only_reports session setup (Some Operator) (items.Answered k peering) not_report comes = absurd comes
   only_reports session setup None (items.Done k peering) not_report comes = absurd comes
   only_reports session setup (Some (Router r)) (items.Done k peering) not_report comes = absurd comes
   only_reports session setup (Some (FarSide p)) (items.Done k peering) not_report comes = absurd comes

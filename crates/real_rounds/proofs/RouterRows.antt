@@ -11,7 +11,7 @@ use Rattle.graft_model.specs.Setups.{Setup}
 use Rattle.graft_model.specs.Parts.{Place, Vacant, Live, Shadow, Errand, RouterPart}
 use Rattle.graft_model.specs.RouterRows.{RouterTaken, RouterSent, IsLive}
 use Rattle.graft_model.specs.declared.event.RouterEvent.{RouterEvent}
-use Rattle.graft_model.specs.declared.event.RouterEvent.TheVariants.{Put, Emit, Arrive, Got, Decide, Tell, Hear, Admit, Refuse, Freeze, Leave, Land, Return, Clear, Confirm, Tick}
+use Rattle.graft_model.specs.declared.event.RouterEvent.TheVariants.{Put, Emit, Arrive, Got, Decide, Tell, Hear, Admit, Refuse, Freeze, Leave, Land, Return, Clear, Ask, Collect, Confirm, Tick}
 use Rattle.graft_model.specs.Steps.{router_row}
 use Rattle.router_core.specs.Rounds.{RouterRound, router_tally}
 use Rattle.router_core.specs.Turned.{rounds_on}
@@ -77,6 +77,9 @@ live_before setup r (Leave k) a b taken sent row calm p live = at_dead a b row.p
 live_before setup r (Land q) a b taken sent row calm p live = absurd (calm.land refl)
 live_before setup r (Return q) a b taken sent row calm p live = absurd (calm.return refl)
 live_before setup r (Clear q) a b taken sent row calm p live = at_dead a b row.peering p Vacant no_vacant (ap (λ (x : RouterPart). x.places) row.effect) live
+live_before setup r (Ask k q) a b taken sent row calm p live = at_live a b row.peering p _ row.session _ row.live (ap (λ (x : RouterPart). x.places) row.effect) live
+live_before setup r (Collect q) a b taken sent (inl row) calm p live = at_live a b row.peering p _ row.session _ row.live (ap (λ (x : RouterPart). x.places) row.effect) live
+live_before setup r (Collect q) a b taken sent (inr row) calm p live = same_at a b p (ap (λ (x : RouterPart). x.places p) row.stays) live
 live_before setup r (Confirm k) a b taken sent row calm p live = at_live a b row.peering p _ row.session _ row.live (ap (λ (x : RouterPart). x.places) row.effect) live
 live_before setup r (Tick q round) a b taken sent row calm p live = at_live a b q p (Live row.next row.errand) row.session row.errand row.live (ap (λ (x : RouterPart). x.places) row.follows.effect) live
 live_before setup r _ a b taken sent row calm p live = same_at a b p (ap (λ (x : RouterPart). x.places p) row.stays) live

@@ -13,7 +13,7 @@ use Rattle.graft_model.specs.Steps as steps
 use Rattle.graft_model.specs.declared.event.RouterEvent.{RouterEvent}
 use Rattle.graft_model.specs.declared.event.FarEvent.{FarEvent}
 use Rattle.graft_model.specs.declared.event.OperatorEvent.{OperatorEvent}
-use Rattle.graft_model.specs.declared.event.RouterEvent.TheVariants.{Put, Emit, Arrive, Stray, Got, Decide, Tell, Hear, Admit, Refuse, Freeze, Leave, Return, Clear, Confirm, Tick}
+use Rattle.graft_model.specs.declared.event.RouterEvent.TheVariants.{Put, Emit, Arrive, Stray, Got, Decide, Tell, Hear, Admit, Refuse, Freeze, Leave, Return, Clear, Ask, Answer, Collect, Confirm, Tick}
 use Rattle.graft_model.specs.declared.event.FarEvent.TheVariants.{Say, Send, Take, Pass, Reach, Lose, Point, Beat}
 use Rattle.graft_model.specs.declared.event.OperatorEvent.TheVariants.{Order, Note, Go}
 use Rattle.graft_model.specs.Steps.{router_row, far_row, operator_row}
@@ -55,6 +55,10 @@ router_sender setup r (Freeze k) a b taken sent row = rw (row.alone.0) refl
 router_sender setup r (Leave k) a b taken sent row = rw (row.takes) refl
 router_sender setup r (Return q) a b taken sent row = rw (row.takes) refl
 router_sender setup r (Clear q) a b taken sent row = rw (row.takes) refl
+router_sender setup r (Ask k q) a b taken sent row = rw (row.takes) refl
+router_sender setup r (Answer q) a b taken sent row = rw (row.takes) refl
+router_sender setup r (Collect q) a b taken sent (inl row) = rw (row.takes) refl
+router_sender setup r (Collect q) a b taken sent (inr row) = rw (row.takes) refl
 router_sender setup r (Confirm k) a b taken sent row = rw (row.takes) refl
 router_sender setup r (Tick p round) a b taken sent row = rw (row.alone.0) refl
 router_sender setup r _ a b taken sent row = rw (row.comes.takes) refl

@@ -19,13 +19,13 @@ use Rattle.session_value.specs.Cases.{GetsFrame, PassesRound}
 use Rattle.graft_model.specs.First.{first_world, place_in}
 use Rattle.graft_model.specs.Points.{at, at2}
 use Rattle.graft_model.specs.Setups.{Setup, PeeringSetup}
-use Rattle.graft_model.specs.Parts.{Place, Vacant, Live, Frozen, Shadow, Errand, RouterPart, World, Mesh, Told, Moved, Back, Done}
+use Rattle.graft_model.specs.Parts.{Place, Vacant, Live, Frozen, Shadow, Errand, RouterPart, World, Mesh, Told, Moved, Back, Asked, Answered, Done}
 use Rattle.graft_model.specs.RouterRows.{RouterTaken, OrderIn, SegmentIn, MeshIn, RouterSent, MeshTo, OutwardTo, ReportOut, IsLive}
 use Rattle.graft_model.specs.FarRows.{FarTaken, OutwardIn, SayIn, FarSent}
 use Rattle.graft_model.specs.OperatorRows.{OperatorTaken, ReportIn, OperatorSent, OrderTo, SayTo}
 use Rattle.graft_model.specs.declared.event.RouterEvent.TheVariants as events
 use Rattle.graft_model.specs.declared.event.RouterEvent.{RouterEvent}
-use Rattle.graft_model.specs.declared.event.RouterEvent.TheVariants.{Emit, Arrive, Stray, Decide, Tell, Hear, Admit, Refuse, Freeze, Leave, Land, Return, Clear, Confirm}
+use Rattle.graft_model.specs.declared.event.RouterEvent.TheVariants.{Emit, Arrive, Stray, Decide, Tell, Hear, Admit, Refuse, Freeze, Leave, Land, Return, Clear, Ask, Answer, Collect, Confirm}
 use Rattle.graft_model.specs.Steps.{router_row, Event, ByRouter, ByFar, ByOperator, RouterTook, FarTook, OperatorTook, router_sends, far_sends, operator_sends, Step, Run}
 
 module _ (n : ℕ) where
@@ -42,6 +42,8 @@ module _ (n : ℕ) where
   EarlyMesh (Told prefix route) = Unit {0}
   EarlyMesh (Moved k p s) = Early s
   EarlyMesh (Back k p s refusal) = Early s
+  EarlyMesh (Asked k p) = Unit {0}
+  EarlyMesh (Answered k p) = Unit {0}
   EarlyMesh (Done k p) = Unit {0}
 
   abbrev EarlyTaken : Option RouterTaken → Type 0
@@ -172,6 +174,15 @@ module _ (n : ℕ) where
     at_place a b row.peering Vacant (ap (λ (x : RouterPart). x.places) row.effect) tt all,
     subst⁻¹ (λ (xs : List RouterSent). AllByRecursion EarlySent xs) row.sends (tt, tt),
   )
+  early_row setup r (Ask k q) a b taken sent row l all took = (
+    at_place a b row.peering _ (ap (λ (x : RouterPart). x.places) row.effect) (was_early a row.peering row.session _ row.live all) all,
+    subst⁻¹ (λ (xs : List RouterSent). AllByRecursion EarlySent xs) row.sends (tt, tt),
+  )
+  early_row setup r (Answer q) a b taken sent row l all took =
+      (same_places a b (ap (λ (x : RouterPart). x.places) row.stays) all, subst⁻¹ (λ (xs : List RouterSent). AllByRecursion EarlySent xs) row.sends (tt, tt))
+  early_row setup r (Collect q) a b taken sent (inl row) l all took =
+      (at_place a b row.peering _ (ap (λ (x : RouterPart). x.places) row.effect) (was_early a row.peering row.session _ row.live all) all, nothing_sent sent row.sends)
+  early_row setup r (Collect q) a b taken sent (inr row) l all took = (same_places a b (ap (λ (x : RouterPart). x.places) row.stays) all, nothing_sent sent row.sends)
   early_row setup r (Confirm k) a b taken sent row l all took = (
     at_place a b row.peering (Live row.session None) (ap (λ (x : RouterPart). x.places) row.effect) (was_early a row.peering row.session _ row.live all) all,
     subst⁻¹ (λ (xs : List RouterSent). AllByRecursion EarlySent xs) row.sends (tt, tt),

@@ -29,7 +29,7 @@ use Rattle.graft_model.specs.Parts.{Place, Vacant, Live, Frozen, Shadow, Order, 
 use Rattle.graft_model.specs.RouterRows.{RouterTaken, RouterSent, IsLive, update_for}
 use Rattle.graft_model.specs.declared.event.RouterEvent.TheVariants as events
 use Rattle.graft_model.specs.declared.event.RouterEvent.{RouterEvent}
-use Rattle.graft_model.specs.declared.event.RouterEvent.TheVariants.{Emit, Arrive, Decide, Tell, Hear, Admit, Refuse, Freeze, Leave, Land, Return, Clear, Confirm}
+use Rattle.graft_model.specs.declared.event.RouterEvent.TheVariants.{Emit, Arrive, Decide, Tell, Hear, Admit, Refuse, Freeze, Leave, Land, Return, Clear, Ask, Answer, Collect, Confirm}
 use Rattle.graft_model.specs.Steps.{router_row}
 use Rattle.graft_actors.specs.Emissions.{Tally, nothing}
 use Rattle.bgp_session.specs.Steps.{MayPass}
@@ -143,6 +143,9 @@ step_of setup r (Land q) a b taken sent row p s u o w before ends_at =
 step_of setup r (Return q) a b taken sent row p s u o w before ends_at =
     comes (Return q) a b row.peering p _ s u o w (no_shadow (a.places row.peering) row.graft row.shadow) before ends_at (ap (λ (x : RouterPart). x.places) row.effect)
 step_of setup r (Clear q) a b taken sent row p s u o w before ends_at = leaves (Clear q) a b row.peering p Vacant s u o w (no_vacant Vacant refl) before ends_at (ap (λ (x : RouterPart). x.places) row.effect)
+step_of setup r (Ask k q) a b taken sent row p s u o w before ends_at = order_changes (Ask k q) a b row.peering p row.session s u _ _ o w row.live before ends_at (ap (λ (x : RouterPart). x.places) row.effect)
+step_of setup r (Collect q) a b taken sent (inl row) p s u o w before ends_at = order_changes (Collect q) a b row.peering p row.session s u _ _ o w row.live before ends_at (ap (λ (x : RouterPart). x.places) row.effect)
+step_of setup r (Collect q) a b taken sent (inr row) p s u o w before ends_at = place_same (Collect q) a b p s u o w before ends_at (ap (λ (x : RouterPart). x.places p) row.stays)
 step_of setup r (Confirm k) a b taken sent row p s u o w before ends_at = order_changes (Confirm k) a b row.peering p row.session s u _ None o w row.live before ends_at (ap (λ (x : RouterPart). x.places) row.effect)
 step_of setup r (events.Tick q round) a b taken sent row p s u o w before ends_at =
     changes (events.Tick q round) a b q p row.session row.next s u row.errand row.errand o w row.live before ends_at (ap (λ (x : RouterPart). x.places) row.follows.effect)

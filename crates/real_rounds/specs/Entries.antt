@@ -4,7 +4,7 @@ use Rattle.std.specs.List.{list_any}
 use Rattle.ring_net.specs.declared.entry.JournalEntry.{JournalEntry}
 use Rattle.journal_merge.specs.Merges.{entries_by}
 use Rattle.graft_model.specs.declared.code.Code.{Code}
-use Rattle.graft_model.specs.declared.event.RouterEvent.TheVariants.{Arrive, Stray, Hear, Admit, Land, TurnBack, Return, Clear}
+use Rattle.graft_model.specs.declared.event.RouterEvent.TheVariants.{Arrive, Stray, Hear, Admit, Land, TurnBack, Return, Clear, Answer, Collect}
 use Rattle.graft_model.specs.declared.event.FarEvent.TheVariants.{Say, Take, Point}
 use Rattle.graft_model.specs.declared.event.OperatorEvent.TheVariants.{Note}
 use Rattle.graft_model.specs.Codes.{router_code, far_code, operator_code}
@@ -28,11 +28,11 @@ AreCoded code events entries = ⊥
 abbrev pub is_one_of : List Code → JournalEntry → Bool
 is_one_of these entry = list_any (λ code. code.kind == entry.kind) these
 
--- A router takes segments from a far side, all that other routers tell and move from these, and orders from the operator; a far side takes what goes outward from a router, and steps from the
+-- A router takes segments from a far side, all that other routers tell, move, ask and answer from these, and orders from the operator; a far side takes what goes outward from a router, and steps from the
 -- operator; and the operator takes reports from a router.
 abbrev pub sender_of : JournalEntry → Option ActorName
 sender_of entry = if is_one_of (map router_code (Arrive 0 ∷ Stray 0 ∷ [])) entry then Some (FarSide entry.a)
-    else if is_one_of (map router_code (Hear 0 ∷ Land 0 ∷ TurnBack 0 ∷ Return 0 ∷ Clear 0 ∷ []) ++ map far_code (Take 0 ∷ Point 0 ∷ []) ++ map operator_code (Note 0 ∷ [])) entry then Some (Router entry.a)
+    else if is_one_of (map router_code (Hear 0 ∷ Land 0 ∷ TurnBack 0 ∷ Return 0 ∷ Clear 0 ∷ Answer 0 ∷ Collect 0 ∷ []) ++ map far_code (Take 0 ∷ Point 0 ∷ []) ++ map operator_code (Note 0 ∷ [])) entry then Some (Router entry.a)
     else if is_one_of (router_code (Admit 0) ∷ far_code (Say 0) ∷ []) entry then Some Operator
     else None
 

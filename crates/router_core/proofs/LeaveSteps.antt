@@ -39,7 +39,7 @@ use Rattle.router_core.specs.Rounds.{Did, SameRouter, Writes}
 use Rattle.router_core.specs.Stages.{GraftGoes}
 use Rattle.router_core.specs.Visits.{Visits, SameButLeaving, SameButPlaces, beginning_grafts}
 use Rattle.router_core.specs.declared.fields.Fields.{Fields}
-use Rattle.router_core.specs.declared.place.Errand.TheVariants.{Leaving, Owing}
+use Rattle.router_core.specs.declared.place.Errand.TheVariants.{Leaving, Owing, Asking}
 use Rattle.router_core.specs.declared.place.Place.{Place}
 use Rattle.router_core.specs.declared.place.Place.TheVariants.{Live, Shadow}
 use Rattle.router_core.specs.declared.stages.grafts.Begun.TheVariants.{Nothing, Refused, Left}
@@ -256,7 +256,8 @@ module _ (f g : Fields) (p q : Post (Item RunningSession)) (n : ℕ) (x : Option
   begins_nothing same items_are None is begun = idle same items_are None is begun refl
   begins_nothing same items_are (Some (Live s None)) is begun = idle same items_are (Some (Live s None)) is begun refl
   begins_nothing same items_are (Some (Live s (Some (Leaving ids)))) is begun = absurd begun
-  begins_nothing same items_are (Some (Live s (Some (Owing ids)))) is begun = idle same items_are (Some (Live s (Some (Owing ids)))) is begun refl
+  begins_nothing same items_are (Some (Live s (Some (Owing landing)))) is begun = idle same items_are (Some (Live s (Some (Owing landing)))) is begun refl
+  begins_nothing same items_are (Some (Live s (Some (Asking landing)))) is begun = idle same items_are (Some (Live s (Some (Asking landing)))) is begun refl
   begins_nothing same items_are (Some (Shadow away)) is begun = idle same items_are (Some (Shadow away)) is begun refl
 
   pub begins_refused : (same : SameButPlaces f g) → g.places ≡ with_place f.places n x → (named : GraftIds) (refusal : Refusal)
@@ -266,7 +267,8 @@ module _ (f g : Fields) (p q : Post (Item RunningSession)) (n : ℕ) (x : Option
   begins_refused same items_are named refusal wrote (Some (Live s None)) is begun = absurd begun
   begins_refused same items_are named refusal wrote (Some (Live s (Some (Leaving ids)))) is begun = refused f g p q n s ids keeps there is refusal begun.1 same (items_are ∙ ap (with_place f.places n) begun.2)
       (subst (λ (k : GraftIds). Writes p (Refuse k.graft) ((routers_in f.known.setup + peerings_in f.known.setup, items.Report k.graft (outcomes.Refused refusal)) ∷ []) q) begun.0 wrote)
-  begins_refused same items_are named refusal wrote (Some (Live s (Some (Owing ids)))) is begun = absurd begun
+  begins_refused same items_are named refusal wrote (Some (Live s (Some (Owing landing)))) is begun = absurd begun
+  begins_refused same items_are named refusal wrote (Some (Live s (Some (Asking landing)))) is begun = absurd begun
   begins_refused same items_are named refusal wrote (Some (Shadow away)) is begun = absurd begun
 
   pub begins_left : (m : Post (Item RunningSession)) (same : SameButLeaving f g) → g.places ≡ with_place f.places n x → table_at g.due_out ≡ at (table_at f.due_out) n map.empty → length g.due_out ≡ length f.due_out
@@ -278,5 +280,6 @@ module _ (f g : Fields) (p q : Post (Item RunningSession)) (n : ℕ) (x : Option
       (subst (λ (k : GraftIds). Writes p (Freeze k.graft) [] m) begun.0 first)
       (subst (λ (c : RunningSession). Writes m (Leave ids.graft) ((ids.target.0, items.Moved ids.graft c) ∷ []) q) begun.2
       (subst (λ (k : GraftIds). Writes m (Leave k.graft) ((k.target.0, items.Moved k.graft capsule) ∷ []) q) begun.0 second))
-  begins_left m same items_are due sizes named capsule first second (Some (Live s (Some (Owing ids)))) is begun = absurd begun
+  begins_left m same items_are due sizes named capsule first second (Some (Live s (Some (Owing landing)))) is begun = absurd begun
+  begins_left m same items_are due sizes named capsule first second (Some (Live s (Some (Asking landing)))) is begun = absurd begun
   begins_left m same items_are due sizes named capsule first second (Some (Shadow away)) is begun = absurd begun

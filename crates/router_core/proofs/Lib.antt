@@ -9,6 +9,7 @@ pub mod SendSteps
 pub mod EachPlace
 pub mod LeaveSteps
 mod ConfirmSteps
+mod AnswerSteps
 pub mod DecideSteps
 pub mod TellSteps
 pub mod BeginSteps

@@ -4,7 +4,7 @@ use Rattle.std.proofs.lemmas.List.{length-set}
 use Rattle.ring_net.specs.declared.post.Post.{Post}
 use Rattle.graft_steps.specs.declared.item.Item.{Item}
 use Rattle.graft_steps.specs.declared.item.Item.TheVariants as items
-use Rattle.graft_steps.specs.declared.order.GraftIds.{GraftIds}
+use Rattle.graft_steps.specs.Landings.{Landing}
 use Rattle.router_core.specs.Rounds.{Writes}
 use Rattle.router_core.specs.declared.place.Errand.{Errand}
 use Rattle.router_core.specs.declared.place.Errand.TheVariants.{Owing}
@@ -96,7 +96,7 @@ module _ (f : Fields) (a b : Post (Item RunningSession)) (from k : ℕ) (s : Run
       keeps
 
   -- it lands
-  module _ (mid h : Fields) (c : Post (Item RunningSession)) (far : ℕ) (landed : GraftIds) (settles : SettlesIn f s landed mid) (landed_is : landed ≡ record { graft = k; peering = s.session.config.peering; source = record { 0 = from }; target = f.number }) (far_is : far ≡ f.routers + p) (admitted : refusal_of f.known.setup f.number.0 (router_part f) s.session ≡ None)
+  module _ (mid h : Fields) (c : Post (Item RunningSession)) (far : ℕ) (landed : Landing) (settles : SettlesIn f s landed mid) (landed_is : landed ≡ record { ids = record { graft = k; peering = s.session.config.peering; source = record { 0 = from }; target = f.number }; next = 0 }) (far_is : far ≡ f.routers + p) (admitted : refusal_of f.known.setup f.number.0 (router_part f) s.session ≡ None)
       (wrote : Writes a (Land from) ((far, items.PointAt k) ∷ []) b) where
     abbrev held : Option Place
     held = Some (Live s (Some (Owing landed)))
@@ -130,9 +130,9 @@ module _ (f : Fields) (a b : Post (Item RunningSession)) (from k : ℕ) (s : Run
         live = record { is = here };
         own = record { peering = refl; sends = way.sends; receives = way.receives };
         for_graft = record {
-          peering = ap (λ (ids : GraftIds). ids.peering.0) landed_is;
-          source = subst (λ (ids : GraftIds). ids.source.0 < routers_in f.known.setup) (sym landed_is) known;
-          target = ap (λ (ids : GraftIds). ids.target.0) landed_is;
+          peering = ap (λ (l : Landing). l.ids.peering.0) landed_is;
+          source = subst (λ (l : Landing). l.ids.source.0 < routers_in f.known.setup) (sym landed_is) known;
+          target = ap (λ (l : Landing). l.ids.target.0) landed_is;
         };
         due = λ x has. way.established;
       };
@@ -143,8 +143,8 @@ module _ (f : Fields) (a b : Post (Item RunningSession)) (from k : ℕ) (s : Run
     })
 
     -- the place as the model has it
-    lands_at : at (router_part f).places p (place_of held) ≡ at (router_part f).places p (model.Live s.session (Some (model.Owing (record { graft = k; source = from }))))
-    lands_at = ap (λ (ids : GraftIds). at (router_part f).places p (model.Live s.session (Some (model.Owing (word_of ids))))) landed_is
+    lands_at : at (router_part f).places p (place_of held) ≡ at (router_part f).places p (model.Live s.session (Some (model.Owing (record { graft = k; source = from; next = 0 }))))
+    lands_at = ap (λ (l : Landing). at (router_part f).places p (model.Live s.session (Some (model.Owing (word_of l))))) landed_is
 
     pub lands : ReadsAll p mid b h c → TakesIt from (items.Moved k s) f a h c
     lands reads =

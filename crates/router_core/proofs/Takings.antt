@@ -147,6 +147,8 @@ other_unwelcome f from item other w = by_item item other (actor_at f.known.setup
     by_item (items.Told prefix route) other o m = other
     by_item (items.Moved k capsule) other o m = other
     by_item (items.Back k capsule refusal) other o m = other
+    by_item (items.Asked k peering) other o m = other
+    by_item (items.Answered k peering) other o m = other
     by_item (items.Done k peering) other o m = other
     by_item (items.GraftOrder k peering target) other o m = other
 

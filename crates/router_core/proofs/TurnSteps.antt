@@ -1,5 +1,5 @@
 -- A turn is its stages, one after another.
-use Rattle.std.proofs.Common.{◌≡◌, ℕ, ◌+◌, ◌<◌, ◌≤◌, List, [], ◌∷◌, ◌++◌, Option, option_map, Some, None, Bool, true, false, refl, sym, ap, subst, ◌∙◌, arith, inl, inr, ◌⊎◌, append_assoc}
+use Rattle.std.proofs.Common.{◌≡◌, ℕ, ◌+◌, ◌<◌, ◌≤◌, List, [], ◌∷◌, ◌++◌, Option, option_map, Some, None, Bool, true, false, sym, ap, subst, ◌∙◌, arith, inl, inr, ◌⊎◌, append_assoc}
 use Rattle.std.proofs.lemmas.List.{append-nil}
 use Rattle.std.specs.Prelude.{nat_lt, if◌then◌else◌}
 use Rattle.std.proofs.lemmas.Bool.{lt-ltb, le-ltb}
@@ -18,13 +18,13 @@ use Rattle.graft_model.specs.declared.event.RouterEvent.{RouterEvent}
 use Rattle.graft_actors.specs.Emissions.{Tally, IsRested, nothing, reach_of}
 use Rattle.router_core.specs.Parts.{router_part, KeepsPlace}
 use Rattle.router_core.specs.Places.{place_of, place_at, errand_of, RunsAt}
-use Rattle.router_core.specs.Rested.{IsDone, IsQuietPlace, RestedRouter}
+use Rattle.router_core.specs.Rested.{AwaitsAtMost, IsDone, IsQuietPlace, RestedRouter}
 use Rattle.router_core.specs.Rounds.{Did}
 use Rattle.router_core.specs.Stages.{PlaceGoes, GraftGoes, WordGoes, PutsMore, IsLevel, EmitsAll, PassesWhereItMay, again_at, answer_at, with_again, with_answers, SendsAgain, PassesRounds, BeginsGrafts, DecidesAll, TellsAll, ConfirmsAll, PutsAll, Emits}
 use Rattle.router_core.specs.Turned.{rounds_on, TicksFirst, TurnsSession, TurnsOnce}
 use Rattle.router_core.specs.Updates.{IsStuck, IsUnwritable}
 use Rattle.router_core.specs.declared.fields.Fields.{Fields}
-use Rattle.router_core.specs.declared.place.Errand.TheVariants.{Leaving, Owing}
+use Rattle.router_core.specs.declared.place.Errand.TheVariants.{Leaving, Owing, Asking}
 use Rattle.router_core.specs.declared.place.Place.{Place}
 use Rattle.router_core.specs.declared.place.Place.TheVariants.{Live, Shadow}
 use Rattle.router_core.proofs.Dids.{did_same, did_then}
@@ -48,14 +48,15 @@ abbrev NotLeaving : Option Place → Type 0
 NotLeaving None = Unit {0}
 NotLeaving (Some (Live s None)) = Unit {0}
 NotLeaving (Some (Live s (Some (Leaving ids)))) = ⊥
-NotLeaving (Some (Live s (Some (Owing ids)))) = Unit {0}
+NotLeaving (Some (Live s (Some (Owing landing)))) = Unit {0}
+NotLeaving (Some (Live s (Some (Asking landing)))) = Unit {0}
 NotLeaving (Some (Shadow away)) = Unit {0}
 
--- nothing is to be done for a graft of its session
-abbrev NoErrand : Option Place → Type 0
-NoErrand None = Unit {0}
-NoErrand (Some (Live s o)) = o ≡ None
-NoErrand (Some (Shadow away)) = Unit {0}
+-- its session waits at most for an answer
+abbrev WaitsAtMost : Option Place → Type 0
+WaitsAtMost None = Unit {0}
+WaitsAtMost (Some (Live s o)) = AwaitsAtMost (option_map errand_of o)
+WaitsAtMost (Some (Shadow away)) = Unit {0}
 
 abbrev AllOut : Option Place → Type 0
 AllOut None = Unit {0}
@@ -77,31 +78,33 @@ not_leaving None y goes = subst NotLeaving (sym goes) tt
 not_leaving (Some (Live s None)) y goes = subst NotLeaving (sym goes) tt
 not_leaving (Some (Live s (Some (Leaving ids)))) y (inl goes) = subst NotLeaving (sym goes) tt
 not_leaving (Some (Live s (Some (Leaving ids)))) y (inr goes) = subst NotLeaving (sym goes) tt
-not_leaving (Some (Live s (Some (Owing ids)))) y goes = subst NotLeaving (sym goes) tt
+not_leaving (Some (Live s (Some (Owing landing)))) y goes = subst NotLeaving (sym goes) tt
+not_leaving (Some (Live s (Some (Asking landing)))) y goes = subst NotLeaving (sym goes) tt
 not_leaving (Some (Shadow away)) y goes = subst NotLeaving (sym goes) tt
 
-no_errand_first : (x y : Option Place) → NotLeaving x → WordGoes x y → NoErrand y
-no_errand_first None y stays goes = subst NoErrand (sym goes) tt
-no_errand_first (Some (Live s None)) y stays goes = subst NoErrand (sym goes) refl
-no_errand_first (Some (Live s (Some (Leaving ids)))) y stays goes = absurd stays
-no_errand_first (Some (Live s (Some (Owing ids)))) y stays goes = subst NoErrand (sym goes) refl
-no_errand_first (Some (Shadow away)) y stays goes = subst NoErrand (sym goes) tt
+waits_first : (x y : Option Place) → NotLeaving x → WordGoes x y → WaitsAtMost y
+waits_first None y stays goes = subst WaitsAtMost (sym goes) tt
+waits_first (Some (Live s None)) y stays goes = subst WaitsAtMost (sym goes) tt
+waits_first (Some (Live s (Some (Leaving ids)))) y stays goes = absurd stays
+waits_first (Some (Live s (Some (Owing landing)))) y stays (inl (q, goes)) = subst WaitsAtMost (sym goes) tt
+waits_first (Some (Live s (Some (Owing landing)))) y stays (inr goes) = subst WaitsAtMost (sym goes) tt
+waits_first (Some (Live s (Some (Asking landing)))) y stays goes = subst WaitsAtMost (sym goes) tt
+waits_first (Some (Shadow away)) y stays goes = subst WaitsAtMost (sym goes) tt
 
-no_errand_on : (R : RunningSession → RunningSession → Type 0) (x y : Option Place) → PlaceGoes R x y → NoErrand x → NoErrand y
-no_errand_on R None y goes none = subst NoErrand (sym goes) tt
-no_errand_on R (Some (Live s o)) y (u, is, becomes) none = subst NoErrand (sym is) none
-no_errand_on R (Some (Shadow away)) y goes none = subst NoErrand (sym goes) tt
+waits_on : (R : RunningSession → RunningSession → Type 0) (x y : Option Place) → PlaceGoes R x y → WaitsAtMost x → WaitsAtMost y
+waits_on R None y goes waits = subst WaitsAtMost (sym goes) tt
+waits_on R (Some (Live s o)) y (u, is, becomes) waits = subst WaitsAtMost (sym is) waits
+waits_on R (Some (Shadow away)) y goes waits = subst WaitsAtMost (sym goes) tt
 
 all_out : (x y : Option Place) → PlaceGoes EmitsAll x y → AllOut y
 all_out None y goes = subst AllOut (sym goes) tt
 all_out (Some (Live s o)) y (u, is, becomes) = subst AllOut (sym is) (record { emitted = ap (λ (v : RunningSession). v.session.end.emitted) becomes ∙ sym (ap (λ (v : RunningSession). reach_of v.session.end) becomes); answered = ap (λ (v : RunningSession). v.session.end.owed) becomes })
 all_out (Some (Shadow away)) y goes = subst AllOut (sym goes) tt
 
-quiet : (setup : Setup) (r p : ℕ) (entries : Entries) (due : Prefixes) (x : Option Place) → KeepsPlace setup r p entries due x → NoErrand x → AllOut x → IsQuietPlace (place_of x)
-quiet setup r p entries due None keeps none out = tt
-quiet setup r p entries due (Some (Live s None)) keeps none out = (refl, keeps.1, out)
-quiet setup r p entries due (Some (Live s (Some o))) keeps none out = absurd (let e : ⊥ = cc in e)
-quiet setup r p entries due (Some (Shadow away)) keeps none out = tt
+quiet : (setup : Setup) (r p : ℕ) (entries : Entries) (due : Prefixes) (x : Option Place) → KeepsPlace setup r p entries due x → WaitsAtMost x → AllOut x → IsQuietPlace (place_of x)
+quiet setup r p entries due None keeps waits out = tt
+quiet setup r p entries due (Some (Live s o)) keeps waits out = (waits, keeps.1, out)
+quiet setup r p entries due (Some (Shadow away)) keeps waits out = tt
 
 -- what is emitted changes nothing of what is to be told
 stuck_on : (setup : Setup) (r p n : ℕ) (part : RouterPart) (places : ℕ → model.Place) (s : SessionValue) (m : ℕ) (b : Bool) → IsStuck setup r part p s n
@@ -144,12 +147,15 @@ still_live : (s : RunningSession) (o : Option Errand) (y : Option Place) → Gra
 still_live s None y goes live = (None, goes)
 still_live s (Some (Leaving ids)) y (inl goes) live = (None, goes)
 still_live s (Some (Leaving ids)) y (inr goes) live = absurd (live (subst NotLive (sym goes) tt))
-still_live s (Some (Owing ids)) y goes live = (Some (Owing ids), goes)
+still_live s (Some (Owing landing)) y goes live = (Some (Owing landing), goes)
+still_live s (Some (Asking landing)) y goes live = (Some (Asking landing), goes)
 
 live_told : (s : RunningSession) (o : Option Errand) (y : Option Place) → WordGoes (Some (Live s o)) y → IsLiveThere s y
 live_told s None y goes = (None, goes)
 live_told s (Some (Leaving ids)) y goes = (Some (Leaving ids), goes)
-live_told s (Some (Owing ids)) y goes = (None, goes)
+live_told s (Some (Owing landing)) y (inl (q, goes)) = (Some (Asking (record landing { next = q })), goes)
+live_told s (Some (Owing landing)) y (inr goes) = (None, goes)
+live_told s (Some (Asking landing)) y goes = (Some (Asking landing), goes)
 
 record LivesOn (round : ℕ) (rounds : List ℕ) (s u : RunningSession) : Type 0 where
   acked : u.session.end.acked ≡ s.session.end.acked
@@ -169,7 +175,7 @@ lives_with round rounds s s1 s2 s3 s4 u level passed more all last = record {
   ticked = level_rounds round rounds s s1 s2 level passed.1;
 }
 
--- its place once the source is told, after the later stages, and at the end
+-- its place once a router is asked or the source is told, after the later stages, and at the end
 lives_later : (round : ℕ) (rounds : List ℕ) (m h k : Option Place) (s s1 s2 u : RunningSession) (o q : Option Errand) → m ≡ Some (Live s2 o) → k ≡ Some (Live u q) → IsLevel s s1 → PassesWhereItMay round rounds s1 s2 → PlaceGoes PutsMore m h → PlaceGoes EmitsAll h k → LivesOn round rounds s u
 lives_later round rounds m h k s s1 s2 u o q is end level passed puts emits =
     let (s3, h_is, more) = subst (λ (x : Option Place). PlaceGoes PutsMore x h) is puts in
@@ -345,9 +351,9 @@ module _ (f a b c d e g m h k : Fields) (p0 p1 p2 p3 p4 p5 p6 p7 p8 : Post (Item
     clean = ap (λ (x : Fields). x.rib.dirty) k_same ∙ decides.clean;
     due_in = λ q. ap (λ (x : Fields). (router_part x).due_in q) k_same ∙ tells.told q;
     quiet = λ p. quiet k.known.setup k.number.0 p _ _ (place_at k.places.places p) (emits.keeps.each p)
-        (no_errand_on EmitsAll (place_at h.places.places p) (place_at k.places.places p) (emits.places p)
-        (no_errand_on PutsMore (place_at m.places.places p) (place_at h.places.places p) (puts.places p)
-        (no_errand_first (place_at d.places.places p) (place_at m.places.places p) (not_leaving (place_at c.places.places p) (place_at d.places.places p) (grafts.places p)) (confirms_at p))))
+        (waits_on EmitsAll (place_at h.places.places p) (place_at k.places.places p) (emits.places p)
+        (waits_on PutsMore (place_at m.places.places p) (place_at h.places.places p) (puts.places p)
+        (waits_first (place_at d.places.places p) (place_at m.places.places p) (not_leaving (place_at c.places.places p) (place_at d.places.places p) (grafts.places p)) (confirms_at p))))
         (all_out (place_at h.places.places p) (place_at k.places.places p) (emits.places p));
     done = done;
   }

@@ -5,7 +5,7 @@ use Rattle.session_value.specs.Sets.{Entries, Prefixes}
 use Rattle.graft_model.specs.Setups.{Setup}
 use Rattle.router_core.specs.Parts.{Keeps, KeepsPlace}
 use Rattle.router_core.specs.declared.fields.Fields.{Fields}
-use Rattle.router_core.specs.declared.place.Errand.TheVariants.{Leaving, Owing}
+use Rattle.router_core.specs.declared.place.Errand.TheVariants.{Leaving, Owing, Asking}
 use Rattle.router_core.specs.declared.place.Place.{Place}
 use Rattle.router_core.specs.declared.place.Place.TheVariants.{Live, Shadow}
 
@@ -13,7 +13,8 @@ KeepsPlace-prop : (setup : Setup) (r p : ℕ) (entries : Entries) (due : Prefixe
 KeepsPlace-prop setup r p entries due None = hlevel props
 KeepsPlace-prop setup r p entries due (Some (Live running None)) = hlevel props
 KeepsPlace-prop setup r p entries due (Some (Live running (Some (Leaving ids)))) = hlevel props
-KeepsPlace-prop setup r p entries due (Some (Live running (Some (Owing ids)))) = hlevel props
+KeepsPlace-prop setup r p entries due (Some (Live running (Some (Owing landing)))) = hlevel props
+KeepsPlace-prop setup r p entries due (Some (Live running (Some (Asking landing)))) = hlevel props
 KeepsPlace-prop setup r p entries due (Some (Shadow away)) = hlevel props
 
 pub Keeps-prop-if : (b : Bool) (f : Fields) → IsProp (b ≡ false → Keeps f)

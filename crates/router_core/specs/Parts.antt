@@ -18,7 +18,7 @@ use Rattle.router_core.specs.Configs.{ArePoliciesOf, AreFirstsOf, IsRibOf}
 use Rattle.router_core.specs.Places.{place_of, place_at}
 use Rattle.router_core.specs.declared.fields.Fields.{Fields}
 use Rattle.router_core.specs.declared.place.Errand.{Errand}
-use Rattle.router_core.specs.declared.place.Errand.TheVariants.{Leaving, Owing}
+use Rattle.router_core.specs.declared.place.Errand.TheVariants.{Leaving, Owing, Asking}
 use Rattle.router_core.specs.declared.place.Place.{Place}
 use Rattle.router_core.specs.declared.place.Place.TheVariants.{Live, Shadow}
 
@@ -67,7 +67,8 @@ pub record IsLandingOf (setup : Setup) (r p : ℕ) (ids : GraftIds) : Type 0 whe
 abbrev pub IsErrandOf : Setup → ℕ → ℕ → Option Errand → Type 0
 IsErrandOf setup r p None = Unit {0}
 IsErrandOf setup r p (Some (Leaving ids)) = IsGraftOf setup r p ids
-IsErrandOf setup r p (Some (Owing ids)) = IsLandingOf setup r p ids
+IsErrandOf setup r p (Some (Owing landing)) = IsLandingOf setup r p landing.ids
+IsErrandOf setup r p (Some (Asking landing)) = IsLandingOf setup r p landing.ids × (landing.next < routers_in setup)
 
 abbrev pub HasNoEntry : Entries → Type 0
 HasNoEntry entries = (x : PrefixValue) → is_some (map.get entries x) ≡ false

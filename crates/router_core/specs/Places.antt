@@ -3,22 +3,24 @@ use Rattle.std.specs.Prelude.{ℕ, ◌≡◌, List, [], ◌∷◌, Option, Some,
 use Rattle.std.specs.List.{flat_map}
 use Rattle.bgp_session.specs.Running.{RunningSession}
 use Rattle.session_places.specs.Places.{PlaceList, with_place}
+use Rattle.graft_steps.specs.Landings.{Landing}
 use Rattle.graft_steps.specs.declared.order.GraftIds.{GraftIds}
 use Rattle.graft_model.specs.Parts as model
 use Rattle.router_core.specs.declared.place.Errand.{Errand}
-use Rattle.router_core.specs.declared.place.Errand.TheVariants.{Leaving, Owing}
+use Rattle.router_core.specs.declared.place.Errand.TheVariants.{Leaving, Owing, Asking}
 use Rattle.router_core.specs.declared.place.Place.{Place}
 use Rattle.router_core.specs.declared.place.Place.TheVariants.{Live, Shadow}
 
 abbrev pub order_of : GraftIds → model.Order
 order_of ids = record { graft = ids.graft; target = ids.target.0 }
 
-abbrev pub word_of : GraftIds → model.Word
-word_of ids = record { graft = ids.graft; source = ids.source.0 }
+abbrev pub word_of : Landing → model.Word
+word_of landing = record { graft = landing.ids.graft; source = landing.ids.source.0; next = landing.next }
 
 abbrev pub errand_of : Errand → model.Errand
 errand_of (Leaving ids) = model.Leaving (order_of ids)
-errand_of (Owing ids) = model.Owing (word_of ids)
+errand_of (Owing landing) = model.Owing (word_of landing)
+errand_of (Asking landing) = model.Asking (word_of landing)
 
 -- the place as the model has it: a place is never frozen at the end of a call
 abbrev pub place_of : Option Place → model.Place

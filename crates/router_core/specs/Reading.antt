@@ -20,7 +20,7 @@ use Rattle.bgp_session.specs.Steps.{Arrives, Reads, received_as}
 use Rattle.bgp_session.specs.declared.answers.ReadStep.{ReadStep}
 use Rattle.bgp_session.specs.declared.answers.ReadStep.TheVariants as steps
 use Rattle.graft_steps.specs.declared.item.Item.{Item}
-use Rattle.graft_steps.specs.declared.order.GraftIds.{GraftIds}
+use Rattle.graft_steps.specs.Landings.{Landing}
 use Rattle.session_places.specs.Places.{with_place}
 use Rattle.router_core.specs.declared.place.Errand.{Errand}
 use Rattle.router_core.specs.declared.place.Errand.TheVariants.{Owing}
@@ -113,8 +113,8 @@ pub record MakesLive (old : Fields) (p : ℕ) (s : RunningSession) (errand : Opt
   pub sets : OneSet old.due_out p new.due_out
   pub due : IsDueAgain s.session.told old.rib.best (table_at new.due_out p)
 
--- A session lands in a graft: its routes are taken in, it is live, and its source is to be told.
-pub record SettlesIn (old : Fields) (s : RunningSession) (landed : GraftIds) (new : Fields) : Type 0 where
+-- A session lands in a graft: its routes are taken in, it is live, and routers are to be asked and its source to be told.
+pub record SettlesIn (old : Fields) (s : RunningSession) (landed : Landing) (new : Fields) : Type 0 where
   pub same : new ≡ record old { places = new.places; rib = new.rib; due_out = new.due_out }
   pub entered : EntersAll (rib_of old.rib) s.session.config.peering.0 (entry_here old.home_as old.policies s.session) (map.keys s.session.heard) (rib_of new.rib)
   pub held : new.places ≡ with_place old.places s.session.config.peering.0 (Some (Live s (Some (Owing landed))))

@@ -1,8 +1,8 @@
 -- A router at the end of its turn.
-use Rattle.std.specs.Prelude.{ℕ, ◌≡◌, ◌⊎◌, None}
+use Rattle.std.specs.Prelude.{ℕ, ◌≡◌, ◌⊎◌, Option, None, Some}
 use Rattle.std.specs.FinMap as map
 use Rattle.graft_model.specs.Setups.{Setup}
-use Rattle.graft_model.specs.Parts.{Place, Vacant, Live, Frozen, Shadow, RouterPart}
+use Rattle.graft_model.specs.Parts.{Errand, Asking, Place, Vacant, Live, Frozen, Shadow, RouterPart}
 use Rattle.graft_actors.specs.Emissions.{IsRested}
 use Rattle.router_core.specs.Parts.{HasReadAll}
 use Rattle.router_core.specs.Updates.{IsStuck, IsUnwritable}
@@ -14,10 +14,16 @@ IsDone setup r part p (Live session errand) = (part.due_out p ≡ map.empty) ⊎
 IsDone setup r part p (Frozen session order) = ⊥
 IsDone setup r part p (Shadow graft) = part.due_out p ≡ map.empty
 
--- A live session has nothing to be done for a graft of it, has read all that it can, has emitted all that it may, and owes no answer.
+-- Nothing is to be done for a graft of a session, unless the answer of a router is waited for.
+abbrev pub AwaitsAtMost : Option Errand → Type 0
+AwaitsAtMost None = Unit {0}
+AwaitsAtMost (Some (Asking word)) = Unit {0}
+AwaitsAtMost (Some errand) = ⊥
+
+-- A live session waits at most for an answer in a graft of it, has read all that it can, has emitted all that it may, and owes no answer.
 abbrev pub IsQuietPlace : Place → Type 0
 IsQuietPlace Vacant = Unit {0}
-IsQuietPlace (Live session errand) = (errand ≡ None) × HasReadAll session × IsRested session.end
+IsQuietPlace (Live session errand) = AwaitsAtMost errand × HasReadAll session × IsRested session.end
 IsQuietPlace (Frozen session order) = ⊥
 IsQuietPlace (Shadow graft) = Unit {0}
 

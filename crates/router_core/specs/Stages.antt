@@ -1,5 +1,5 @@
--- The stages of a router's turn, in their order: segments are sent again, rounds pass, grafts begin, prefixes are decided, routers are told, then the sources of sessions
--- that have landed, then the sessions, and all is emitted that may be.
+-- The stages of a router's turn, in their order: segments are sent again, rounds pass, grafts begin, prefixes are decided, routers are told, then routers are asked, or the
+-- source is told, of each session that has landed, then the sessions are told, and all is emitted that may be.
 use Rattle.std.specs.Prelude.{ℕ, ◌≡◌, ◌⊎◌, ◌+◌, nat_lt, if◌then◌else◌, false, List, [], ◌∷◌, Some, None, Option}
 use Rattle.std.specs.FinMap as map
 use Rattle.ring_net.specs.declared.post.Post.{Post}
@@ -15,7 +15,7 @@ use Rattle.router_core.specs.Rested.{IsDone}
 use Rattle.router_core.specs.Rounds.{Did}
 use Rattle.router_core.specs.Turned.{NoPuts, NoRounds, rounds_on}
 use Rattle.router_core.specs.declared.fields.Fields.{Fields}
-use Rattle.router_core.specs.declared.place.Errand.TheVariants.{Leaving, Owing}
+use Rattle.router_core.specs.declared.place.Errand.TheVariants.{Leaving, Owing, Asking}
 use Rattle.router_core.specs.declared.place.Place.{Place}
 use Rattle.router_core.specs.declared.place.Place.TheVariants.{Live, Shadow}
 
@@ -32,15 +32,17 @@ abbrev pub GraftGoes : Option Place → Option Place → Type 0
 GraftGoes None new = new ≡ None
 GraftGoes (Some (Live s None)) new = new ≡ Some (Live s None)
 GraftGoes (Some (Live s (Some (Leaving ids)))) new = (new ≡ Some (Live s None)) ⊎ (new ≡ Some (Shadow ids))
-GraftGoes (Some (Live s (Some (Owing ids)))) new = new ≡ Some (Live s (Some (Owing ids)))
+GraftGoes (Some (Live s (Some (Owing landing)))) new = new ≡ Some (Live s (Some (Owing landing)))
+GraftGoes (Some (Live s (Some (Asking landing)))) new = new ≡ Some (Live s (Some (Asking landing)))
 GraftGoes (Some (Shadow away)) new = new ≡ Some (Shadow away)
 
--- The source of a session that has landed is told, and nothing more is to be done for its graft. All else stays.
+-- The next router is asked about a session that has landed; or its source is told, and nothing more is to be done for its graft. All else stays.
 abbrev pub WordGoes : Option Place → Option Place → Type 0
 WordGoes None new = new ≡ None
 WordGoes (Some (Live s None)) new = new ≡ Some (Live s None)
 WordGoes (Some (Live s (Some (Leaving ids)))) new = new ≡ Some (Live s (Some (Leaving ids)))
-WordGoes (Some (Live s (Some (Owing ids)))) new = new ≡ Some (Live s None)
+WordGoes (Some (Live s (Some (Owing landing)))) new = ((q : ℕ) × (new ≡ Some (Live s (Some (Asking (record landing { next = q })))))) ⊎ (new ≡ Some (Live s None))
+WordGoes (Some (Live s (Some (Asking landing)))) new = new ≡ Some (Live s (Some (Asking landing)))
 WordGoes (Some (Shadow away)) new = new ≡ Some (Shadow away)
 
 -- A session has put more, and all else of its endpoint stays.

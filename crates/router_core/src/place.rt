@@ -1,8 +1,9 @@
 //! A router's places for the sessions of the peerings.
 
-ghost use Rattle.std.specs.Prelude.{◌≡◌, ◌≢◌, ◌++◌, Some, None, MatchBool, IfOk, OnOk};
+ghost use Rattle.std.specs.Prelude.{◌≡◌, ◌≢◌, ◌++◌, ◌<◌, ◌-◌, ◌^◌, Some, None, MatchBool, IfOk, OnOk};
 ghost use Rattle.bgp_session.specs.Running.{RunningSession};
 ghost use Rattle.session_places.specs.Places.{with_place};
+ghost use Rattle.router_core.specs.Confirming.{HearsAnswer};
 ghost use Rattle.router_core.specs.Places.{AtOne, IsFree, IsAway, place_at, session_in, sessions_in};
 ghost use Rattle.router_core.specs.Reading.{ArrivesAt, FitsPlace, ReadsAt};
 
@@ -18,8 +19,10 @@ use tcp_seq::Segment;
 pub(crate) enum Errand {
     /// The session is to go to another router, as it was ordered.
     Leaving(Ordered),
-    /// The session has landed here, and its source is to be told.
+    /// The session has landed here: the next router is to be asked, or where all have answered, the source is to be told.
     Owing(Landed),
+    /// The session has landed here, and a router was asked that hasn't answered.
+    Asking(Landed),
 }
 
 /// What is at a router's place for the session of a peering. A session that moves is taken out of one router's place and put into another's: no call of it takes memory.
@@ -44,6 +47,22 @@ impl Place {
         if let Place::Live { errand, .. } = self {
             *errand = Some(Errand::Leaving(ordered));
         }
+    }
+
+    /// A router has answered in this graft. Where the session that is live there waits for that, the next router may be asked.
+    fn hear_answer(&mut self, graft: u32, router: u32)
+        requires { router < 2 ^ 32 - 1 }
+        ensures { HearsAnswer graft router (Some self.old) (Some self.new) }
+    {
+        let Place::Live { errand, .. } = self else {
+            return;
+        };
+        *errand = match errand.take() {
+            Some(Errand::Asking(landed)) if landed.awaits(graft, router) => {
+                Some(Errand::Owing(landed.answered()))
+            }
+            other => other,
+        };
     }
 
     /// A session is live there, and nothing is to be done for a graft of it.
@@ -118,6 +137,16 @@ pub(crate) fn store(places: &mut Places<Place>, n: usize, ordered: Ordered)
 {
     if let Some(place) = places.get_mut(n) {
         place.store(ordered);
+    }
+}
+
+/// A router has answered in this graft. Where the session of a place waits for that, the next router may be asked.
+pub(crate) fn hear_answer(places: &mut Places<Place>, n: usize, graft: u32, router: u32)
+    requires { router < 2 ^ 32 - 1 }
+    ensures { AtOne (HearsAnswer graft router) places.old n places.new }
+{
+    if let Some(place) = places.get_mut(n) {
+        place.hear_answer(graft, router);
     }
 }
 

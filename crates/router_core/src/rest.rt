@@ -35,7 +35,7 @@ fn graft_of(errand: &Errand) -> u32
 {
     match errand {
         Errand::Leaving(order) => order.ids().graft,
-        Errand::Owing(landed) => landed.ids().graft,
+        Errand::Owing(landed) | Errand::Asking(landed) => landed.ids().graft,
     }
 }
 

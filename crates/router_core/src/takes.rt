@@ -41,6 +41,10 @@ pub(crate) fn take(
             capsule,
             refusal,
         } => graft::take_back(router, from, graft, capsule, refusal, post),
+        Item::Asked { graft, peering } => graft::take_asked(router, from, graft, peering, post),
+        Item::Answered { graft, peering } => {
+            graft::take_answered(router, from, graft, peering, post)
+        }
         Item::Done { graft, peering } => graft::take_done(router, from, graft, peering, post),
         Item::GraftOrder {
             graft,

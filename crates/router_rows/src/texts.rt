@@ -79,6 +79,10 @@ pub fn item_text(alloc: Global, item: &Item<Capsule>) -> Result<String> {
             let cause = refusal_text(alloc, refusal)?;
             Ok(format!(in alloc; "back {graft} {peering} {cause}")?)
         }
+        Item::Asked { graft, peering } => Ok(format!(in alloc; "asked {graft} {}", peering.0)?),
+        Item::Answered { graft, peering } => {
+            Ok(format!(in alloc; "answered {graft} {}", peering.0)?)
+        }
         Item::Done { graft, peering } => Ok(format!(in alloc; "done {graft} {}", peering.0)?),
         Item::Report { graft, outcome } => {
             let outcome = outcome_text(alloc, outcome)?;

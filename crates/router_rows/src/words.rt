@@ -66,6 +66,14 @@ fn item_of_graft(words: &[&str]) -> Result<Item<Capsule>> {
     Ok(match word(words, 3) {
         "point" => Item::PointAt { graft },
         "say" => Item::SayOrder { step: graft },
+        "asked" => Item::Asked {
+            graft,
+            peering: PeeringId(small(words, 5)?),
+        },
+        "answered" => Item::Answered {
+            graft,
+            peering: PeeringId(small(words, 5)?),
+        },
         "done" => Item::Done {
             graft,
             peering: PeeringId(small(words, 5)?),

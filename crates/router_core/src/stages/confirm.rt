@@ -1,4 +1,5 @@
-//! The sources of sessions that have landed are told.
+//! Of each session that has landed, the other routers are asked, one after another, whether they have heard what was told; and once all
+//! have answered, its source is told.
 
 ghost use Rattle.std.specs.Prelude.{ℕ, ◌≡◌, ◌<◌, length, OnOk};
 ghost use Rattle.std.specs.FinMap as map;
@@ -20,33 +21,49 @@ use graft_steps::{GraftIds, Item};
 use ring_net::Post;
 use session_places::Places;
 
-/// The graft whose source is to be told that the session has landed which is live there, if there is one. Nothing is to be done for it then.
-fn word_of(place: &mut Place) -> Option<GraftIds>
-    ensures { TakesWord (Some place.old) result (Some place.new) }
+/// What is to be said of a session that has landed.
+#[derive(Clone, Copy, Debug)]
+pub(crate) enum Word {
+    /// This router is to be asked whether it has heard what was told.
+    Ask { ids: GraftIds, router: u32 },
+    /// The source is to be told that the session has landed.
+    Confirm(GraftIds),
+}
+
+/// What is to be said of the session that is live there, if it has landed and waits for no answer. The next of so many routers is to be
+/// asked, whose answer it waits for then; or where none is left, its source is to be told, and then nothing is to be done for the graft.
+fn word_of(place: &mut Place, routers: u32) -> Option<Word>
+    ensures { TakesWord routers (Some place.old) result (Some place.new) }
 {
-    match place {
-        Place::Live { errand, .. } => match errand.take() {
-            Some(Errand::Owing(landed)) => Some(landed.confirmed()),
-            other => {
-                *errand = other;
-                None
-            }
-        },
-        Place::Shadow { .. } => None,
-    }
+    let Place::Live { errand, .. } = place else {
+        return None;
+    };
+    let landed = match errand.take() {
+        Some(Errand::Owing(landed)) => landed,
+        other => {
+            *errand = other;
+            return None;
+        }
+    };
+    let ids = landed.ids();
+    let Some(router) = landed.next(routers) else {
+        return Some(Word::Confirm(landed.confirmed()));
+    };
+    *errand = Some(Errand::Asking(landed.asked(router)));
+    Some(Word::Ask { ids, router })
 }
 
 /// The same of what is at a place.
-fn take_word(places: &mut Places<Place>, n: usize) -> Option<GraftIds>
-    ensures { AtOne (λ old new. TakesWord old result new) places.old n places.new }
+fn take_word(places: &mut Places<Place>, n: usize, routers: u32) -> Option<Word>
+    ensures { AtOne (λ old new. TakesWord routers old result new) places.old n places.new }
 {
     match places.get_mut(n) {
-        Some(place) => word_of(place),
+        Some(place) => word_of(place, routers),
         None => None,
     }
 }
 
-/// Tells the source of a session that it has landed at a place, if that is to be told.
+/// Asks the next router about the session that has landed at a place, or tells its source, if either is to be done.
 fn confirm_at(router: &mut Fields, n: usize, post: &mut Post<Item<Capsule>>) -> Result<(), NoMemory>
     requires keeps { Keeps router.old }
     requires place { n < length router.old.places.places }
@@ -55,16 +72,29 @@ fn confirm_at(router: &mut Fields, n: usize, post: &mut Post<Item<Capsule>>) -> 
     ensures edges { SameEdges post.old post.new }
     ensures visits { OnOk result (Visits confirming n router.old post.old router.new post.new) }
 {
-    let Some(ids) = take_word(&mut router.places, n) else {
-        return Ok(());
-    };
-    let (graft, peering) = (ids.graft, ids.peering);
-    let source = usize::from(ids.source.0);
-    let done = Item::Done { graft, peering };
-    note_router_sent(post, RouterEvent::Confirm { graft }, source, done)
+    let routers = router.routers;
+    match take_word(&mut router.places, n, routers) {
+        Some(Word::Ask { ids, router: asked }) => {
+            let (graft, peering) = (ids.graft, ids.peering);
+            let ask = RouterEvent::Ask {
+                graft,
+                router: asked,
+            };
+            let question = Item::Asked { graft, peering };
+            note_router_sent(post, ask, asked as usize, question)
+        }
+        Some(Word::Confirm(ids)) => {
+            let (graft, peering) = (ids.graft, ids.peering);
+            let source = usize::from(ids.source.0);
+            let done = Item::Done { graft, peering };
+            note_router_sent(post, RouterEvent::Confirm { graft }, source, done)
+        }
+        None => Ok(()),
+    }
 }
 
-/// Tells the source of each session that has landed here. Nothing is to be decided, and nothing is to be told to another router.
+/// Asks the next router about each session that has landed here, or tells its source. Nothing is to be decided, and nothing is to be told to
+/// another router.
 pub(crate) fn confirm_all(
     router: &mut Fields,
     post: &mut Post<Item<Capsule>>,

@@ -1,4 +1,4 @@
-//! Sessions that come: those that move here, those that come back, and word that one landed.
+//! Sessions that come: those that move here, those that come back, the question of their target and its answer, and word that one landed.
 
 ghost use Rattle.std.specs.Prelude.{◌≡◌, ◌<◌, ◌≤◌, ◌^◌, ◌∷◌, [], None, Some, true, is_some, length, count_by, IfOk, OnOk, MatchBool};
 ghost use Rattle.ring_net.specs.Posts.{SameEdges};
@@ -16,14 +16,14 @@ ghost use Rattle.router_core.specs.Takes.{TakesIt};
 
 use crate::config::Policies;
 use crate::fields::Fields;
-use crate::place::{Errand, Place, is_away, is_vacant};
+use crate::place::{Errand, Place, hear_answer, is_away, is_vacant};
 use crate::takes::heard::enter;
 use crate::takes::named::find_named;
 use crate::takes::prefixes::due_again;
 use crate::takes::reads::read_all;
 use bgp_session::{Capsule, Session};
 use bgp_types::{From, SessionState, TryCopy};
-use graft_actors::{note_dropped, note_router_sent};
+use graft_actors::{note_dropped, note_router, note_router_sent};
 use graft_edge::{Name, NoMemory, PeeringId, RouterId};
 use graft_model::RouterEvent;
 use graft_steps::{Item, Landed, Outcome, Refusal, admit};
@@ -104,7 +104,8 @@ fn turn_back(
     note_router_sent(post, RouterEvent::TurnBack { router: source }, from, back)
 }
 
-/// A session is live at a place, where none was, and its source is to be told: what was told on it and what is best is due. It takes the memory that was reserved for it.
+/// A session is live at a place, where none was, and routers are to be asked and its source to be told: what was told on it and what is best
+/// is due. It takes the memory that was reserved for it.
 fn make_live(
     router: &mut Fields,
     place: usize,
@@ -138,7 +139,7 @@ fn live_again(router: &mut Fields, place: usize, session: Session) -> Result<(),
     Ok(())
 }
 
-/// Takes in the routes of a session that lands, which is live then. Its source is to be told.
+/// Takes in the routes of a session that lands, which is live then. Routers are to be asked and its source to be told.
 fn settle_in(router: &mut Fields, session: Session, landed: Landed) -> Result<(), NoMemory>
     requires place { session.session.config.peering.0 < length router.old.places.places }
     requires vacant { place_at router.old.places.places session.session.config.peering.0 ≡ None }
@@ -237,6 +238,50 @@ pub(crate) fn take_back(
     )?;
     live_again(router, place, capsule.land())?;
     read_all(router, peering, post)
+}
+
+/// Answers a router that asks whether all was heard that it told: whatever came before the question is heard. The question is dropped where
+/// it isn't a router's.
+pub(crate) fn take_asked(
+    router: &mut Fields,
+    from: usize,
+    graft: u32,
+    peering: PeeringId,
+    post: &mut Post<Item<Capsule>>,
+) -> Result<(), NoMemory>
+    requires { Keeps router.old }
+    ensures edges { SameEdges post.old post.new }
+    ensures took { OnOk result (TakesIt from (items.Asked graft peering) router.old post.old router.new post.new) }
+{
+    if from >= router.routers as usize {
+        return note_dropped(post);
+    }
+    let asker = from as u32;
+    let answered = Item::Answered { graft, peering };
+    note_router_sent(post, RouterEvent::Answer { router: asker }, from, answered)
+}
+
+/// Takes the answer of a router that was asked: where the session of the peering waits for it in this graft, the next router may be asked.
+/// The answer is dropped where it isn't a router's.
+pub(crate) fn take_answered(
+    router: &mut Fields,
+    from: usize,
+    graft: u32,
+    peering: PeeringId,
+    post: &mut Post<Item<Capsule>>,
+) -> Result<(), NoMemory>
+    requires { Keeps router.old }
+    ensures edges { SameEdges post.old post.new }
+    ensures took { OnOk result (TakesIt from (items.Answered graft peering) router.old post.old router.new post.new) }
+{
+    if from >= router.routers as usize {
+        return note_dropped(post);
+    }
+    let answering = from as u32;
+    note_router(post, RouterEvent::Collect { router: answering })?;
+    let place = usize::from(peering.0);
+    hear_answer(&mut router.places, place, graft, answering);
+    Ok(())
 }
 
 /// Takes word that a session landed: its shadow ends here, with its routes. It is dropped where no shadow is of that graft.

@@ -1,4 +1,4 @@
-use Rattle.graft_model.proofs.Needs.{admits, confirms, freezes, refuses, leaves}
+use Rattle.graft_model.proofs.Needs.{admits, asks, confirms, freezes, refuses, leaves}
 use Rattle.graft_model.proofs.conditions.grafts_go_on_where_they_stand.Goals as goal
 
 -- src/conditions.rt
@@ -15,4 +15,7 @@ pub returns-clause-refuse : goal.returns-clause-refuse
 returns-clause-refuse c setup r k before after taken sent row = refuses r k before after taken sent row
 
 pub returns-clause-confirm : goal.returns-clause-confirm
-returns-clause-confirm c setup r k before after taken sent row = confirms r k before after taken sent row
+returns-clause-confirm c setup r k before after taken sent row = confirms setup r k before after taken sent row
+
+pub returns-clause-ask : goal.returns-clause-ask
+returns-clause-ask c setup r k q before after taken sent row = asks setup r k q before after taken sent row

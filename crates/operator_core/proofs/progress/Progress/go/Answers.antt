@@ -1,4 +1,4 @@
-use Rattle.std.proofs.Common.{◌≡◌, ◌+◌, ◌<◌, ◌≤◌, [], length, ap, subst, ◌∙◌, refl, map, arith}
+use Rattle.std.proofs.Common.{◌≡◌, ◌+◌, ◌<◌, ◌≤◌, length, ap, subst, ◌∙◌, refl, map, arith}
 use Rattle.operator_core.specs.Groups.{IsGroupFrom}
 use Rattle.operator_core.specs.Tasks.{task_for}
 use Rattle.operator_core.specs.States.{part_of}

@@ -1,4 +1,4 @@
-use Rattle.std.proofs.Common.{◌≡◌, ◌≤◌, [], sym, subst, length, Some, arith}
+use Rattle.std.proofs.Common.{◌≡◌, ◌≤◌, sym, subst, length, Some, arith}
 use Rattle.std.proofs.lemmas.Option.{slice_get_within}
 use Rattle.operator_core.specs.Progresses.{state, own_part_of, IsOpenPlace, Takes}
 use Rattle.graft_actors.specs.Acts.{IsWelcome}

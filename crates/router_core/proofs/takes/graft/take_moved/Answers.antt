@@ -4,7 +4,7 @@ use Rattle.std.proofs.lemmas.Result.{on_ok_weaker}
 use Rattle.bgp_session.specs.Running.{RunningSession}
 use Rattle.session_value.specs.declared.config.SessionConfig.{SessionConfig}
 use Rattle.graft_steps.specs.Refusals.{admit_refusal}
-use Rattle.graft_steps.specs.declared.order.GraftIds.{GraftIds}
+use Rattle.graft_steps.specs.Landings.{Landing}
 use Rattle.graft_model.specs.GraftRows.{refusal_of}
 use Rattle.router_core.specs.Entering.{missing_by}
 use Rattle.router_core.specs.Parts.{router_part}
@@ -63,8 +63,8 @@ pub read_all-requires : goal.read_all-requires
 read_all-requires c =
     let at_peering : c.from-place.result ≡ c.args.capsule.session.config.peering.0 = c.from-place.ensures ∙ ap (λ (k : SessionConfig). k.peering.0) c.config.ensures in
     let seen : place_at c.args.router.now.places.places c.args.capsule.session.config.peering.0 ≡ place_at c.args.router.now.places.places c.from-place.result = ap (place_at c.args.router.now.places.places) (sym at_peering) in
-    let landed_is : c.new-landed.result ≡ record { graft = c.args.graft; peering = c.args.capsule.session.config.peering; source = record { 0 = c.args.from }; target = c.args.router.now.number } =
-    c.new-landed.ensures ∙ ap (λ (k : SessionConfig). let ids : GraftIds = record { graft = c.args.graft; peering = k.peering; source = record { 0 = c.args.from }; target = c.args.router.now.number } in ids) c.config.ensures in
+    let landed_is : c.new-landed.result ≡ record { ids = record { graft = c.args.graft; peering = c.args.capsule.session.config.peering; source = record { 0 = c.args.from }; target = c.args.router.now.number }; next = 0 } =
+    c.new-landed.ensures ∙ ap (λ (k : SessionConfig). let l : Landing = record { ids = record { graft = c.args.graft; peering = k.peering; source = record { 0 = c.args.from }; target = c.args.router.now.number }; next = 0 } in l) c.config.ensures in
     let settles : SettlesIn c.args.router.now c.args.capsule c.new-landed.result c.settle_in.new.router = subst (λ (s : RunningSession). SettlesIn c.args.router.now s c.new-landed.result c.settle_in.new.router) c.land.ensures c.in_ok-settle_in.ensures in
     let cause : refusal_of c.args.router.now.known.setup c.args.router.now.number.0 (router_part c.args.router.now) c.args.capsule.session ≡ None =
     sym (refusal_is c.args.router.now c.args.capsule.session c.requires) ∙ ap (λ (k : SessionConfig). admit_refusal (count_by is_some c.args.router.now.places.places) c.args.router.now.room (missing_by c.args.router.now.policies k)) (sym c.config-2.ensures) ∙ sym c.in_ok-refusal.ensures ∙ c.in_default.is in
@@ -75,8 +75,8 @@ pub returns-clause-took : goal.returns-clause-took
 returns-clause-took c =
     let at_peering : c.from-place.result ≡ c.args.capsule.session.config.peering.0 = c.from-place.ensures ∙ ap (λ (k : SessionConfig). k.peering.0) c.config.ensures in
     let seen : place_at c.args.router.now.places.places c.args.capsule.session.config.peering.0 ≡ place_at c.args.router.now.places.places c.from-place.result = ap (place_at c.args.router.now.places.places) (sym at_peering) in
-    let landed_is : c.new-landed.result ≡ record { graft = c.args.graft; peering = c.args.capsule.session.config.peering; source = record { 0 = c.args.from }; target = c.args.router.now.number } =
-    c.new-landed.ensures ∙ ap (λ (k : SessionConfig). let ids : GraftIds = record { graft = c.args.graft; peering = k.peering; source = record { 0 = c.args.from }; target = c.args.router.now.number } in ids) c.config.ensures in
+    let landed_is : c.new-landed.result ≡ record { ids = record { graft = c.args.graft; peering = c.args.capsule.session.config.peering; source = record { 0 = c.args.from }; target = c.args.router.now.number }; next = 0 } =
+    c.new-landed.ensures ∙ ap (λ (k : SessionConfig). let l : Landing = record { ids = record { graft = c.args.graft; peering = k.peering; source = record { 0 = c.args.from }; target = c.args.router.now.number }; next = 0 } in l) c.config.ensures in
     let settles : SettlesIn c.args.router.now c.args.capsule c.new-landed.result c.settle_in.new.router = subst (λ (s : RunningSession). SettlesIn c.args.router.now s c.new-landed.result c.settle_in.new.router) c.land.ensures c.in_ok-settle_in.ensures in
     let cause : refusal_of c.args.router.now.known.setup c.args.router.now.number.0 (router_part c.args.router.now) c.args.capsule.session ≡ None =
     sym (refusal_is c.args.router.now c.args.capsule.session c.requires) ∙ ap (λ (k : SessionConfig). admit_refusal (count_by is_some c.args.router.now.places.places) c.args.router.now.room (missing_by c.args.router.now.policies k)) (sym c.config-2.ensures) ∙ sym c.in_ok-refusal.ensures ∙ c.in_default.is in
