@@ -153,7 +153,7 @@ impl Bench {
     fn log(&self, alloc: Global) -> Result<String> {
         match &self.actor {
             Actor::FarSide(_) => bail!("the operator's"),
-            Actor::TheOperator(operator) => log_text(alloc, operator.log()),
+            Actor::TheOperator(operator) => log_text(alloc, &operator.log()?),
         }
     }
 

@@ -1,8 +1,9 @@
 -- Which routers take the peerings that a router gives away. The routers are the numbers below the length of two lists:
 -- each router's load, which is how many peerings it holds, and its room, which is how many it may hold.
-use Rattle.std.specs.Prelude.{◌≡◌, ◌≢◌, ◌⊎◌, ℕ, suc, ◌+◌, ◌-◌, ◌<◌, ◌≤◌, ◌==◌, Bool, false, if◌then◌else◌, List, [], ◌∷◌, length}
-use Rattle.std.specs.Prelude.{Option, Some, None, is_some, count_by, sum_by, slice_index, slice_set}
+use Rattle.std.specs.Prelude.{◌≡◌, ◌≢◌, ◌⊎◌, ℕ, zero, suc, ◌+◌, ◌-◌, ◌<◌, ◌≤◌, ◌==◌, ◌&&◌, not, nat_lt, nat_le, Bool, false, if◌then◌else◌, List, [], ◌∷◌, length}
+use Rattle.std.specs.Prelude.{Option, Some, None, is_some, count_by, sum_by, filter, slice_index, slice_set}
 use Rattle.std.specs.List.{range_with_len}
+use Rattle.std.specs.Option.{option_map}
 use Rattle.graft_edge.specs.declared.ids.RouterId.{RouterId}
 
 -- for each peering in turn, the router that it goes to, or none
@@ -41,6 +42,35 @@ pub data Plan (rooms : List ℕ) (from : ℕ) : List ℕ → ℕ → TargetList 
       → Plan rooms from (one_more loads r.0) count targets → Plan rooms from loads (suc count) (Some r ∷ targets)
   NotGiven : {loads : List ℕ} {count : ℕ} {targets : TargetList} → IsFull loads rooms from
       → Plan rooms from loads count targets → Plan rooms from loads (suc count) (None ∷ targets)
+
+-- the routers other than `from` whose load is below their room
+abbrev pub free_routers : List ℕ → List ℕ → ℕ → List ℕ
+free_routers loads rooms from = filter (λ r. not (r == from) && nat_lt (slice_index loads r) (slice_index rooms r)) (range_with_len 0 (length loads))
+
+-- of a router and another one after it, the one with less load, or the first
+abbrev pub lesser : List ℕ → ℕ → Option ℕ → Option ℕ
+lesser loads r None = Some r
+lesser loads r (Some q) = if nat_le (slice_index loads r) (slice_index loads q) then Some r else Some q
+
+-- the first of some routers with the least load
+abbrev pub least_of : List ℕ → List ℕ → Option ℕ
+least_of loads [] = None
+least_of loads (r ∷ routers) = lesser loads r (least_of loads routers)
+
+-- the router that the next peering goes to, if there is one
+abbrev pub next_router : List ℕ → ℕ → List ℕ → Option ℕ
+next_router rooms from loads = least_of loads (free_routers loads rooms from)
+
+-- the loads once a peering is given
+abbrev pub loads_with : Option ℕ → List ℕ → List ℕ
+loads_with None loads = loads
+loads_with (Some r) loads = one_more loads r
+
+-- the plan, as a list
+abbrev pub plan_for : List ℕ → ℕ → List ℕ → ℕ → TargetList
+plan_for rooms from loads zero = []
+plan_for rooms from loads (suc count) =
+    option_map (λ r. record { 0 = r }) (next_router rooms from loads) ∷ plan_for rooms from (loads_with (next_router rooms from loads) loads) count
 
 -- whether a target is this router
 abbrev pub is_router : ℕ → Option RouterId → Bool

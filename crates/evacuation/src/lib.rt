@@ -3,7 +3,7 @@
 
 ghost use Rattle.std.specs.Prelude.{◌≡◌, ◌≤◌, ◌<◌, ◌↔◌, ℕ, IsTrue, IfOk, IfNone, IfSome, MatchOption, List, length, min, slice_index};
 ghost use Rattle.std.specs.Option.{ForSome};
-ghost use Rattle.evacuation.specs.Plans.{AreAtMost, GivesAll, IsFree, IsFull, IsLeast, KeepsRooms, Plan, TargetList, free_places, number_given};
+ghost use Rattle.evacuation.specs.Plans.{AreAtMost, GivesAll, IsFree, IsFull, IsLeast, KeepsRooms, Plan, TargetList, free_places, number_given, plan_for};
 
 use graft_edge::{Items, NoMemory, RouterId};
 use std::alloc::Global;
@@ -98,4 +98,24 @@ pub fn plan(
 pub fn a_plan_is_the_only_one()
     ensures { (rooms loads : List ℕ) (from count : ℕ) (one other : TargetList)
         → Plan rooms from loads count one → Plan rooms from loads count other → one ≡ other }
+{}
+
+/// There is a plan for any loads, rooms and number of peerings, and this list is it.
+pub fn there_is_a_plan()
+    ensures { (rooms loads : List ℕ) (from count : ℕ) → Plan rooms from loads count (plan_for rooms from loads count) }
+{}
+
+/// A plan keeps the rooms and has a target or none for each peering. It gives as many as there are free places for, and
+/// where it gives all, no other way to give all has a lower greatest load among the other routers.
+pub fn plans_keep_rooms_and_loads()
+    ensures room { (rooms loads : List ℕ) (from count : ℕ) (targets : TargetList) → Plan rooms from loads count targets
+        → KeepsRooms loads rooms from targets }
+    ensures number { (rooms loads : List ℕ) (from count : ℕ) (targets : TargetList) → Plan rooms from loads count targets
+        → length targets ≡ count }
+    ensures as_many { (rooms loads : List ℕ) (from count : ℕ) (targets : TargetList) → Plan rooms from loads count targets
+        → number_given targets ≡ min count (free_places loads rooms from) }
+    ensures least { (rooms loads : List ℕ) (from count : ℕ) (targets : TargetList) → Plan rooms from loads count targets
+        → number_given targets ≡ count
+        → (other : TargetList) → GivesAll loads rooms from count other
+        → (most : ℕ) → AreAtMost most loads from other → AreAtMost most loads from targets }
 {}

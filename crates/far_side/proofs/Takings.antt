@@ -16,7 +16,7 @@ use Rattle.tcp_seq.specs.declared.segment.Way.{Way}
 use Rattle.tcp_seq.specs.declared.segment.Way.TheVariants.{Remote}
 use Rattle.session_value.specs.Sessions.{SessionValue}
 use Rattle.session_value.specs.Cases.{sending}
-use Rattle.graft_model.specs.Setups.{ScriptStep, SayStep, MoveStep, SettleStep, routers_in, peerings_in}
+use Rattle.graft_model.specs.Setups.{ScriptStep, SayStep, MoveStep, EvacuateStep, SettleStep, routers_in, peerings_in}
 use Rattle.graft_model.specs.Parts.{FarPart, Seg, PointAt}
 use Rattle.graft_model.specs.FarRows.{FarTaken, OutwardIn, SayIn}
 use Rattle.graft_model.specs.declared.event.FarEvent.{FarEvent}
@@ -347,4 +347,5 @@ module _ {C : Type 0} (f : Fields) (p q : Post (Item C)) (from : ℕ) (keeps : K
       step_of None h = absurd (let x : ⊥ = cc in x)
       step_of (Some (SayStep q xs)) h = by_test q xs (q == f.peering.0) refl h
       step_of (Some (MoveStep q target)) h = absurd (let x : ⊥ = cc in x)
+      step_of (Some (EvacuateStep router)) h = absurd (let x : ⊥ = cc in x)
       step_of (Some SettleStep) h = absurd (let x : ⊥ = cc in x)

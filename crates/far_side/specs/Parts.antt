@@ -4,7 +4,7 @@ use Rattle.std.specs.List.{AllByRecursion}
 use Rattle.tcp_seq.specs.declared.segment.Way.{Way}
 use Rattle.tcp_seq.specs.declared.segment.Way.TheVariants.{Home, Remote}
 use Rattle.session_value.specs.Sessions.{SessionValue}
-use Rattle.graft_model.specs.Setups.{ScriptStep, SayStep, MoveStep, SettleStep, beat_of, routers_in, peerings_in}
+use Rattle.graft_model.specs.Setups.{ScriptStep, SayStep, MoveStep, EvacuateStep, SettleStep, beat_of, routers_in, peerings_in}
 use Rattle.graft_model.specs.Parts.{FarPart}
 use Rattle.graft_runs.specs.Actors.{FarSide, FarIs}
 use Rattle.graft_actors.specs.Items.{home_first, remote_first}
@@ -32,6 +32,7 @@ abbrev pub say_by : ℕ → Option ScriptStep → Option (List ℕ)
 say_by p None = None
 say_by p (Some (SayStep q bytes)) = if q == p then Some bytes else None
 say_by p (Some (MoveStep q target)) = None
+say_by p (Some (EvacuateStep router)) = None
 say_by p (Some SettleStep) = None
 
 -- a link leads this way, and counts from these first numbers

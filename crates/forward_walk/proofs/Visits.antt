@@ -1,18 +1,17 @@
 -- The loop of a walk: which routers were met, and that what is left of the walk is the rest of the whole.
-use Rattle.std.proofs.Common.{ℕ, zero, suc, ◌≡◌, ◌<◌, Bool, true, false, List, [], ◌∷◌, length, refl, sym, ap, ◌∙◌, subst, arith, inl, inr}
+use Rattle.std.proofs.Common.{ℕ, zero, suc, ◌≡◌, ◌<◌, Bool, true, false, List, [], ◌∷◌, length, refl, sym, ap, ◌∙◌, subst, arith, inl, inr, replicate}
 use Rattle.std.specs.Prelude.{Contains, slice_index_or, slice_set, ◌↔◌, ◌⊎◌}
 use Rattle.std.proofs.lemmas.Bool.{cases_eq}
-use Rattle.std.proofs.lemmas.List.{length-set, get_or-set_same, get_or-set_other}
+use Rattle.std.proofs.lemmas.List.{length-replicate, length-set, get_or-set_same, get_or-set_other}
 use Rattle.std.proofs.lemmas.List.Elements.{Contains-append_cases, Contains-append_right}
 use Rattle.bgp_types.specs.Prefixes.{PrefixValue}
 use Rattle.bgp_types.specs.declared.rank.From.{From}
 use Rattle.bgp_types.specs.declared.rank.From.TheVariants.{Own, Peering, Router}
 use Rattle.graft_edge.specs.declared.ids.RouterId.{RouterId}
 use Rattle.graft_edge.specs.declared.ids.PeeringId.{PeeringId}
-use Rattle.forward_walk.specs.declared.forwarder.TheConstants.{MAX_ROUTERS}
 use Rattle.forward_walk.specs.declared.walk.Walk.{Walk}
 use Rattle.forward_walk.specs.declared.walk.Walk.TheVariants.{Leaves, Local, NoRoute, Loop}
-use Rattle.forward_walk.specs.Tables.{ForwardMap, AreSound, table_of}
+use Rattle.forward_walk.specs.Tables.{ForwardMap, table_of}
 use Rattle.forward_walk.specs.Walks.{HasEntry, HasNone, WalksTo}
 use Rattle.forward_walk.specs.Walks.WalksTo.{MetAgain, NoEntry, FromOwn, FromPeering, FromRouter}
 use Rattle.forward_walk.proofs.OneWalk.{Answer, answer}
@@ -25,9 +24,22 @@ Marks marks met = (r : RouterId) → (slice_index_or marks r.0 false ≡ true) �
 pub record Goes (tables : List ForwardMap) (address : ℕ) (from : RouterId) (marks : List Bool) (at : RouterId) : Type 0 where
   pub met : List RouterId
   pub marked : Marks marks met
-  pub full : length marks ≡ MAX_ROUTERS
-  pub in_range : at.0 < length tables
+  pub full : length marks ≡ 256
   pub rest : (walk : Walk) → WalksTo tables address met at walk → WalksTo tables address [] from walk
+
+no_marks : (n k : ℕ) → slice_index_or (replicate n false) k false ≡ false
+no_marks zero k = refl
+no_marks (suc n) zero = refl
+no_marks (suc n) (suc k) = no_marks n k
+
+-- at first no router was met
+pub sets_out : (tables : List ForwardMap) (address : ℕ) (from : RouterId) → Goes tables address from (replicate 256 false) from
+sets_out tables address from = record {
+  met = [];
+  marked = λ r. (λ t. let e = no_marks 256 r.0 in absurd cc, λ k. absurd (omega (arith, k.1)));
+  full = length-replicate 256 false;
+  rest = λ walk w. w;
+}
 
 first : (at : RouterId) (met : List RouterId) → Contains (at ∷ met) at
 first at met = (0, omega arith, refl)
@@ -81,11 +93,10 @@ module _ (tables : List ForwardMap) (address : ℕ) (from : RouterId) (marks : L
       pub ends_out : (peering : PeeringId) → by ≡ Peering peering → Answer tables address from (Leaves at peering p)
       ends_out peering same = answer tables address from (Leaves at peering p) (goes.rest (Leaves at peering p) (FromPeering (anew new) (entry_at (Peering peering) same)))
 
-      pub goes_on : AreSound tables → (next : RouterId) → by ≡ Router next → Goes tables address from (slice_set marks place true) next
-      goes_on sound next same = record {
+      pub goes_on : at.0 < 256 → (next : RouterId) → by ≡ Router next → Goes tables address from (slice_set marks place true) next
+      goes_on fits next same = record {
         met = at ∷ goes.met;
-        marked = subst (λ (k : ℕ). Marks (slice_set marks k true) (at ∷ goes.met)) (sym here) (marked_more marks goes.met at (omega (arith, goes.full, goes.in_range, sound.few)) goes.marked);
+        marked = subst (λ (k : ℕ). Marks (slice_set marks k true) (at ∷ goes.met)) (sym here) (marked_more marks goes.met at (omega (arith, goes.full, fits)) goes.marked);
         full = length-set marks place true ∙ goes.full;
-        in_range = sound.named at next p (entry_at (Router next) same).entry;
         rest = λ walk w. goes.rest walk (FromRouter (anew new) (entry_at (Router next) same) w);
       }

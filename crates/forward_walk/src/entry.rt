@@ -9,8 +9,8 @@ pub struct ForwardEntry {
     pub from: From,
 }
 
-/// A router's entries, with each prefix once.
+/// A router's entries. Where a prefix stands twice, the first entry counts.
 pub type ForwardTable = Items<ForwardEntry>;
 
-/// The tables of the routers, by their numbers.
+/// The tables of the routers, by their numbers. A router beyond the last has none.
 pub type ForwardTables = Items<ForwardTable>;

@@ -8,6 +8,6 @@ mod laws;
 mod walk;
 
 pub use entry::{ForwardEntry, ForwardTable, ForwardTables};
-pub use forwarder::{Forwarder, MAX_ROUTERS};
+pub use forwarder::Forwarder;
 pub use laws::walks_end;
 pub use walk::Walk;

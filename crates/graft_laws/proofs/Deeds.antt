@@ -5,13 +5,13 @@ use Rattle.std.proofs.lemmas.List.{append-nil}
 use Rattle.std.specs.Prelude.{◌≢◌, ◌⊎◌, filter, IsSome}
 use Rattle.std.specs.List.{AllByRecursion}
 use Rattle.session_value.specs.Sessions.{SessionValue}
-use Rattle.graft_model.specs.Setups.{Setup, ScriptGraft, peerings_in, room_of}
+use Rattle.graft_model.specs.Setups.{Setup, ScriptGraft, peerings_in, room_of, graft_at}
 use Rattle.graft_model.specs.Parts.{Place, Vacant, Mesh, RouterPart, GraftOrder, Report, World}
 use Rattle.graft_model.specs.RouterRows.{RouterTaken, OrderIn, MeshIn, RouterSent, MeshTo, ReportOut}
 use Rattle.graft_model.specs.GraftRows.{taken_in}
 use Rattle.graft_model.specs.Steps.{Heads}
 use Rattle.graft_laws.specs.Phases.{Phase, only, only2}
-use Rattle.graft_laws.specs.Log.{graft_at, is_peering, is_of}
+use Rattle.graft_laws.specs.Log.{is_peering, is_of}
 use Rattle.graft_laws.specs.Owned.{is_on, mesh_of, orders_of, Stands, IsAbsent, Owned}
 use Rattle.graft_laws.specs.Moves.{mesh_taken, orders_taken, reports_sent, RouterMoves}
 use Rattle.graft_laws.proofs.Others.{AreOthers, Apart, absent_still, untouched_by_router}

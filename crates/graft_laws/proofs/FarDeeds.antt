@@ -1,31 +1,38 @@
 -- What the events of far sides and of the operator do.
-use Rattle.std.proofs.Common.{◌≡◌, ◌==◌, cond, ℕ, ◌<◌, Bool, true, false, List, [], ◌∷◌, ◌++◌, Option, Some, None, refl, sym, ap, ◌∙◌, subst, arith, inl, inr}
+use Rattle.std.proofs.Common.{◌≡◌, ◌==◌, cond, ℕ, ◌+◌, ◌<◌, Bool, true, false, List, [], ◌∷◌, ◌++◌, Option, Some, None, refl, sym, ap, ◌∙◌, subst, arith, inl, inr}
 use Rattle.std.proofs.lemmas.Bool.Decides.{nat_tests}
 use Rattle.std.proofs.lemmas.List.{append-nil}
-use Rattle.std.proofs.lemmas.Option.{slice_get_within, get_or_from_slice_get}
-use Rattle.std.specs.Prelude.{◌≢◌, slice_get}
+use Rattle.std.specs.Prelude.{◌≢◌}
 use Rattle.graft_steps.specs.declared.refusal.Outcome.{Outcome}
 use Rattle.graft_steps.specs.declared.refusal.Outcome.TheVariants.{Accepted, Refused}
 use Rattle.tcp_seq.specs.Endpoint.{PlacedSegment}
 use Rattle.session_value.specs.Sessions.{SessionValue}
 use Rattle.graft_model.specs.Points.{at}
-use Rattle.graft_model.specs.Setups.{Setup, SayStep, MoveStep, IsSetup, IsStep, routers_in, peerings_in, graft_number}
+use Rattle.graft_model.specs.Setups.{Setup, ScriptGraft, IsSetup, routers_in, peerings_in, group_of}
 use Rattle.graft_model.specs.Parts.{RouterPart, FarPart, OperatorPart, Mesh, Outward, GraftOrder, Report, World}
 use Rattle.graft_model.specs.FarRows.{FarTaken, OutwardIn, SayIn, FarSent}
-use Rattle.graft_model.specs.OperatorRows.{OperatorTaken, ReportIn, OperatorSent, OrderTo, SayTo, OrdersSay, OrdersGraft, Notes, BeginsGroup, placement}
+use Rattle.graft_model.specs.OperatorRows.{OperatorTaken, ReportIn, OperatorSent, OrderTo, SayTo, OrdersSay, OrdersGraft, Notes, BeginsGroup}
+use Rattle.graft_model.specs.Placements.{placement}
+use Rattle.graft_model.specs.Evacuations.{with_gifts}
+use Rattle.graft_model.specs.Quiet.{Quiet}
 use Rattle.graft_model.specs.declared.event.FarEvent.{FarEvent}
 use Rattle.graft_model.specs.declared.event.OperatorEvent.{OperatorEvent}
 use Rattle.graft_model.specs.declared.event.OperatorEvent.TheVariants.{Order, Note, Go}
-use Rattle.graft_model.specs.Steps.{far_row, operator_row}
-use Rattle.graft_laws.specs.Phases.{Stage, Ordered, Declined, Cleared, Phase, Idle, Busy, only, only2, place_by, mesh_by, orders_by, reports_by}
+use Rattle.graft_model.specs.Steps.{far_row, operator_row, MayMake}
+use Rattle.graft_laws.specs.Phases.{Stage, Ordered, Declined, Cleared, Phase, Idle, Busy, source_of, only, only2, place_by, mesh_by, orders_by, reports_by}
 use Rattle.graft_laws.specs.Log.{is_of, LogSays}
 use Rattle.graft_laws.specs.Owned.{mesh_of, orders_of, reports_of, Stands, IsAbsent}
 use Rattle.graft_laws.specs.Moves.{FarMoves, OperatorMoves, outward_taken, inward_sent, says_taken, orders_sent, says_sent, reports_taken}
 use Rattle.graft_laws.specs.Life.{Grafts, SameLine, LineSays, SameEntries, Change, Rests, FarActs, Begins, NotesRefusal, NotesSuccess, IsToSay}
 use Rattle.graft_laws.proofs.Phases.{refusal_in, success_in}
-use Rattle.graft_laws.proofs.Others.{SameLog, absent_still, untouched_by_far, untouched_by_operator, still_sent, still_taken}
-use Rattle.graft_laws.proofs.LogOrders.{order_others, order_own}
+use Rattle.graft_laws.proofs.Others.{KeepsLog, SameLog, same_if, absent_still, untouched_by_far, untouched_by_operator, still_sent, still_taken}
+use Rattle.graft_laws.proofs.LogOrders.{order_others, MayOrder, order_own}
 use Rattle.graft_laws.proofs.LogNotes.{with_outcome, note_others, refused_log, accepted_log}
+use Rattle.graft_model.proofs.Gifts.{given_stays}
+use Rattle.graft_laws.proofs.Logs.{log_kept}
+use Rattle.graft_laws.proofs.Gifts.{GivesToRouters}
+use Rattle.graft_laws.proofs.GraftBounds.{graft_within, target_within}
+use Rattle.graft_laws.proofs.QuietPhases.{quiet_idle}
 use Rattle.graft_laws.proofs.Rests.{stands_still, rests}
 use Rattle.graft_laws.proofs.Following.{Followed, at_phase, at_other, own_only, none_only, own_channel, own_head}
 use Rattle.graft_laws.proofs.Deeds.{Each, equal_or_not, differs}
@@ -120,16 +127,12 @@ operator_as setup w v taken known sent items part e f each =
 
 -- ---- a step is to be said
 
-say_issued : (setup : Setup) (p q step : ℕ) (bytes : List ℕ) (before part : OperatorPart) → slice_get setup.steps step ≡ Some (SayStep q bytes) → part ≡ record before { issued = at before.issued step true } → SameLog setup p before part
-say_issued setup p q step bytes before part is effect = record {
-  source = λ k own. ap (λ (x : OperatorPart). x.source k) effect;
-  outcome = λ k own. ap (λ (x : OperatorPart). x.outcome k) effect;
-  issued = λ n t e. ap (λ (x : OperatorPart). x.issued n) effect ∙ at_other before.issued step n true (λ same. (let f : Some (MoveStep p t) ≡ Some (SayStep q bytes) = sym e ∙ (ap (slice_get setup.steps) same ∙ is) in absurd cc));
-}
+say_issued : (setup : Setup) (p step : ℕ) (before part : OperatorPart) → part ≡ record before { issued = at before.issued step true } → SameLog setup p before part
+say_issued setup p step before part effect = subst (λ (x : OperatorPart). SameLog setup p before x) (sym effect) (same_if setup p before (record before { issued = at before.issued step true }) refl refl (λ k own. refl) (λ k own. refl))
 
-say_each : (setup : Setup) (w v : World) (step : ℕ) (taken : Option OperatorTaken) (sent : List OperatorSent) (part : OperatorPart) → OrdersSay setup step w.operator taken sent part → OperatorMoves taken sent part w v → Each setup w v
-say_each setup w v step taken sent part row = operator_as setup w v taken None sent (SayTo row.peering step ∷ []) part row.takes row.sends (λ m.
-    let same : (p : ℕ) → SameLog setup p w.operator part = λ p. say_issued setup p row.peering step row.bytes w.operator part row.is row.effect in
+say_each : (setup : Setup) (w v : World) (step number : ℕ) (taken : Option OperatorTaken) (sent : List OperatorSent) (part : OperatorPart) → OrdersSay setup step number w.operator taken sent part → OperatorMoves taken sent part w v → Each setup w v
+say_each setup w v step number taken sent part row = operator_as setup w v taken None sent (SayTo row.peering step ∷ []) part row.takes row.sends (λ m.
+    let same : (p : ℕ) → SameLog setup p w.operator part = λ p. say_issued setup p step w.operator part row.effect in
     record {
       absent = λ p past. still_absent p w v None (SayTo row.peering step ∷ []) part m (λ b. refl);
       known = λ p l phase s b. elim (equal_or_not p row.peering) [
@@ -148,16 +151,9 @@ say_each setup w v step taken sent part row = operator_as setup w v taken None s
 
 -- ---- a graft is ordered
 
-pub step_is : (setup : Setup) (n p t : ℕ) → IsSetup setup → slice_get setup.steps n ≡ Some (MoveStep p t) → (p < peerings_in setup) × (t < routers_in setup)
-step_is setup n p t ok is =
-    subst (IsStep setup) (get_or_from_slice_get setup.steps n (MoveStep p t) (MoveStep p t) is) (ok.steps n (MoveStep p t) (slice_get_within setup.steps n (MoveStep p t) is))
-
-module _ (setup : Setup) (w v : World) (n p t : ℕ) (part : OperatorPart) where
+module _ (setup : Setup) (w v : World) (k p t : ℕ) (part : OperatorPart) where
   abbrev source : ℕ
   source = placement setup w.operator p
-
-  abbrev k : ℕ
-  k = graft_number setup n
 
   abbrev order : GraftOrder
   order = record { graft = k; peering = p; target = t }
@@ -179,31 +175,44 @@ module _ (setup : Setup) (w v : World) (n p t : ℕ) (part : OperatorPart) where
     change = Grafts Begins (operator_line p w v None (OrderTo source order ∷ []) part m refl) (entries_still p w v m.router);
   }
 
-graft_each : (setup : Setup) (w v : World) (n : ℕ) (taken : Option OperatorTaken) (sent : List OperatorSent) (part : OperatorPart) → IsSetup setup → OrdersGraft setup n w.operator taken sent part → OperatorMoves taken sent part w v
-    → Each setup w v
-graft_each setup w v n taken sent part ok row =
-    let q : ℕ = row.peering in
+may_order : (setup : Setup) (n number : ℕ) (before part : OperatorPart) (taken : Option OperatorTaken) (sent : List OperatorSent) (row : OrdersGraft setup n number before taken sent part) → MayOrder setup before row.graft row.target
+may_order setup n number before part taken sent row = record {
+  known = row.known;
+  group = ap (group_of setup) row.by_step ∙ row.group;
+  is = row.is;
+  unordered = row.unordered;
+  unended = row.unended;
+  earlier = row.earlier;
+}
+
+graft_each : (setup : Setup) (w v : World) (n number : ℕ) (taken : Option OperatorTaken) (sent : List OperatorSent) (part : OperatorPart) → IsSetup setup → GivesToRouters setup w.operator
+    → OrdersGraft setup n number w.operator taken sent part → OperatorMoves taken sent part w v → Each setup w v
+graft_each setup w v n number taken sent part ok given row =
+    let g : ScriptGraft = row.graft in
+    let q : ℕ = g.peering in
     let source : ℕ = placement setup w.operator q in
-    let o : GraftOrder = record { graft = graft_number setup n; peering = q; target = row.target } in
-    let bounds : (q < peerings_in setup) × (row.target < routers_in setup) = step_is setup n q row.target ok row.is in
+    let o : GraftOrder = record { graft = g.graft; peering = q; target = row.target } in
+    let known : q < peerings_in setup = graft_within setup g.graft g ok row.known in
     operator_as setup w v taken None sent (OrderTo source o ∷ []) part row.takes row.sends (λ m.
     let none : (p : ℕ) → p ≢ q → (b : ℕ) → orders_of p (only source o b ++ []) ≡ [] = λ p ne b. ap (orders_of p) (append-nil (only source o b)) ∙ none_only (λ (x : GraftOrder). x.peering == p) o source b (differs p q ne) in
     record {
       absent = λ p past. still_absent p w v None (OrderTo source o ∷ []) part m (none p (λ is. omega arith));
       known = λ p l phase s b. elim (equal_or_not p q) [
-        | inl e ↦ subst (λ (x : ℕ). Stands setup w x phase s → Followed setup w v x phase s) (sym e) (own phase s bounds.1 m) b
+        | inl e ↦ subst (λ (x : ℕ). Stands setup w x phase s → Followed setup w v x phase s) (sym e) (own phase s m) b
         | inr ne ↦ operator_rests setup w v p None (OrderTo source o ∷ []) part phase s m (none p ne) (λ i. refl) refl
-            (subst (λ (x : OperatorPart). SameLog setup p w.operator x) (sym row.effect) (order_others setup w.operator n q row.target source row.is p ne)) b
+            (subst (λ (x : OperatorPart). SameLog setup p w.operator x) (sym row.effect) (order_others setup w.operator g source p row.known ne)) b
       ];
     })
   where
-    own : (phase : Phase) (s : SessionValue) → row.target < routers_in setup
-        → OperatorMoves None (OrderTo (placement setup w.operator row.peering) (record { graft = graft_number setup n; peering = row.peering; target = row.target }) ∷ []) part w v
-        → Stands setup w row.peering phase s → Followed setup w v row.peering phase s
-    own phase s below m b =
-        let says = order_own setup w.operator n row.peering row.target row.is row.next.unissued row.earlier phase b.log in
-        at_phase setup w v row.peering phase (Idle (placement setup w.operator row.peering)) s says.was
-        (ordered_stands setup w v n row.peering row.target part s m (subst (λ (x : OperatorPart). LogSays setup x row.peering (Busy (placement setup w.operator row.peering) (graft_number setup n) row.target Ordered)) (sym row.effect) says.log) below) b
+    own : (phase : Phase) (s : SessionValue)
+        → OperatorMoves None (OrderTo (placement setup w.operator row.graft.peering) (record { graft = row.graft.graft; peering = row.graft.peering; target = row.target }) ∷ []) part w v
+        → Stands setup w row.graft.peering phase s → Followed setup w v row.graft.peering phase s
+    own phase s m b =
+        let says = order_own setup w.operator row.graft row.target (may_order setup n number w.operator part taken sent row) phase b.log in
+        at_phase setup w v row.graft.peering phase (Idle (placement setup w.operator row.graft.peering)) s says.was
+        (ordered_stands setup w v row.graft.graft row.graft.peering row.target part s m
+        (subst (λ (x : OperatorPart). LogSays setup x row.graft.peering (Busy (placement setup w.operator row.graft.peering) row.graft.graft row.target Ordered)) (sym row.effect) says.log)
+        (target_within setup w.operator row.graft row.target ok given row.is)) b
 
 -- ---- an outcome is noted
 
@@ -256,17 +265,40 @@ note_each setup w v r taken sent part row = operator_as setup w v taken (Some (R
 
 -- ---- the next group
 
-go_each : (setup : Setup) (w v : World) (taken : Option OperatorTaken) (sent : List OperatorSent) (part : OperatorPart) → BeginsGroup setup w.operator taken sent part → OperatorMoves taken sent part w v → Each setup w v
-go_each setup w v taken sent part row = operator_as setup w v taken None sent [] part row.takes row.sends (λ m.
+-- As a group begins, the log keeps what it has of the grafts of the groups before.
+pub begun_log : (setup : Setup) (p : ℕ) (before : OperatorPart) → KeepsLog setup p before (with_gifts setup (record before { group = before.group + 1 }))
+begun_log setup p before = record {
+  group = omega arith;
+  given = λ g own begun. given_stays setup (record before { group = before.group + 1 }) g own.0 (λ (same : group_of setup g.step ≡ before.group + 1). omega arith);
+  source = λ k own. refl;
+  outcome = λ k own. refl;
+}
+
+begun_stands : (setup : Setup) (w v : World) (p q : ℕ) (part : OperatorPart) (s : SessionValue) → OperatorMoves None [] part w v → KeepsLog setup p w.operator part → Stands setup w p (Idle q) s → Stands setup v p (Idle q) s
+begun_stands setup w v p q part s m kept b = record {
+  places = λ r. ap (λ (f : ℕ → RouterPart). (f r).places p) m.router ∙ b.places r;
+  mesh = λ i j. ap (λ (f : ℕ → ℕ → List Mesh). mesh_of p (f i j)) m.mesh ∙ b.mesh i j;
+  orders = λ r. still_sent (λ o. o.peering == p) (v.orders r) (w.orders r) [] (m.orders r) refl ∙ b.orders r;
+  reports = λ r. still_taken (λ o. is_of setup p o.graft) [] (v.reports r) (w.reports r) (m.reports r) refl ∙ b.reports r;
+  log = subst (λ (o : OperatorPart). LogSays setup o p (Idle q)) (sym m.operator) (log_kept setup p w.operator part kept (Idle q) tt b.log);
+  bounds = b.bounds;
+}
+
+go_each : (setup : Setup) (w v : World) (taken : Option OperatorTaken) (sent : List OperatorSent) (part : OperatorPart) → Quiet setup w → BeginsGroup setup w.operator taken sent part → OperatorMoves taken sent part w v → Each setup w v
+go_each setup w v taken sent part quiet row = operator_as setup w v taken None sent [] part row.takes row.sends (λ m.
     record {
       absent = λ p past. still_absent p w v None [] part m (λ b. refl);
-      known = λ p l phase s b. operator_rests setup w v p None [] part phase s m (λ i. refl) (λ i. refl) refl
-          (subst (λ (x : OperatorPart). SameLog setup p w.operator x) (sym row.effect) (record { source = λ k own. refl; outcome = λ k own. refl; issued = λ n t e. refl })) b;
+      known = λ p l phase s b. at_phase setup w v p phase (Idle (source_of phase)) s (quiet_idle setup w p phase s quiet b) (λ was. record {
+        next = Idle (source_of phase);
+        session = s;
+        stands = begun_stands setup w v p (source_of phase) part s m (subst (λ (x : OperatorPart). KeepsLog setup p w.operator x) (sym row.effect) (begun_log setup p w.operator)) was;
+        change = Rests (operator_line p w v None [] part m refl) (entries_still p w v m.router);
+      }) b;
     })
 
-pub operator_each : (setup : Setup) (w v : World) (event : OperatorEvent) (taken : Option OperatorTaken) (sent : List OperatorSent) (part : OperatorPart) → IsSetup setup → operator_row setup event w.operator taken sent part
-    → OperatorMoves taken sent part w v → Each setup w v
-operator_each setup w v (Order n) taken sent part ok (inl row) m = say_each setup w v n taken sent part row m
-operator_each setup w v (Order n) taken sent part ok (inr row) m = graft_each setup w v n taken sent part ok row m
-operator_each setup w v (Note r) taken sent part ok row m = note_each setup w v r taken sent part row m
-operator_each setup w v Go taken sent part ok row m = go_each setup w v taken sent part row m
+pub operator_each : (setup : Setup) (w v : World) (event : OperatorEvent) (taken : Option OperatorTaken) (sent : List OperatorSent) (part : OperatorPart) → IsSetup setup → GivesToRouters setup w.operator
+    → MayMake setup event w → operator_row setup event w.operator taken sent part → OperatorMoves taken sent part w v → Each setup w v
+operator_each setup w v (Order n number) taken sent part ok given may (inl row) m = say_each setup w v n number taken sent part row m
+operator_each setup w v (Order n number) taken sent part ok given may (inr row) m = graft_each setup w v n number taken sent part ok given row m
+operator_each setup w v (Note r) taken sent part ok given may row m = note_each setup w v r taken sent part row m
+operator_each setup w v Go taken sent part ok given may row m = go_each setup w v taken sent part may row m

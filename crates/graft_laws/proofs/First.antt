@@ -2,39 +2,32 @@
 use Rattle.std.proofs.Common.{◌≡◌, ◌==◌, cond, ℕ, zero, suc, ◌+◌, ◌<◌, ◌≤◌, Bool, true, false, List, [], ◌∷◌, length, Option, Some, None, refl, sym, ap, ◌∙◌, subst, arith}
 use Rattle.std.proofs.lemmas.Bool.Decides.{nat_tests}
 use Rattle.std.proofs.lemmas.Option.{slice_get_past}
-use Rattle.std.specs.Prelude.{◌&&◌, filter, map, slice_get, option_map, unwrap_or}
-use Rattle.std.specs.List.{range_with_len, last_or}
+use Rattle.std.specs.Prelude.{filter, slice_get, option_map, unwrap_or}
+use Rattle.std.specs.List.{range_with_len}
 use Rattle.session_value.specs.Sessions.{begun}
-use Rattle.graft_model.specs.Setups.{Setup, PeeringSetup, ScriptGraft, IsSetup, routers_in, peerings_in, room_of, starting_at, start_of, grafts_in}
-use Rattle.graft_model.specs.Parts.{Vacant, Live, OperatorPart}
-use Rattle.graft_model.specs.First.{place_in, first_router, first_world}
+use Rattle.graft_model.specs.Setups.{Setup, PeeringSetup, IsSetup, routers_in, peerings_in, room_of, starting_at, start_of}
+use Rattle.graft_model.specs.Parts.{Vacant, Live, Unmade, To, OperatorPart}
+use Rattle.graft_model.specs.First.{place_in, first_router, first_operator, first_world}
 use Rattle.graft_model.specs.GraftRows.{is_taken, taken_in}
 use Rattle.graft_laws.specs.Phases.{Idle, place_by}
 use Rattle.graft_laws.specs.Log.{grafts_of, Waits, LogSays}
 use Rattle.graft_laws.specs.Owned.{Stands, Owned}
-use Rattle.graft_laws.proofs.Lists.{all_of, filter_none}
+use Rattle.graft_laws.proofs.Lists.{all_of}
+use Rattle.graft_laws.proofs.Placements.{placed_first}
+use Rattle.graft_laws.proofs.Gifts.{gifts_to_routers}
 
 -- ---- the log
-
-none_counts : (p : ℕ) (gs : List ScriptGraft) → filter (λ (g : ScriptGraft). (g.peering == p) && false) gs ≡ []
-none_counts p gs = filter_none (λ (g : ScriptGraft). (g.peering == p) && false) gs (all_of (λ (g : ScriptGraft). ((g.peering == p) && false) ≡ false) gs (λ g. none (g.peering == p))) where
-  none : (b : Bool) → (b && false) ≡ false
-  none true = refl
-  none false = refl
-
-abbrev first_operator : Setup → OperatorPart
-first_operator setup = (first_world setup).operator
 
 first_log : (setup : Setup) (p : ℕ) → LogSays setup (first_operator setup) p (Idle (start_of setup p))
 first_log setup p = record {
   past = [];
+  now = [];
   later = grafts_of setup p;
   grafts = refl;
-  have_ended = tt;
-  goes_on = tt;
+  are_behind = tt;
+  goes_on = refl;
   wait = all_of (Waits (first_operator setup)) (grafts_of setup p) (λ g. record { unordered = refl; unended = refl });
-  placed = ap (λ (gs : List ScriptGraft). unwrap_or (last_or None (map (λ g. g.target) gs)) (start_of setup p)) (none_counts p (grafts_in setup));
-  issued = λ n t e. refl;
+  placed = placed_first setup (first_operator setup) p (λ k. refl);
 }
 
 -- ---- the places
@@ -99,10 +92,18 @@ some_peering setup p l = at (slice_get setup.peerings p) refl where
     missing (x ∷ xs) zero l e = cc
     missing (x ∷ xs) (suc i) l e = missing xs i (omega arith) e
 
+-- the operator before the first group begins
+abbrev pub ungiven : OperatorPart
+ungiven = record { group = 0; issued = λ n. false; given = λ k. Unmade; source = λ k. None; outcome = λ k. None }
+
+no_gift : (target : ℕ) → Unmade ≡ To target → ⊥
+no_gift target e = cc
+
 pub first_owned : (setup : Setup) → IsSetup setup → Owned setup (first_world setup)
 first_owned setup ok = record {
   peerings = λ p l. (let some = some_peering setup p l in record { phase = Idle (start_of setup p); session = begun some.0.config; stands = first_stands setup p some.0 ok some.1 });
   no_others = λ p past. record { places = λ r. none_past setup p r past; mesh = λ a b. refl; orders = λ r. refl };
   room = λ r l. subst (λ (n : ℕ). n ≤ room_of setup r) (sym (first_taken setup r)) (ok.room r l);
   reports = λ r. tt;
+  given = gifts_to_routers setup ungiven (λ k target e. absurd (no_gift target e));
 }

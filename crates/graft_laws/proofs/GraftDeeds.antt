@@ -11,13 +11,13 @@ use Rattle.graft_steps.specs.Refusals.{freeze_refusal, session_refusal}
 use Rattle.bgp_types.specs.declared.message.SessionState.{SessionState}
 use Rattle.session_value.specs.Sessions.{SessionValue, state, hold_time}
 use Rattle.graft_model.specs.Points.{at}
-use Rattle.graft_model.specs.Setups.{Setup, peerings_in, room_of}
+use Rattle.graft_model.specs.Setups.{Setup, peerings_in, room_of, graft_at}
 use Rattle.graft_model.specs.Parts.{Order, Errand, Leaving, Owing, Asking as ToAnswer, Place, Vacant, Live, Frozen, Shadow, RouterPart, Mesh, Moved, Back, Asked, Answered, Done, PointAt, GraftOrder, Report, World}
 use Rattle.graft_model.specs.RouterRows.{RouterTaken, OrderIn, MeshIn, RouterSent, MeshTo, OutwardTo, ReportOut, BringsIn}
 use Rattle.graft_model.specs.GraftRows.{Admits, Refuses, Freezes, Leaves, Lands, TurnsBack, Returns, Asks, Answers, Counts, Ignores, Confirms, Clears, is_taken, taken_in, refusal_of}
 use Rattle.graft_model.specs.Steps.{Heads}
 use Rattle.graft_laws.specs.Phases.{Ordered, Stored, Halted, Moving, Landed, Asking, Confirmed, Returning, Phase, Busy, only}
-use Rattle.graft_laws.specs.Log.{graft_at, is_of}
+use Rattle.graft_laws.specs.Log.{is_of}
 use Rattle.graft_laws.specs.Owned.{is_on, Stands, Owned}
 use Rattle.graft_laws.specs.Moves.{inward_taken, outward_sent, reports_sent, RouterMoves}
 use Rattle.graft_laws.proofs.Phases.{live_session, stored_at, halted_at, owing_at, asking_at, moved_in, back_in, done_in, order_in}
@@ -106,21 +106,21 @@ module _ (setup : Setup) (w v : World) (r : ℕ) (owned : Owned setup w) where
       let h = owned.peerings q known in
       let e : h.phase ≡ Busy r k t Stored = (stored_at h.phase h.session s r k t (sym is ∙ h.stands.places r)).0 in
       let b : Stands setup w q (Busy r k t Stored) h.session = subst (λ (x : Phase). Stands setup w q x h.session) e h.stands in
-      own_known setup q k t b.log.goes_on.known
+      own_known setup q k b.log.goes_on.known
 
   back_own : (a q k : ℕ) (s : SessionValue) (refusal : Refusal) → Heads (w.mesh a r) (Back k q s refusal) → q < peerings_in setup → is_of setup q k ≡ true
   back_own a q k s refusal head known =
       let h = owned.peerings q known in
       let e : h.phase ≡ Busy r k a (Returning refusal) = (back_in h.phase q h.session s refusal a r k _ (own_head (is_on q) (w.mesh a r) head.rest (Back k q s refusal) head.is (equal q) ∙ h.stands.mesh a r)).0 in
       let b : Stands setup w q (Busy r k a (Returning refusal)) h.session = subst (λ (x : Phase). Stands setup w q x h.session) e h.stands in
-      own_known setup q k a b.log.goes_on.known
+      own_known setup q k b.log.goes_on.known
 
   done_own : (a q k : ℕ) → Heads (w.mesh a r) (Done k q) → q < peerings_in setup → is_of setup q k ≡ true
   done_own a q k head known =
       let h = owned.peerings q known in
       let e : h.phase ≡ Busy r k a Confirmed = done_in h.phase q h.session a r k _ (own_head (is_on q) (w.mesh a r) head.rest (Done k q) head.is (equal q) ∙ h.stands.mesh a r) in
       let b : Stands setup w q (Busy r k a Confirmed) h.session = subst (λ (x : Phase). Stands setup w q x h.session) e h.stands in
-      own_known setup q k a b.log.goes_on.known
+      own_known setup q k b.log.goes_on.known
 
   -- ---- at the source
 

@@ -75,7 +75,7 @@ module _ (setup : Setup) (w v : World) (p q k t : ℕ) (s : SessionValue) (part 
           orders_taken = λ x. refl;
           no_order = λ x. refl;
           no_report = λ x. refl;
-          reports_sent = λ x. own_report setup p q x (record { graft = k; outcome = Refused refusal }) (own_known setup p k t b.log.goes_on.known);
+          reports_sent = λ x. own_report setup p q x (record { graft = k; outcome = Refused refusal }) (own_known setup p k b.log.goes_on.known);
         }) b (log_on setup w.operator p q k t Stored (Declined refusal) b.log) b.bounds;
     change = Grafts (Refuses cause) (line_by_router w v p q None _ part m (λ a. refl) (λ a. refl)) (same_entries w v p q part m.router entries);
   }
@@ -245,7 +245,7 @@ module _ (setup : Setup) (w v : World) (p q k t : ℕ) (s : SessionValue) (part 
           orders_taken = λ x. refl;
           no_order = λ x. refl;
           no_report = λ x. refl;
-          reports_sent = λ x. own_report setup p q x (record { graft = k; outcome = Refused refusal }) (own_known setup p k t b.log.goes_on.known);
+          reports_sent = λ x. own_report setup p q x (record { graft = k; outcome = Refused refusal }) (own_known setup p k b.log.goes_on.known);
         }) b (log_on setup w.operator p q k t (Returning refusal) (Declined refusal) b.log) (b.bounds.0, b.bounds.1, tt);
     change = Grafts Returns (line_by_router w v p q _ _ part m (λ a. refl) (λ a. refl)) (same_entries w v p q part m.router entries);
   }
@@ -267,7 +267,7 @@ module _ (setup : Setup) (w v : World) (p q k t : ℕ) (s : SessionValue) (part 
           orders_taken = λ x. refl;
           no_order = λ x. refl;
           no_report = λ x. refl;
-          reports_sent = λ x. own_report setup p q x (record { graft = k; outcome = Accepted }) (own_known setup p k t b.log.goes_on.known);
+          reports_sent = λ x. own_report setup p q x (record { graft = k; outcome = Accepted }) (own_known setup p k b.log.goes_on.known);
         }) b (log_on setup w.operator p q k t Confirmed Cleared b.log) b.bounds;
     change = Clears (line_by_router w v p q _ _ part m (λ a. refl) (λ a. refl)) (drops w v p q part m.router none);
   }

@@ -1,22 +1,24 @@
 -- What a phase says for the items at the heads of channels, for the session's place and for the graft's number.
-use Rattle.std.proofs.Common.{◌≡◌, ◌==◌, cond, ℕ, ◌<◌, [], ◌∷◌, Some, None, refl, sym, ap, ◌∙◌, subst, arith}
+use Rattle.std.proofs.Common.{◌≡◌, ◌==◌, cond, ℕ, ◌<◌, List, [], ◌∷◌, Some, None, refl, sym, ap, ◌∙◌, subst, arith}
 use Rattle.std.proofs.lemmas.Bool.Decides.{nat_tests}
+use Rattle.std.proofs.lemmas.Option.{same_Some}
 use Rattle.std.specs.Prelude.{◌≢◌}
 use Rattle.std.specs.List.{flat_map}
 use Rattle.graft_steps.specs.declared.refusal.Refusal.{Refusal}
 use Rattle.graft_steps.specs.declared.refusal.Outcome.TheVariants.{Accepted, Refused}
 use Rattle.session_value.specs.Sessions.{SessionValue}
 use Rattle.graft_model.specs.Setups.{Setup, ScriptGraft, peerings_in}
-use Rattle.graft_model.specs.Parts.{Place, Vacant, Live, Frozen, Shadow, Leaving, Owing, Asking as ToAnswer, Moved, Back, Done, GraftOrder, Report, World}
+use Rattle.graft_model.specs.Parts.{Place, Vacant, Live, Frozen, Shadow, Leaving, Owing, Asking as ToAnswer, Moved, Back, Done, GraftOrder, Report, OperatorPart, World}
+use Rattle.graft_model.specs.Placements.{target_in}
 use Rattle.graft_model.specs.Claims.{sessions_at, sessions_on}
 use Rattle.graft_model.specs.Steps.{Heads}
 use Rattle.graft_laws.specs.Phases.{Stage, Ordered, Stored, Halted, Moving, Landed, Asking, Confirmed, Returning, Declined, Cleared, Phase, Idle, Busy, only, only2, place_by, mesh_by}
+use Rattle.graft_laws.specs.Log.{GoesOn}
 use Rattle.graft_laws.specs.Owned.{is_on, mesh_of, orders_of, Stands, Owned}
 use Rattle.graft_laws.specs.Facts.{IsNowhereElse}
 use Rattle.graft_model.specs.RouterRows.{OrderIn}
 use Rattle.graft_model.specs.Taking.{RouterMayTake}
 use Rattle.graft_laws.proofs.Phases.{stored_at, halted_at, owing_at, asking_at, moved_in, back_in, done_in, order_in, refusal_in, success_in}
-use Rattle.graft_laws.proofs.Numbers.{the_graft}
 use Rattle.graft_laws.proofs.Following.{own_head}
 use Rattle.graft_laws.proofs.Deeds.{known_mesh, known_order}
 use Rattle.graft_laws.proofs.Grafts.{equal}
@@ -36,15 +38,18 @@ placed_here q place = ap (λ b. cond b place Vacant) (equal q)
 pub landed_here : (t : ℕ) (place other : Place) → cond (t == t) place other ≡ place
 landed_here t place other = ap (λ b. cond b place other) (equal t)
 
-same_target : (k p t u : ℕ) → Some (the_graft k p t) ≡ Some (the_graft k p u) → t ≡ u
-same_target k p t u e = let f : the_graft k p t ≡ the_graft k p u = cc in ap (λ (g : ScriptGraft). g.target) f
+-- a graft has one target
+same_target : (setup : Setup) (operator : OperatorPart) (p q k t u : ℕ) (now other : List ScriptGraft) → GoesOn setup operator p q k t now → GoesOn setup operator p q k u other → u ≡ t
+same_target setup operator p q k t u now other one two =
+    let same = same_Some _ _ (sym one.known ∙ two.known) in
+    same_Some u t (sym two.aims ∙ (ap (target_in setup operator) (sym same) ∙ one.aims))
 
 module _ (setup : Setup) (w : World) (p q k t : ℕ) (s : SessionValue) (next : Phase) (u : SessionValue) (other : Stands setup w p next u) where
-  -- the target of a graft is the script's
+  -- the target of a graft is the log's
   by_target : (stage : Stage) (v : ℕ) → Stands setup w p (Busy q k t stage) s → next ≡ Busy q k v stage → next ≡ Busy q k t stage
   by_target stage v b e =
       let o : Stands setup w p (Busy q k v stage) u = subst (λ (x : Phase). Stands setup w p x u) e other in
-      e ∙ ap (λ (x : ℕ). Busy q k x stage) (same_target k p v t (sym o.log.goes_on.known ∙ b.log.goes_on.known))
+      e ∙ ap (λ (x : ℕ). Busy q k x stage) (same_target setup w.operator p q k t v b.log.now o.log.now b.log.goes_on o.log.goes_on)
 
   pub busy_same : (stage : Stage) → Stands setup w p (Busy q k t stage) s → next ≡ Busy q k t stage
   busy_same Ordered b =

@@ -3,6 +3,9 @@ pub mod Moves
 pub mod Numbers
 pub mod Phases
 pub mod Others
+pub mod Placements
+pub mod Gifts
+pub mod GraftBounds
 pub mod Logs
 pub mod LogOrders
 pub mod LogNotes
@@ -20,6 +23,7 @@ pub mod Configs
 pub mod Holders
 pub mod Heads
 pub mod OneGraft
+pub mod OneWorld
 pub mod Growth
 pub mod Pointing
 pub mod Unchanged
@@ -61,3 +65,8 @@ pub mod HeardSendable
 pub mod ToldPaths
 pub mod FineRouters
 pub mod FineWorlds
+pub mod GroupGifts
+pub mod GivenRooms
+pub mod ByPlan
+pub mod HadRoom
+pub mod Emptied

@@ -1,7 +1,7 @@
 -- Lists whose items all have a property, and what filters leave.
 use Rattle.std.proofs.Common.{◌≡◌, Bool, true, false, cond, List, [], ◌∷◌, ◌++◌, Option, Some, refl, sym, ap, ◌∙◌, subst, arith, ◌⊎◌, inl, inr, append_assoc}
 use Rattle.std.specs.Prelude.{filter, ◌&&◌}
-use Rattle.std.specs.List.{AllByRecursion, last_or}
+use Rattle.std.specs.List.{AllByRecursion, find, last_or}
 
 -- ---- all of a list
 
@@ -39,6 +39,17 @@ all_moves P taken left was sent e a b = all_back P taken left (subst (λ (x : Li
 -- the head of a channel has the property that all its items have
 pub all_head : {A : Type 0} (P : A → Type 0) (items rest : List A) (item : A) → items ≡ item ∷ rest → AllByRecursion P items → P item
 all_head P items rest item e all = let h : AllByRecursion P (item ∷ rest) = subst (λ (x : List _). AllByRecursion P x) e all in h.0
+
+-- ---- what is found
+
+find_all_step : {A : Type 0} (P : A → Type 0) (y x : A) (b : Bool) (rest : Option A) → P y → (rest ≡ Some x → P x) → cond b (Some y) rest ≡ Some x → P x
+find_all_step P y x true rest here later e = subst P (let f : y ≡ x = cc in f) here
+find_all_step P y x false rest here later e = later e
+
+-- what is found has the property that all items have
+pub find_all : {A : Type 0} (P : A → Type 0) (test : A → Bool) (xs : List A) (x : A) → AllByRecursion P xs → find test xs ≡ Some x → P x
+find_all P test [] x all e = absurd cc
+find_all P test (y ∷ xs) x all e = find_all_step P y x (test y) (find test xs) all.0 (λ f. find_all P test xs x all.1 f) e
 
 -- ---- filters
 

@@ -1,27 +1,21 @@
 -- The log when the outcome of a graft is noted.
-use Rattle.std.proofs.Common.{◌≡◌, ◌==◌, cond, ℕ, Bool, true, false, List, [], ◌∷◌, ◌++◌, Option, Some, None, refl, sym, ap, ◌∙◌, subst, arith, append_assoc}
+use Rattle.std.proofs.Common.{◌≡◌, ◌==◌, ℕ, Bool, true, false, [], ◌∷◌, ◌++◌, Some, None, refl, sym, ap, ◌∙◌, subst, arith, append_assoc, ◌⊎◌, inl, inr}
 use Rattle.std.proofs.lemmas.Bool.Decides.{nat_tests}
-use Rattle.std.proofs.lemmas.List.Elements.{filter-append}
-use Rattle.std.specs.Prelude.{◌≢◌, ◌&&◌, filter, map, unwrap_or}
-use Rattle.std.specs.List.{AllByRecursion, last_or}
+use Rattle.std.specs.Prelude.{◌≢◌}
+use Rattle.std.specs.List.{AllByRecursion}
 use Rattle.graft_steps.specs.declared.refusal.Refusal.{Refusal}
 use Rattle.graft_steps.specs.declared.refusal.Outcome.{Outcome}
 use Rattle.graft_steps.specs.declared.refusal.Outcome.TheVariants.{Accepted, Refused}
 use Rattle.graft_model.specs.Points.{at}
-use Rattle.graft_model.specs.Setups.{Setup, ScriptGraft, grafts_in, start_of}
+use Rattle.graft_model.specs.Setups.{Setup, ScriptGraft}
 use Rattle.graft_model.specs.Parts.{OperatorPart}
-use Rattle.graft_model.specs.OperatorRows.{placement, is_accepted}
+use Rattle.graft_model.specs.Placements.{is_accepted, target_in, placement}
 use Rattle.graft_laws.specs.Phases.{Stage, Idle, Busy}
-use Rattle.graft_laws.specs.Log.{grafts_of, is_of, HasEnded, Waits, LogSays}
-use Rattle.graft_laws.proofs.Lists.{all_of, all_map, all_join, filter_same, filter_twice, filter_none, last_end}
-use Rattle.graft_laws.proofs.Numbers.{the_graft}
-use Rattle.graft_laws.proofs.Others.{SameLog}
-use Rattle.graft_laws.proofs.Logs.{counts}
-
--- where the session belongs then
-abbrev pub ends_at : Outcome → ℕ → ℕ → ℕ
-ends_at Accepted q t = t
-ends_at (Refused refusal) q t = q
+use Rattle.graft_laws.specs.Log.{grafts_of, is_of, HasEnded, Waits, IsBehind, LogSays}
+use Rattle.graft_laws.proofs.Lists.{all_of, all_map, all_join}
+use Rattle.graft_laws.proofs.Placements.{accepts, CountsAlike, placed_alike, placed_last}
+use Rattle.graft_laws.proofs.Others.{SameLog, same_if}
+use Rattle.graft_laws.proofs.Logs.{grafts_are}
 
 module _ (setup : Setup) (before : OperatorPart) (p k : ℕ) (outcome : Outcome) where
   abbrev pub with_outcome : OperatorPart
@@ -29,11 +23,8 @@ module _ (setup : Setup) (before : OperatorPart) (p k : ℕ) (outcome : Outcome)
 
   -- what the note does to the log of another peering
   pub note_others : is_of setup p k ≡ false → SameLog setup p before with_outcome
-  note_others not_own = record {
-    source = λ j own. refl;
-    outcome = λ j own. let differs : j ≢ k = (λ (is : j ≡ k). (let e : is_of setup p k ≡ true = subst (λ (x : ℕ). is_of setup p x ≡ true) is own in absurd cc)) in grind (arith, nat_tests);
-    issued = λ n t e. refl;
-  }
+  note_others not_own = same_if setup p before with_outcome refl refl (λ j own. refl) (λ j own.
+      let differs : j ≢ k = (λ (is : j ≡ k). (let e : is_of setup p k ≡ true = subst (λ (x : ℕ). is_of setup p x ≡ true) is own in absurd cc)) in grind (arith, nat_tests))
 
   ended_then : (g : ScriptGraft) → HasEnded before g → HasEnded with_outcome g
   ended_then g was = record { ordered = was.ordered; ended = λ none. was.ended (grind (arith, nat_tests)) }
@@ -43,25 +34,15 @@ module _ (setup : Setup) (before : OperatorPart) (p k : ℕ) (outcome : Outcome)
       let differs : g.graft ≢ k = (λ (is : g.graft ≡ k). (let e : Some q ≡ None = sym ordered ∙ (ap before.source (sym is) ∙ was.unordered) in absurd cc)) in
       record { unordered = was.unordered; unended = grind (arith, nat_tests, was.unended) }
 
-  -- ---- placement
-
-  abbrev by_outcome : (ℕ → Option Outcome) → ScriptGraft → Bool
-  by_outcome outcomes g = is_accepted (outcomes g.graft)
-
-  targets : (outcomes : ℕ → Option Outcome) (gs : List ScriptGraft) → grafts_of setup p ≡ gs
-      → map (λ (g : ScriptGraft). g.target) (filter (counts p outcomes) (grafts_in setup)) ≡ map (λ (g : ScriptGraft). g.target) (filter (by_outcome outcomes) gs)
-  targets outcomes gs is = ap (map (λ (g : ScriptGraft). g.target)) (filter_twice (λ g. g.peering == p) (by_outcome outcomes) (grafts_in setup) ∙ ap (filter (by_outcome outcomes)) is)
-
-  waits_count_not : (outcomes : ℕ → Option Outcome) (operator : OperatorPart) (g : ScriptGraft) → Waits operator g → by_outcome operator.outcome g ≡ false
-  waits_count_not outcomes operator g w = ap is_accepted w.unended
-
-map-append : (gs hs : List ScriptGraft) → map (λ (g : ScriptGraft). g.target) (gs ++ hs) ≡ map (λ (g : ScriptGraft). g.target) gs ++ map (λ (g : ScriptGraft). g.target) hs
-map-append [] hs = refl
-map-append (x ∷ gs) hs = ap (λ (l : List ℕ). x.target ∷ l) (map-append gs hs)
+  behind_then : (q : ℕ) (g : ScriptGraft) → before.source k ≡ Some q → IsBehind setup before g → IsBehind setup with_outcome g
+  behind_then q g ordered was = record { begun = was.begun; over = over was.over } where
+    over : HasEnded before g ⊎ (Waits before g × (target_in setup before g ≡ None)) → HasEnded with_outcome g ⊎ (Waits with_outcome g × (target_in setup with_outcome g ≡ None))
+    over (inl ended) = inl (ended_then g ended)
+    over (inr (waits, none)) = inr (waits_then q g ordered waits, none)
 
 module _ (setup : Setup) (before : OperatorPart) (p q k t : ℕ) (stage : Stage) (outcome : Outcome) (log : LogSays setup before p (Busy q k t stage)) where
   abbrev g : ScriptGraft
-  g = the_graft k p t
+  g = record { graft = k; peering = p; step = log.goes_on.step }
 
   abbrev then : OperatorPart
   then = with_outcome setup before p k outcome
@@ -69,8 +50,8 @@ module _ (setup : Setup) (before : OperatorPart) (p q k t : ℕ) (stage : Stage)
   wait_then : AllByRecursion (Waits then) log.later
   wait_then = all_map (Waits before) (Waits then) log.later (λ x. waits_then setup before p k outcome q x log.goes_on.ordered) log.wait
 
-  none_later : filter (λ (x : ScriptGraft). is_accepted (then.outcome x.graft)) log.later ≡ []
-  none_later = filter_none (λ (x : ScriptGraft). is_accepted (then.outcome x.graft)) log.later (all_map (Waits then) (λ (x : ScriptGraft). is_accepted (then.outcome x.graft) ≡ false) log.later (λ x w. ap is_accepted w.unended) wait_then)
+  none_later : AllByRecursion (λ (x : ScriptGraft). accepts then x ≡ false) log.later
+  none_later = all_map (Waits then) (λ (x : ScriptGraft). accepts then x ≡ false) log.later (λ x w. ap is_accepted w.unended) wait_then
 
   ended_here : HasEnded then g
   ended_here = record {
@@ -81,19 +62,20 @@ module _ (setup : Setup) (before : OperatorPart) (p q k t : ℕ) (stage : Stage)
   log_then : (final : ℕ) → placement setup then p ≡ final → LogSays setup then p (Idle final)
   log_then final placed = record {
     past = log.past ++ g ∷ [];
+    now = [];
     later = log.later;
-    grafts = log.grafts ∙ sym (append_assoc log.past (g ∷ []) log.later);
-    have_ended = all_join (HasEnded then) log.past (g ∷ []) (all_map (HasEnded before) (HasEnded then) log.past (ended_then setup before p k outcome) log.have_ended) (ended_here, tt);
-    goes_on = tt;
+    grafts = grafts_are setup before p q k t stage log ∙ sym (append_assoc log.past (g ∷ []) log.later);
+    are_behind = all_join (IsBehind setup then) log.past (g ∷ []) (all_map (IsBehind setup before) (IsBehind setup then) log.past (λ x. behind_then setup before p k outcome q x log.goes_on.ordered) log.are_behind)
+        (record { begun = (let at_work = log.goes_on.begun in omega (arith, at_work)); over = inl ended_here }, tt);
+    goes_on = refl;
     wait = wait_then;
     placed = placed;
-    issued = log.issued;
   }
 
 -- ---- a graft that was refused
 
 module _ (setup : Setup) (before : OperatorPart) (p q k t : ℕ) (stage : Stage) (refusal : Refusal) (log : LogSays setup before p (Busy q k t stage)) where
-  counts_alike : (x : ScriptGraft) → is_accepted (at before.outcome k (Some (Refused refusal)) x.graft) ≡ is_accepted (before.outcome x.graft)
+  counts_alike : (x : ScriptGraft) → accepts (with_outcome setup before p k (Refused refusal)) x ≡ accepts before x
   counts_alike x = by_test (x.graft == k) refl where
     by_test : (b : Bool) → (x.graft == k) ≡ b → is_accepted (at before.outcome k (Some (Refused refusal)) x.graft) ≡ is_accepted (before.outcome x.graft)
     by_test true is =
@@ -105,33 +87,20 @@ module _ (setup : Setup) (before : OperatorPart) (p q k t : ℕ) (stage : Stage)
 
   pub refused_log : LogSays setup (with_outcome setup before p k (Refused refusal)) p (Idle q)
   refused_log = log_then setup before p q k t stage (Refused refusal) log q
-      (ap (λ (gs : List ScriptGraft). unwrap_or (last_or None (map (λ g. g.target) gs)) (start_of setup p))
-      (filter_same (counts p (at before.outcome k (Some (Refused refusal)))) (counts p before.outcome) (grafts_in setup)
-      (all_of (λ (x : ScriptGraft). counts p (at before.outcome k (Some (Refused refusal))) x ≡ counts p before.outcome x) (grafts_in setup) (λ x. ap (λ b. (x.peering == p) && b) (counts_alike x))))
+      (placed_alike setup before (with_outcome setup before p k (Refused refusal)) p
+      (all_of (CountsAlike setup before (with_outcome setup before p k (Refused refusal))) (grafts_of setup p) (λ x. record { accepted = counts_alike x; target = λ is. refl }))
       ∙ log.placed)
 
 -- ---- a graft that succeeded
 
 module _ (setup : Setup) (before : OperatorPart) (p q k t : ℕ) (stage : Stage) (log : LogSays setup before p (Busy q k t stage)) where
-  abbrev outcomes : ℕ → Option Outcome
-  outcomes = at before.outcome k (Some Accepted)
+  abbrev graft : ScriptGraft
+  graft = g setup before p q k t stage Accepted log
 
-  abbrev test : ScriptGraft → Bool
-  test x = is_accepted (outcomes x.graft)
+  abbrev noted : OperatorPart
+  noted = with_outcome setup before p k Accepted
 
-  own_counts : filter test (the_graft k p t ∷ log.later) ≡ the_graft k p t ∷ []
-  own_counts =
-      let a : test (the_graft k p t) ≡ true = grind (arith, nat_tests) in
-      let none : filter test log.later ≡ [] = none_later setup before p q k t stage Accepted log in
-      ap (λ b. cond b (the_graft k p t ∷ filter test log.later) (filter test log.later)) a ∙ ap (λ (l : List ScriptGraft). the_graft k p t ∷ l) none
-
-  last_is : map (λ (x : ScriptGraft). x.target) (filter (counts p outcomes) (grafts_in setup)) ≡ map (λ (x : ScriptGraft). x.target) (filter test log.past) ++ t ∷ []
-  last_is =
-      targets setup before p k Accepted outcomes (log.past ++ the_graft k p t ∷ log.later) log.grafts
-      ∙ (ap (map (λ (x : ScriptGraft). x.target)) (filter-append test log.past (the_graft k p t ∷ log.later) ∙ ap (λ (l : List ScriptGraft). filter test log.past ++ l) own_counts)
-      ∙ map-append (filter test log.past) (the_graft k p t ∷ []))
-
-  pub accepted_log : LogSays setup (with_outcome setup before p k Accepted) p (Idle t)
+  pub accepted_log : LogSays setup noted p (Idle t)
   accepted_log = log_then setup before p q k t stage Accepted log t
-      (ap (λ (l : List ℕ). unwrap_or (last_or None l) (start_of setup p)) last_is
-      ∙ ap (λ (o : Option ℕ). unwrap_or o (start_of setup p)) (last_end None (map (λ (x : ScriptGraft). x.target) (filter test log.past)) t))
+      (placed_last setup noted p t log.past log.later graft (grafts_are setup before p q k t stage log) (let a : accepts noted graft ≡ true = grind (arith, nat_tests) in a)
+      (none_later setup before p q k t stage Accepted log) log.goes_on.aims)

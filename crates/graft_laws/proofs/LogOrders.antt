@@ -1,182 +1,189 @@
 -- The log when a graft is ordered.
-use Rattle.std.proofs.Common.{◌≡◌, ◌==◌, ℕ, zero, suc, ◌<◌, ◌+◌, Bool, true, false, List, [], ◌∷◌, ◌++◌, length, take, drop, Option, Some, None, refl, sym, ap, ◌∙◌, subst, arith}
+use Rattle.std.proofs.Common.{◌≡◌, ℕ, ◌<◌, ◌≤◌, true, List, [], ◌∷◌, ◌++◌, Option, Some, None, refl, sym, ap, ◌∙◌, subst, arith, ◌⊎◌, inl, inr}
 use Rattle.std.proofs.lemmas.Bool.Decides.{nat_tests}
-use Rattle.std.specs.Prelude.{◌≢◌, slice_get, is_some}
+use Rattle.std.specs.Prelude.{◌≢◌}
 use Rattle.std.specs.List.{AllByRecursion}
 use Rattle.graft_model.specs.Points.{at}
-use Rattle.graft_model.specs.Setups.{Setup, ScriptStep, ScriptGraft, MoveStep, grafts_after, graft_number}
+use Rattle.graft_model.specs.Setups.{Setup, ScriptGraft, group_of, graft_at}
 use Rattle.graft_model.specs.Parts.{OperatorPart}
-use Rattle.graft_model.specs.OperatorRows.{placement}
-use Rattle.graft_laws.specs.Phases.{Ordered, Phase, Idle, Busy, source_of, under_way}
-use Rattle.graft_laws.specs.Log.{is_of, HasEnded, Waits, GoesOnIn, LogSays}
-use Rattle.graft_laws.proofs.Lists.{all_map, all_both, filter_all, filter_tests}
-use Rattle.graft_laws.proofs.Numbers.{the_graft, all_above, all_steps, step_known, split_of, earlier_grafts, later_grafts, other_number, one_peering}
-use Rattle.graft_laws.proofs.Others.{SameLog}
-use Rattle.graft_laws.proofs.Logs.{own_step}
-
--- ---- which graft comes next
-
--- a graft that was ordered and has no outcome
-record IsOpen (operator : OperatorPart) (g : ScriptGraft) : Type 0 where
-  ordered : operator.source g.graft ≢ None
-  unended : operator.outcome g.graft ≡ None
-
-abbrev Ended : OperatorPart → ScriptGraft → Type 0
-Ended operator g = operator.outcome g.graft ≢ None
-
-not_ordered : (operator : OperatorPart) (x g : ScriptGraft) → operator.source x.graft ≢ None → operator.source g.graft ≡ None → x ≡ g → ⊥
-not_ordered operator x g was none is = was (ap (λ (y : ScriptGraft). operator.source y.graft) is ∙ none)
-
-ended_not : (operator : OperatorPart) (x e : ScriptGraft) → operator.outcome x.graft ≡ None → operator.outcome e.graft ≢ None → x ≡ e → ⊥
-ended_not operator x e none was is = was (ap (λ (y : ScriptGraft). operator.outcome y.graft) (sym is) ∙ none)
-
-heads : {A : Type 0} (x y : A) (xs ys : List A) → x ∷ xs ≡ y ∷ ys → x ≡ y
-heads x y xs ys e = cc
-
-tails : {A : Type 0} (x y : A) (xs ys : List A) → x ∷ xs ≡ y ∷ ys → xs ≡ ys
-tails x y xs ys e = cc
-
-record IsFirst (g : ScriptGraft) (past mid later earlier after : List ScriptGraft) : Type 0 where
-  past_is : past ≡ earlier
-  none : mid ≡ []
-  later_is : later ≡ g ∷ after
-
-first_more : (g x y : ScriptGraft) (past mid later earlier after : List ScriptGraft) → x ≡ y → IsFirst g past mid later earlier after → IsFirst g (x ∷ past) mid later (y ∷ earlier) after
-first_more g x y past mid later earlier after is first = record { past_is = cc (is, first.past_is); none = first.none; later_is = first.later_is }
-
-module _ (operator : OperatorPart) (g : ScriptGraft) (unordered : operator.source g.graft ≡ None) (after : List ScriptGraft) where
-  first_waits : (later earlier : List ScriptGraft) → later ≡ earlier ++ g ∷ after → AllByRecursion (Waits operator) later → AllByRecursion (Ended operator) earlier → IsFirst g [] [] later earlier after
-  first_waits later [] e wait ended = record { past_is = refl; none = refl; later_is = e }
-  first_waits [] (y ∷ earlier) e wait ended = absurd cc
-  first_waits (x ∷ later) (y ∷ earlier) e wait ended = absurd (ended_not operator x y wait.0.unended ended.0 (heads x y later (earlier ++ g ∷ after) e))
-
-  none_open : (mid later earlier : List ScriptGraft) → mid ++ later ≡ earlier ++ g ∷ after → AllByRecursion (IsOpen operator) mid → AllByRecursion (Waits operator) later → AllByRecursion (Ended operator) earlier
-      → IsFirst g [] mid later earlier after
-  none_open [] later earlier e going wait ended = first_waits later earlier e wait ended
-  none_open (x ∷ mid) later [] e going wait ended = absurd (not_ordered operator x g going.0.ordered unordered (heads x g (mid ++ later) after e))
-  none_open (x ∷ mid) later (y ∷ earlier) e going wait ended = absurd (ended_not operator x y going.0.unended ended.0 (heads x y (mid ++ later) (earlier ++ g ∷ after) e))
-
-  -- Where all grafts before g have ended and g wasn't ordered, none is under way, and g is the first that waits.
-  next_is_first : (past mid later earlier : List ScriptGraft) → past ++ (mid ++ later) ≡ earlier ++ g ∷ after → AllByRecursion (HasEnded operator) past → AllByRecursion (IsOpen operator) mid
-      → AllByRecursion (Waits operator) later → AllByRecursion (Ended operator) earlier → IsFirst g past mid later earlier after
-  next_is_first [] mid later earlier e were going wait ended = none_open mid later earlier e going wait ended
-  next_is_first (x ∷ past) mid later [] e were going wait ended = absurd (not_ordered operator x g were.0.ordered unordered (heads x g (past ++ (mid ++ later)) after e))
-  next_is_first (x ∷ past) mid later (y ∷ earlier) e were going wait ended =
-      first_more g x y past mid later earlier after (heads x y (past ++ (mid ++ later)) (earlier ++ g ∷ after) e)
-      (next_is_first past mid later earlier (tails x y (past ++ (mid ++ later)) (earlier ++ g ∷ after) e) were.1 going wait ended.1)
-
-all_open : (setup : Setup) (operator : OperatorPart) (p : ℕ) (phase : Phase) → GoesOnIn setup operator p phase → AllByRecursion (IsOpen operator) (under_way phase p)
-all_open setup operator p (Idle q) on = tt
-all_open setup operator p (Busy q k t stage) on = (record { ordered = λ none. (let e : Some q ≡ None = sym on.ordered ∙ none in absurd cc); unended = on.unended }, tt)
-
-idle_if_none : (phase : Phase) (p : ℕ) → under_way phase p ≡ [] → phase ≡ Idle (source_of phase)
-idle_if_none (Idle q) p e = refl
-idle_if_none (Busy q k t stage) p e = absurd cc
-
--- ---- the earlier grafts of a peering have their outcomes
-
-earlier_ended : (setup : Setup) (operator : OperatorPart) (n p : ℕ)
-    → ((m other : ℕ) → m < n → slice_get setup.steps m ≡ Some (MoveStep p other) → operator.outcome (graft_number setup m) ≢ None)
-    → AllByRecursion (Ended operator) (earlier_grafts setup p n)
-earlier_ended setup operator n p ended = all_both (λ (g : ScriptGraft). (g.peering == p) ≡ true → Ended operator g) (λ (g : ScriptGraft). (g.peering == p) ≡ true) (Ended operator) (earlier_grafts setup p n) (λ g if_own own. if_own own)
-    (filter_all (λ (g : ScriptGraft). (g.peering == p) ≡ true → Ended operator g) (λ g. g.peering == p) (grafts_after 0 (take n setup.steps)) (all_steps (λ (g : ScriptGraft). (g.peering == p) ≡ true → Ended operator g) 0 (take n setup.steps) each))
-    (filter_tests (λ (g : ScriptGraft). g.peering == p) (grafts_after 0 (take n setup.steps)))
-  where
-    within : (steps : List ScriptStep) (m i : ℕ) (s : ScriptStep) → slice_get (take m steps) i ≡ Some s → (i < m) × (slice_get steps i ≡ Some s) × (take i (take m steps) ≡ take i steps)
-    within steps zero i s e = absurd cc
-    within [] (suc m) i s e = absurd cc
-    within (x ∷ steps) (suc m) zero s e = (omega arith, e, refl)
-    within (x ∷ steps) (suc m) (suc i) s e = let r = within steps m i s e in (omega (arith, r.0), r.1, ap (λ (l : List ScriptStep). x ∷ l) r.2)
-
-    same_peering : (m j q t : ℕ) → m < n → slice_get setup.steps m ≡ Some (MoveStep q t) → j ≡ graft_number setup m → q ≡ p → operator.outcome j ≢ None
-    same_peering m j q t l e is own none =
-        ended m t l (subst (λ (x : ℕ). slice_get setup.steps m ≡ Some (MoveStep x t)) own e) (ap (λ (x : ℕ). operator.outcome x) (sym is) ∙ none)
-
-    each : (m q t j : ℕ) → slice_get (take n setup.steps) m ≡ Some (MoveStep q t) → j ≡ 0 + length (grafts_after 0 (take m (take n setup.steps))) + 1 → (q == p) ≡ true → operator.outcome j ≢ None
-    each m q t j e is own =
-        let w = within setup.steps n m (MoveStep q t) e in
-        same_peering m j q t w.0 w.1 (is ∙ (ap (λ (l : List ScriptStep). 0 + length (grafts_after 0 l) + 1) w.2 ∙ omega arith)) (grind (arith, nat_tests))
+use Rattle.graft_model.specs.Placements.{target_in, placement}
+use Rattle.graft_laws.specs.Phases.{Ordered, Phase, Idle, Busy, source_of}
+use Rattle.graft_laws.specs.Log.{is_of, HasEnded, Waits, IsBehind, GoesOnIn, LogSays}
+use Rattle.graft_laws.proofs.Lists.{all_both, all_front, all_back, all_join, StandsIn, stands_in}
+use Rattle.graft_model.proofs.Numbers.{steps_rise, groups_rise}
+use Rattle.graft_laws.proofs.Numbers.{found_in, before_below, behind_above, IsGraftOf, all_of_peering, is_own, one_peering, StandsAmong, among}
+use Rattle.graft_laws.proofs.Others.{SameLog, same_if}
 
 -- ---- the log with the order
 
-module _ (setup : Setup) (before : OperatorPart) (n p t q : ℕ) (step : slice_get setup.steps n ≡ Some (MoveStep p t)) where
-  abbrev number : ℕ
-  number = graft_number setup n
+module _ (setup : Setup) (before : OperatorPart) (g : ScriptGraft) (q : ℕ) where
+  abbrev pub with_order : OperatorPart
+  with_order = record before { source = at before.source g.graft (Some q) }
 
-  abbrev with_order : OperatorPart
-  with_order = record before { issued = at before.issued n true; source = at before.source number (Some q) }
+  waits_with : (x : ScriptGraft) → x.graft ≢ g.graft → Waits before x → Waits with_order x
+  waits_with x ne was = record { unordered = grind (arith, nat_tests, was.unordered); unended = was.unended }
 
-  stays_ordered : (g : ScriptGraft) → HasEnded before g → HasEnded with_order g
-  stays_ordered g was = record { ordered = λ none. was.ordered (grind (arith, nat_tests)); ended = was.ended }
-
-  still_waits : (g : ScriptGraft) → number < g.graft → Waits before g → Waits with_order g
-  still_waits g above was = record { unordered = grind (arith, nat_tests, was.unordered); unended = was.unended }
-
-  issued_with : (m u : ℕ) → slice_get setup.steps m ≡ Some (MoveStep p u) → before.issued m ≡ is_some (before.source (graft_number setup m)) → with_order.issued m ≡ is_some (with_order.source (graft_number setup m))
-  issued_with m u e was = by_test (m == n) refl where
-    by_test : (b : Bool) → (m == n) ≡ b → with_order.issued m ≡ is_some (with_order.source (graft_number setup m))
-    by_test true is =
-        let same : m ≡ n = grind (arith, nat_tests) in
-        subst (λ (x : ℕ). with_order.issued x ≡ is_some (with_order.source (graft_number setup x))) (sym same) (grind (arith, nat_tests))
-    by_test false is =
-        let other : graft_number setup m ≢ number = other_number setup m n p p u t e step (grind (arith, nat_tests)) in
-        let a : with_order.issued m ≡ before.issued m = grind (arith, nat_tests) in
-        let b : with_order.source (graft_number setup m) ≡ before.source (graft_number setup m) = grind (arith, nat_tests) in
-        a ∙ (was ∙ sym (ap is_some b))
+  behind_with : (x : ScriptGraft) → x.graft < g.graft → IsBehind setup before x → IsBehind setup with_order x
+  behind_with x less was = record { begun = was.begun; over = over was.over } where
+    over : HasEnded before x ⊎ (Waits before x × (target_in setup before x ≡ None)) → HasEnded with_order x ⊎ (Waits with_order x × (target_in setup with_order x ≡ None))
+    over (inl ended) = inl (record { ordered = λ none. ended.ordered (grind (arith, nat_tests)); ended = ended.ended })
+    over (inr (waits, none)) = inr (waits_with x (λ (same : x.graft ≡ g.graft). omega arith) waits, none)
 
   -- what the order does to the log of another peering
-  pub order_others : (other : ℕ) → other ≢ p → SameLog setup other before with_order
-  order_others other ne = record {
-    source = λ k own. let differs : k ≢ number = (λ (is : k ≡ number). ne (one_peering setup other p number (subst (λ (x : ℕ). is_of setup other x ≡ true) is own) (own_step setup n p t step))) in grind (arith, nat_tests);
-    outcome = λ k own. refl;
-    issued = λ m u e. let differs : m ≢ n = (λ (is : m ≡ n). ne (let f : Some (MoveStep other u) ≡ Some (MoveStep p t) = sym e ∙ (ap (slice_get setup.steps) is ∙ step) in cc)) in grind (arith, nat_tests);
-  }
+  pub order_others : (other : ℕ) → graft_at setup g.graft ≡ Some g → other ≢ g.peering → SameLog setup other before with_order
+  order_others other known ne = same_if setup other before with_order refl refl (λ k own.
+      let differs : k ≢ g.graft = (λ (is : k ≡ g.graft). ne (one_peering setup other g.peering g.graft (subst (λ (x : ℕ). is_of setup other x ≡ true) is own) (is_own setup g.peering g (known, refl)))) in
+      grind (arith, nat_tests))
+      (λ k own. refl)
 
--- what it says of its own peering before, and after it
+-- ---- which graft comes next
+
+-- the graft that is under way, as the log has it
+record IsOpen (setup : Setup) (operator : OperatorPart) (p : ℕ) (g : ScriptGraft) : Type 0 where
+  own : IsGraftOf setup p g
+  made : target_in setup operator g ≢ None
+  ordered : operator.source g.graft ≢ None
+  unended : operator.outcome g.graft ≡ None
+
+some_not : {A : Type 0} (o : Option A) (x : A) → o ≡ Some x → o ≢ None
+some_not o x is none = absurd cc
+
+record HasOpen (setup : Setup) (operator : OperatorPart) (p : ℕ) (now : List ScriptGraft) : Type 0 where
+  graft : ScriptGraft
+  is : now ≡ graft ∷ []
+  open_is : IsOpen setup operator p graft
+
+has_open : (setup : Setup) (operator : OperatorPart) (p : ℕ) (phase : Phase) (now : List ScriptGraft) → GoesOnIn setup operator p phase now
+    → ((now ≡ []) × (phase ≡ Idle (source_of phase))) ⊎ HasOpen setup operator p now
+has_open setup operator p (Idle q) now none = inl (none, refl)
+has_open setup operator p (Busy q k t stage) now on = inr (record {
+  graft = record { graft = k; peering = p; step = on.step };
+  is = on.is;
+  open_is = record {
+    own = (on.known, refl);
+    made = some_not (target_in setup operator (record { graft = k; peering = p; step = on.step })) t on.aims;
+    ordered = some_not (operator.source k) q on.ordered;
+    unended = on.unended;
+  };
+})
+
+-- what the log says of its own peering before an order, and after it
 pub record OrderSays (setup : Setup) (before after : OperatorPart) (p k t : ℕ) (phase : Phase) : Type 0 where
   pub was : phase ≡ Idle (placement setup before p)
   pub log : LogSays setup after p (Busy (placement setup before p) k t Ordered)
 
-none_if_not : {A : Type 0} (o : Option A) → is_some o ≡ false → o ≡ None
-none_if_not None e = refl
-none_if_not (Some x) e = absurd cc
+-- What an order asks for: the graft was neither ordered nor has it an outcome, its group is at work, and those before it of its peering that are made have their outcomes.
+pub record MayOrder (setup : Setup) (before : OperatorPart) (g : ScriptGraft) (t : ℕ) : Type 0 where
+  pub known : graft_at setup g.graft ≡ Some g
+  pub group : group_of setup g.step ≡ before.group
+  pub is : target_in setup before g ≡ Some t
+  pub unordered : before.source g.graft ≡ None
+  pub unended : before.outcome g.graft ≡ None
+  pub earlier : (other : ScriptGraft) → graft_at setup other.graft ≡ Some other → other.peering ≡ g.peering → other.graft < g.graft → target_in setup before other ≢ None → before.outcome other.graft ≢ None
 
-module _ (setup : Setup) (before : OperatorPart) (n p t : ℕ) (step : slice_get setup.steps n ≡ Some (MoveStep p t)) (unissued : before.issued n ≡ false)
-    (earlier : (m other : ℕ) → m < n → slice_get setup.steps m ≡ Some (MoveStep p other) → before.outcome (graft_number setup m) ≢ None) where
+module _ (setup : Setup) (before : OperatorPart) (g : ScriptGraft) (t : ℕ) (may : MayOrder setup before g t) where
+  abbrev p : ℕ
+  p = g.peering
+
   abbrev source : ℕ
   source = placement setup before p
 
-  abbrev k : ℕ
-  k = graft_number setup n
-
   abbrev ordered : OperatorPart
-  ordered = with_order setup before n p t source step
+  ordered = with_order setup before g source
 
-  first : (phase : Phase) (log : LogSays setup before p phase) → IsFirst (the_graft k p t) log.past (under_way phase p) log.later (earlier_grafts setup p n) (later_grafts setup p n)
-  first phase log = next_is_first before (the_graft k p t) (none_if_not (before.source k) (sym (log.issued n t step) ∙ unissued)) (later_grafts setup p n) log.past (under_way phase p) log.later (earlier_grafts setup p n)
-      (sym log.grafts ∙ split_of setup n p t step) log.have_ended (all_open setup before p phase log.goes_on) log.wait (earlier_ended setup before n p earlier)
+  place : StandsAmong setup p g
+  place = among setup p g (may.known, refl)
 
-  waits_first : (later : List ScriptGraft) → later ≡ the_graft k p t ∷ later_grafts setup p n → AllByRecursion (Waits before) later → Waits before (the_graft k p t) × AllByRecursion (Waits before) (later_grafts setup p n)
-  waits_first later is all = subst (λ (x : List ScriptGraft). AllByRecursion (Waits before) x) is all
+  below : AllByRecursion (λ (x : ScriptGraft). x.graft < g.graft) place.front
+  below = before_below setup p place.front place.back g place.is
 
-  log_with : (phase : Phase) → LogSays setup before p phase → LogSays setup ordered p (Busy source k t Ordered)
-  log_with phase log =
-      let f : IsFirst (the_graft k p t) log.past (under_way phase p) log.later (earlier_grafts setup p n) (later_grafts setup p n) = first phase log in
-      let wait : Waits before (the_graft k p t) × AllByRecursion (Waits before) (later_grafts setup p n) = waits_first log.later f.later_is log.wait in
+  front_own : AllByRecursion (IsGraftOf setup p) place.front
+  front_own = all_front (IsGraftOf setup p) place.front (g ∷ place.back) (subst (λ (x : List ScriptGraft). AllByRecursion (IsGraftOf setup p) x) place.is (all_of_peering setup p))
+
+  -- the graft isn't behind, nor is it under way
+  not_behind : IsBehind setup before g → ⊥
+  not_behind b = over b.over where
+    over : HasEnded before g ⊎ (Waits before g × (target_in setup before g ≡ None)) → ⊥
+    over (inl ended) = ended.ordered may.unordered
+    over (inr (waits, none)) = some_not (target_in setup before g) t may.is none
+
+  not_open : (x : ScriptGraft) → IsOpen setup before p x → x ≡ g → ⊥
+  not_open x is same = is.ordered (ap (λ (y : ScriptGraft). before.source y.graft) same ∙ may.unordered)
+
+  not_before : (x : ScriptGraft) → IsOpen setup before p x → x.graft < g.graft → ⊥
+  not_before x is less = may.earlier x is.own.0 is.own.1 less is.made is.unended
+
+  -- where the graft stands in the log: no other is under way, and those that wait before it aren't made
+  record IsNext (phase : Phase) (log : LogSays setup before p phase) : Type 0 where
+    idle : phase ≡ Idle (source_of phase)
+    mid : List ScriptGraft
+    front : place.front ≡ log.past ++ mid
+    later : log.later ≡ mid ++ g ∷ place.back
+
+  heads : (x y : ScriptGraft) (xs ys : List ScriptGraft) → x ∷ xs ≡ y ∷ ys → x ≡ y
+  heads x y xs ys e = cc
+
+  open_before : (x : ScriptGraft) (later ws : List ScriptGraft) → IsOpen setup before p x → x ∷ later ≡ ws ++ g ∷ place.back → AllByRecursion (λ (y : ScriptGraft). y.graft < g.graft) ws → ⊥
+  open_before x later [] is e less = not_open x is (heads x g later place.back e)
+  open_before x later (y ∷ ws) is e less = not_before x is (subst (λ (z : ScriptGraft). z.graft < g.graft) (sym (heads x y later (ws ++ g ∷ place.back) e)) less.0)
+
+  is_next : (phase : Phase) (log : LogSays setup before p phase) → IsNext phase log
+  is_next phase log = of (stands_in log.past (log.now ++ log.later) place.front place.back g (sym log.grafts ∙ place.is)) where
+    by_now : (ws : List ScriptGraft) → place.front ≡ log.past ++ ws → log.now ++ log.later ≡ ws ++ g ∷ place.back → ((log.now ≡ []) × (phase ≡ Idle (source_of phase))) ⊎ HasOpen setup before p log.now → IsNext phase log
+    by_now ws e f (inl (none, idle)) = record { idle = idle; mid = ws; front = e; later = ap (λ (x : List ScriptGraft). x ++ log.later) (sym none) ∙ f }
+    by_now ws e f (inr x) = absurd (open_before x.graft log.later ws x.open_is (ap (λ (y : List ScriptGraft). y ++ log.later) (sym x.is) ∙ f)
+        (all_back (λ (y : ScriptGraft). y.graft < g.graft) log.past ws (subst (λ (y : List ScriptGraft). AllByRecursion (λ (z : ScriptGraft). z.graft < g.graft) y) e below)))
+
+    of : StandsIn log.past (log.now ++ log.later) place.front place.back g → IsNext phase log
+    of (inl (ws, e)) = absurd (not_behind (found_in place.front ws g (IsBehind setup before) (subst (λ (x : List ScriptGraft). AllByRecursion (IsBehind setup before) x) e log.are_behind)))
+    of (inr (ws, e, f)) = by_now ws e f (has_open setup before p phase log.now log.goes_on)
+
+  -- a graft that waits before it is behind: its group has begun, and it isn't made
+  passed : (x : ScriptGraft) → (IsGraftOf setup p x) × (x.graft < g.graft) → Waits before x → IsBehind setup before x
+  passed x here waits = record { begun = begun; over = inr (waits, by_target (target_in setup before x) refl) } where
+    begun : group_of setup x.step ≤ before.group
+    begun =
+        let rise = groups_rise setup x.step g.step (steps_rise setup x g here.0.0 may.known (let l = here.1 in omega (arith, l))) in
+        let at_work = may.group in
+        omega (arith, rise, at_work)
+
+    by_target : (o : Option ℕ) → target_in setup before x ≡ o → target_in setup before x ≡ None
+    by_target None is = is
+    by_target (Some u) is = absurd (may.earlier x here.0.0 here.0.1 here.1 (some_not (target_in setup before x) u is) waits.unended)
+
+  front_behind : (phase : Phase) (log : LogSays setup before p phase) → IsNext phase log → AllByRecursion (IsBehind setup before) place.front
+  front_behind phase log next =
+      let Here : ScriptGraft → Type 0 = λ x. (IsGraftOf setup p x) × (x.graft < g.graft) in
+      let here : AllByRecursion Here place.front = all_both (IsGraftOf setup p) (λ (x : ScriptGraft). x.graft < g.graft) Here place.front (λ x own less. (own, less)) front_own below in
+      let here_mid : AllByRecursion Here next.mid = all_back Here log.past next.mid (subst (λ (x : List ScriptGraft). AllByRecursion Here x) next.front here) in
+      let wait_mid : AllByRecursion (Waits before) next.mid = all_front (Waits before) next.mid (g ∷ place.back) (subst (λ (x : List ScriptGraft). AllByRecursion (Waits before) x) next.later log.wait) in
+      subst (λ (x : List ScriptGraft). AllByRecursion (IsBehind setup before) x) (sym next.front)
+      (all_join (IsBehind setup before) log.past next.mid log.are_behind (all_both Here (Waits before) (IsBehind setup before) next.mid passed here_mid wait_mid))
+
+  log_with : (phase : Phase) (log : LogSays setup before p phase) → IsNext phase log → LogSays setup ordered p (Busy source g.graft t Ordered)
+  log_with phase log next =
+      let wait_back : AllByRecursion (Waits before) (g ∷ place.back) = all_back (Waits before) next.mid (g ∷ place.back) (subst (λ (x : List ScriptGraft). AllByRecursion (Waits before) x) next.later log.wait) in
       record {
-        past = log.past;
-        later = later_grafts setup p n;
-        grafts = split_of setup n p t step ∙ ap (λ (x : List ScriptGraft). x ++ the_graft k p t ∷ later_grafts setup p n) (sym f.past_is);
-        have_ended = all_map (HasEnded before) (HasEnded ordered) log.past (stays_ordered setup before n p t source step) log.have_ended;
-        goes_on = record { known = step_known setup n p t step; ordered = grind (arith, nat_tests); unended = wait.0.unended };
-        wait = all_both (λ (g : ScriptGraft). k < g.graft) (Waits before) (Waits ordered) (later_grafts setup p n) (still_waits setup before n p t source step)
-            (filter_all (λ (g : ScriptGraft). k < g.graft) (λ g. g.peering == p) (grafts_after k (drop (suc n) setup.steps)) (all_above k (drop (suc n) setup.steps))) wait.1;
+        past = place.front;
+        now = g ∷ [];
+        later = place.back;
+        grafts = place.is;
+        are_behind = all_both (λ (x : ScriptGraft). x.graft < g.graft) (IsBehind setup before) (IsBehind setup ordered) place.front (behind_with setup before g source) below (front_behind phase log next);
+        goes_on = record {
+          step = g.step;
+          is = refl;
+          known = may.known;
+          begun = may.group;
+          aims = may.is;
+          ordered = grind (arith, nat_tests);
+          unended = may.unended;
+        };
+        wait = all_both (λ (x : ScriptGraft). g.graft < x.graft) (Waits before) (Waits ordered) place.back (λ x above. waits_with setup before g source x (λ (same : x.graft ≡ g.graft). omega arith))
+            (behind_above setup p place.front place.back g place.is) wait_back.1;
         placed = refl;
-        issued = λ m u e. issued_with setup before n p t source step m u e (log.issued m u e);
       }
 
-  pub order_own : (phase : Phase) → LogSays setup before p phase → OrderSays setup before ordered p k t phase
-  order_own phase log = record {
-    was = idle_if_none phase p (first phase log).none ∙ ap Idle (sym log.placed);
-    log = log_with phase log;
-  }
+  pub order_own : (phase : Phase) → LogSays setup before p phase → OrderSays setup before ordered p g.graft t phase
+  order_own phase log =
+      let next : IsNext phase log = is_next phase log in
+      record { was = next.idle ∙ ap Idle (sym log.placed); log = log_with phase log next }

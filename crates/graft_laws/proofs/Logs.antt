@@ -1,85 +1,130 @@
 -- The operator's log of a peering's grafts, through the operator's events.
-use Rattle.std.proofs.Common.{◌≡◌, ◌==◌, ℕ, Bool, true, false, List, ◌++◌, Option, Some, None, refl, sym, ap, ◌∙◌, subst, arith}
-use Rattle.std.proofs.lemmas.Bool.Decides.{nat_tests}
-use Rattle.std.specs.Prelude.{◌&&◌, map, slice_get, is_some, unwrap_or}
-use Rattle.std.specs.List.{AllByRecursion, last_or}
-use Rattle.graft_steps.specs.declared.refusal.Outcome.{Outcome}
-use Rattle.graft_model.specs.Setups.{Setup, ScriptGraft, MoveStep, grafts_in, graft_number, start_of}
-use Rattle.graft_model.specs.Parts.{OperatorPart}
-use Rattle.graft_model.specs.OperatorRows.{placement, is_accepted}
-use Rattle.graft_laws.specs.Phases.{Stage, Phase, Idle, Busy, under_way}
-use Rattle.graft_laws.specs.Log.{graft_at, is_peering, is_of, HasEnded, Waits, GoesOnIn, LogSays}
-use Rattle.graft_laws.proofs.Lists.{all_map, all_both, all_front, all_back, filter_same}
-use Rattle.graft_laws.proofs.Numbers.{the_graft, known_all, all_own, step_known}
-use Rattle.graft_laws.proofs.Others.{SameLog}
+use Rattle.std.proofs.Common.{◌≡◌, ℕ, ◌≤◌, true, false, List, ◌∷◌, ◌++◌, Some, None, refl, sym, ap, ◌∙◌, subst, arith, ◌⊎◌, inl, inr}
+use Rattle.std.specs.Prelude.{slice_get}
+use Rattle.std.specs.List.{AllByRecursion}
+use Rattle.graft_model.specs.Setups.{Setup, ScriptGraft, group_of, graft_at}
+use Rattle.graft_model.specs.Parts.{Gift, OperatorPart}
+use Rattle.graft_model.specs.Placements.{is_accepted, target_by, target_in, placement}
+use Rattle.graft_laws.specs.Phases.{Stage, Phase, Idle, Busy}
+use Rattle.graft_laws.specs.Log.{grafts_of, is_of, HasEnded, Waits, IsBehind, GoesOnIn, LogSays}
+use Rattle.graft_laws.proofs.Lists.{all_map, all_both, all_front, all_back, all_join}
+use Rattle.graft_laws.proofs.Numbers.{IsGraftOf, all_of_peering, is_own}
+use Rattle.graft_laws.proofs.Placements.{CountsAlike, placed_alike}
+use Rattle.graft_laws.proofs.Others.{KeepsLog, SameLog}
 
--- ---- what is the graft's own
+-- ---- whose the grafts are
 
-own_if : (p : ℕ) (o : Option ScriptGraft) (k t : ℕ) → o ≡ Some (the_graft k p t) → is_peering p o ≡ true
-own_if p o k t e = ap (is_peering p) e ∙ grind (arith, nat_tests)
-
-pub own_known : (setup : Setup) (p k t : ℕ) → graft_at setup k ≡ Some (the_graft k p t) → is_of setup p k ≡ true
-own_known setup p k t e = own_if p (graft_at setup k) k t e
-
-pub own_step : (setup : Setup) (n p t : ℕ) → slice_get setup.steps n ≡ Some (MoveStep p t) → is_of setup p (graft_number setup n) ≡ true
-own_step setup n p t e = own_known setup p (graft_number setup n) t (step_known setup n p t e)
-
-abbrev IsOwn : Setup → ℕ → ScriptGraft → Type 0
-IsOwn setup p g = is_of setup p g.graft ≡ true
+pub own_known : (setup : Setup) (p k : ℕ) {step : ℕ} → graft_at setup k ≡ Some (record { graft = k; peering = p; step = step }) → is_of setup p k ≡ true
+own_known setup p k {step = step} known = is_own setup p (record { graft = k; peering = p; step = step }) (known, refl)
 
 -- the grafts of the log's three parts are the peering's own
-log_own : (setup : Setup) (operator : OperatorPart) (p : ℕ) (phase : Phase) (log : LogSays setup operator p phase) → AllByRecursion (IsOwn setup p) (log.past ++ (under_way phase p ++ log.later))
-log_own setup operator p phase log = subst (λ (x : List ScriptGraft). AllByRecursion (IsOwn setup p) x) log.grafts (all_own setup p)
+log_own : (setup : Setup) (operator : OperatorPart) (p : ℕ) (phase : Phase) (log : LogSays setup operator p phase) → AllByRecursion (IsGraftOf setup p) (log.past ++ (log.now ++ log.later))
+log_own setup operator p phase log = subst (λ (x : List ScriptGraft). AllByRecursion (IsGraftOf setup p) x) log.grafts (all_of_peering setup p)
 
--- ---- placement
+-- the graft that is under way stands between those behind it and those that wait
+pub grafts_are : (setup : Setup) (operator : OperatorPart) (p q k t : ℕ) (stage : Stage) (log : LogSays setup operator p (Busy q k t stage))
+    → grafts_of setup p ≡ log.past ++ record { graft = k; peering = p; step = log.goes_on.step } ∷ log.later
+grafts_are setup operator p q k t stage log = log.grafts ∙ ap (λ (x : List ScriptGraft). log.past ++ (x ++ log.later)) log.goes_on.is
 
--- what counts for the placement
-abbrev pub counts : ℕ → (ℕ → Option Outcome) → ScriptGraft → Bool
-counts p outcome g = (g.peering == p) && is_accepted (outcome g.graft)
+-- ---- of which grafts the log has something
 
-counts_same : (setup : Setup) (p : ℕ) (before after : OperatorPart) (b : Bool) (g : ScriptGraft) → (g.peering == p) ≡ b → SameLog setup p before after → graft_at setup g.graft ≡ Some g
-    → counts p after.outcome g ≡ counts p before.outcome g
-counts_same setup p before after true g is same known =
-    let own : is_of setup p g.graft ≡ true = ap (is_peering p) known ∙ is in
-    ap (λ (o : Option Outcome). (g.peering == p) && is_accepted o) (same.outcome g.graft own)
-counts_same setup p before after false g is same known = ap (λ b. b && is_accepted (after.outcome g.graft)) is ∙ sym (ap (λ b. b && is_accepted (before.outcome g.graft)) is)
+-- the graft's group has begun
+abbrev HasBegun : Setup → OperatorPart → ScriptGraft → Type 0
+HasBegun setup operator g = group_of setup g.step ≤ operator.group
 
-placement_same : (setup : Setup) (p : ℕ) (before after : OperatorPart) → SameLog setup p before after → placement setup after p ≡ placement setup before p
-placement_same setup p before after same =
-    ap (λ (gs : List ScriptGraft). unwrap_or (last_or None (map (λ g. g.target) gs)) (start_of setup p))
-    (filter_same (counts p after.outcome) (counts p before.outcome) (grafts_in setup)
-    (all_map (λ (g : ScriptGraft). graft_at setup g.graft ≡ Some g) (λ (g : ScriptGraft). counts p after.outcome g ≡ counts p before.outcome g) (grafts_in setup)
-    (λ g known. counts_same setup p before after (g.peering == p) g refl same known) (known_all setup)))
+all_begun : (setup : Setup) (operator : OperatorPart) (p : ℕ) (phase : Phase) (now : List ScriptGraft) → GoesOnIn setup operator p phase now → AllByRecursion (HasBegun setup operator) now
+all_begun setup operator p (Idle q) now none = subst (λ (x : List ScriptGraft). AllByRecursion (HasBegun setup operator) x) (sym none) tt
+all_begun setup operator p (Busy q k t stage) now on = subst (λ (x : List ScriptGraft). AllByRecursion (HasBegun setup operator) x) (sym on.is) ((let at_work = on.begun in omega (arith, at_work)), tt)
+
+abbrev BegunOrWaits : Setup → OperatorPart → ScriptGraft → Type 0
+BegunOrWaits setup operator g = HasBegun setup operator g ⊎ Waits operator g
+
+-- each graft of a peering is of a group that has begun, or waits
+begun_or_waits : (setup : Setup) (operator : OperatorPart) (p : ℕ) (phase : Phase) → LogSays setup operator p phase → AllByRecursion (BegunOrWaits setup operator) (grafts_of setup p)
+begun_or_waits setup operator p phase log =
+    let Either : ScriptGraft → Type 0 = BegunOrWaits setup operator in
+    subst (λ (x : List ScriptGraft). AllByRecursion Either x) (sym log.grafts)
+    (all_join Either log.past (log.now ++ log.later) (all_map (IsBehind setup operator) Either log.past (λ g b. inl b.begun) log.are_behind)
+    (all_join Either log.now log.later (all_map (HasBegun setup operator) Either log.now (λ g b. inl b) (all_begun setup operator p phase log.now log.goes_on))
+    (all_map (Waits operator) Either log.later (λ g x. inr x) log.wait)))
 
 -- ---- nothing of the peering changes
 
-ended_still : (setup : Setup) (p : ℕ) (before after : OperatorPart) (g : ScriptGraft) → SameLog setup p before after → IsOwn setup p g → HasEnded before g → HasEnded after g
-ended_still setup p before after g same own was = record { ordered = λ none. was.ordered (sym (same.source g.graft own) ∙ none); ended = λ none. was.ended (sym (same.outcome g.graft own) ∙ none) }
+-- Where a graft is under way, the same group is at work.
+abbrev pub SameGroup : Phase → OperatorPart → OperatorPart → Type 0
+SameGroup (Idle q) before after = Unit {0}
+SameGroup (Busy q k t stage) before after = after.group ≡ before.group
 
-waits_still : (setup : Setup) (p : ℕ) (before after : OperatorPart) (g : ScriptGraft) → SameLog setup p before after → IsOwn setup p g → Waits before g → Waits after g
-waits_still setup p before after g same own was = record { unordered = same.source g.graft own ∙ was.unordered; unended = same.outcome g.graft own ∙ was.unended }
+module _ (setup : Setup) (p : ℕ) (before after : OperatorPart) (same : KeepsLog setup p before after) where
+  target_still : (g : ScriptGraft) → IsGraftOf setup p g → HasBegun setup before g → target_in setup after g ≡ target_in setup before g
+  target_still g own begun = ap (λ (gift : Gift). target_by (slice_get setup.steps g.step) gift) (same.given g own begun)
 
-goes_on_still : (setup : Setup) (p : ℕ) (before after : OperatorPart) (phase : Phase) → SameLog setup p before after → GoesOnIn setup before p phase → GoesOnIn setup after p phase
-goes_on_still setup p before after (Idle q) same was = tt
-goes_on_still setup p before after (Busy q k t stage) same was =
-    let own : is_of setup p k ≡ true = own_known setup p k t was.known in
-    record { known = was.known; ordered = same.source k own ∙ was.ordered; unended = same.outcome k own ∙ was.unended }
+  begun_still : (g : ScriptGraft) → HasBegun setup before g → HasBegun setup after g
+  begun_still g begun = let le = same.group in omega (arith, begun, le)
+
+  ended_still : (g : ScriptGraft) → IsGraftOf setup p g → HasEnded before g → HasEnded after g
+  ended_still g own was = record {
+    ordered = λ none. was.ordered (sym (same.source g.graft (is_own setup p g own)) ∙ none);
+    ended = λ none. was.ended (sym (same.outcome g.graft (is_own setup p g own)) ∙ none);
+  }
+
+  waits_still : (g : ScriptGraft) → IsGraftOf setup p g → Waits before g → Waits after g
+  waits_still g own was = record { unordered = same.source g.graft (is_own setup p g own) ∙ was.unordered; unended = same.outcome g.graft (is_own setup p g own) ∙ was.unended }
+
+  behind_still : (g : ScriptGraft) → IsGraftOf setup p g → IsBehind setup before g → IsBehind setup after g
+  behind_still g own was = record { begun = begun_still g was.begun; over = over was.over } where
+    over : HasEnded before g ⊎ (Waits before g × (target_in setup before g ≡ None)) → HasEnded after g ⊎ (Waits after g × (target_in setup after g ≡ None))
+    over (inl ended) = inl (ended_still g own ended)
+    over (inr (waits, none)) = inr (waits_still g own waits, target_still g own was.begun ∙ none)
+
+  goes_on_still : (phase : Phase) (now : List ScriptGraft) → SameGroup phase before after → GoesOnIn setup before p phase now → GoesOnIn setup after p phase now
+  goes_on_still (Idle q) now group none = none
+  goes_on_still (Busy q k t stage) now group was =
+      let g : ScriptGraft = record { graft = k; peering = p; step = was.step } in
+      let mine : is_of setup p k ≡ true = own_known setup p k was.known in
+      let at_work = was.begun in
+      record {
+        step = was.step;
+        is = was.is;
+        known = was.known;
+        begun = at_work ∙ sym group;
+        aims = target_still g (was.known, refl) (omega (arith, at_work)) ∙ was.aims;
+        ordered = same.source k mine ∙ was.ordered;
+        unended = same.outcome k mine ∙ was.unended;
+      }
+
+  alike : (g : ScriptGraft) → IsGraftOf setup p g → HasBegun setup before g ⊎ Waits before g → CountsAlike setup before after g
+  alike g own (inl begun) = record { accepted = ap is_accepted (same.outcome g.graft (is_own setup p g own)); target = λ accepted. target_still g own begun }
+  alike g own (inr waits) = record {
+    accepted = ap is_accepted (same.outcome g.graft (is_own setup p g own));
+    target = λ accepted. (let e : true ≡ false = sym accepted ∙ ap is_accepted waits.unended in absurd cc);
+  }
+
+  pub placement_same : (phase : Phase) → LogSays setup before p phase → placement setup after p ≡ placement setup before p
+  placement_same phase log = placed_alike setup before after p
+      (all_both (IsGraftOf setup p) (BegunOrWaits setup before) (CountsAlike setup before after) (grafts_of setup p) alike (all_of_peering setup p) (begun_or_waits setup before p phase log))
+
+  pub log_kept : (phase : Phase) → SameGroup phase before after → LogSays setup before p phase → LogSays setup after p phase
+  log_kept phase group log =
+      let own : AllByRecursion (IsGraftOf setup p) (log.past ++ (log.now ++ log.later)) = log_own setup before p phase log in
+      let own_later : AllByRecursion (IsGraftOf setup p) log.later = all_back (IsGraftOf setup p) log.now log.later (all_back (IsGraftOf setup p) log.past (log.now ++ log.later) own) in
+      record {
+        past = log.past;
+        now = log.now;
+        later = log.later;
+        grafts = log.grafts;
+        are_behind = all_both (IsGraftOf setup p) (IsBehind setup before) (IsBehind setup after) log.past behind_still (all_front (IsGraftOf setup p) log.past (log.now ++ log.later) own) log.are_behind;
+        goes_on = goes_on_still phase log.now group log.goes_on;
+        wait = all_both (IsGraftOf setup p) (Waits before) (Waits after) log.later waits_still own_later log.wait;
+        placed = placement_same phase log ∙ log.placed;
+      }
 
 pub log_still : (setup : Setup) (p : ℕ) (before after : OperatorPart) (phase : Phase) → SameLog setup p before after → LogSays setup before p phase → LogSays setup after p phase
-log_still setup p before after phase same log =
-    let own : AllByRecursion (IsOwn setup p) (log.past ++ (under_way phase p ++ log.later)) = log_own setup before p phase log in
-    let own_later : AllByRecursion (IsOwn setup p) log.later = all_back (IsOwn setup p) (under_way phase p) log.later (all_back (IsOwn setup p) log.past (under_way phase p ++ log.later) own) in
-    record {
-      past = log.past;
-      later = log.later;
-      grafts = log.grafts;
-      have_ended = all_both (IsOwn setup p) (HasEnded before) (HasEnded after) log.past (λ g. ended_still setup p before after g same) (all_front (IsOwn setup p) log.past (under_way phase p ++ log.later) own) log.have_ended;
-      goes_on = goes_on_still setup p before after phase same log.goes_on;
-      wait = all_both (IsOwn setup p) (Waits before) (Waits after) log.later (λ g. waits_still setup p before after g same) own_later log.wait;
-      placed = placement_same setup p before after same ∙ log.placed;
-      issued = λ n t step. same.issued n t step ∙ (log.issued n t step ∙ sym (ap is_some (same.source (graft_number setup n) (own_step setup n p t step))));
-    }
+log_still setup p before after phase same = log_kept setup p before after same.kept phase (by_phase phase) where
+  by_phase : (x : Phase) → SameGroup x before after
+  by_phase (Idle q) = tt
+  by_phase (Busy q k t stage) = same.group
 
 -- the phase moves on, and the graft stays the same
 pub log_on : (setup : Setup) (operator : OperatorPart) (p q k t : ℕ) (stage next : Stage) → LogSays setup operator p (Busy q k t stage) → LogSays setup operator p (Busy q k t next)
-log_on setup operator p q k t stage next log = record { past = log.past; later = log.later; grafts = log.grafts; have_ended = log.have_ended; goes_on = log.goes_on; wait = log.wait; placed = log.placed; issued = log.issued }
+log_on setup operator p q k t stage next log = record { past = log.past; now = log.now; later = log.later; grafts = log.grafts; are_behind = log.are_behind; goes_on = log.goes_on; wait = log.wait; placed = log.placed }

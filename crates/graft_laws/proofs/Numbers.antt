@@ -1,137 +1,132 @@
--- The numbers of a script's grafts: each names one graft, and they rise.
-use Rattle.std.proofs.Common.{◌≡◌, ◌==◌, ℕ, zero, suc, ◌+◌, ◌<◌, Bool, true, List, [], ◌∷◌, ◌++◌, length, take, drop, Option, Some, None, refl, ap, ◌∙◌, subst, arith}
-use Rattle.std.specs.Prelude.{filter, slice_get, ◌≢◌}
-use Rattle.std.specs.List.{AllByRecursion, find}
+-- The grafts of a peering: each number is that of one graft, and the numbers rise.
+use Rattle.std.proofs.Common.{◌≡◌, ◌==◌, cond, ℕ, zero, suc, ◌+◌, ◌<◌, Bool, true, false, List, [], ◌∷◌, ◌++◌, Option, Some, None, refl, ap, ◌∙◌, subst, arith}
 use Rattle.std.proofs.lemmas.Bool.Decides.{nat_tests}
 use Rattle.std.proofs.lemmas.List.Elements.{filter-append}
-use Rattle.graft_model.specs.Setups.{Setup, ScriptStep, SayStep, MoveStep, SettleStep, ScriptGraft, grafts_after, grafts_in, graft_number}
-use Rattle.graft_laws.specs.Log.{grafts_of, graft_at, is_peering, is_of}
-use Rattle.graft_laws.proofs.Lists.{all_map, all_both, filter_all, filter_tests}
+use Rattle.std.proofs.lemmas.Option.{same_Some}
+use Rattle.std.specs.Prelude.{filter, slice_get}
+use Rattle.std.specs.List.{AllByRecursion}
+use Rattle.graft_model.specs.Setups.{Setup, ScriptGraft, grafts_in, graft_at}
+use Rattle.graft_model.proofs.Numbers.{number_of_place, graft_by_place, place_of_graft, number_is, graft_is_known}
+use Rattle.graft_laws.specs.Log.{grafts_of, is_peering, is_of}
+use Rattle.graft_laws.proofs.Lists.{all_both, filter_all, filter_tests}
 
-abbrev pub the_graft : ℕ → ℕ → ℕ → ScriptGraft
-the_graft k p t = record { graft = k; peering = p; target = t }
+-- ---- items of a list by their places
 
--- ---- each number is found where it stands
+all_at : {A : Type 0} (P : A → Type 0) (xs : List A) → ((i : ℕ) (x : A) → slice_get xs i ≡ Some x → P x) → AllByRecursion P xs
+all_at P [] each = tt
+all_at P (x ∷ xs) each = (each zero x refl, all_at P xs (λ i y e. each (suc i) y e))
 
-pub all_above : (k : ℕ) (steps : List ScriptStep) → AllByRecursion (λ (g : ScriptGraft). k < g.graft) (grafts_after k steps)
-all_above k [] = tt
-all_above k (SayStep peering bytes ∷ steps) = all_above k steps
-all_above k (SettleStep ∷ steps) = all_above k steps
-all_above k (MoveStep peering target ∷ steps) =
-    (omega arith, all_map (λ (g : ScriptGraft). k + 1 < g.graft) (λ (g : ScriptGraft). k < g.graft) (grafts_after (k + 1) steps) (λ g l. omega arith) (all_above (k + 1) steps))
-
-abbrev IsFound : List ScriptGraft → ScriptGraft → Type 0
-IsFound gs g = find (λ (x : ScriptGraft). x.graft == g.graft) gs ≡ Some g
-
-found_first : (k p t : ℕ) (gs : List ScriptGraft) → IsFound (the_graft k p t ∷ gs) (the_graft k p t)
-found_first k p t gs = grind (arith, nat_tests)
-
-found_later : (k p t : ℕ) (gs : List ScriptGraft) (g : ScriptGraft) → IsFound gs g → k < g.graft → IsFound (the_graft k p t ∷ gs) g
-found_later k p t gs g is l = grind (arith, nat_tests)
-
-all_found : (k : ℕ) (steps : List ScriptStep) → AllByRecursion (IsFound (grafts_after k steps)) (grafts_after k steps)
-all_found k [] = tt
-all_found k (SayStep peering bytes ∷ steps) = all_found k steps
-all_found k (SettleStep ∷ steps) = all_found k steps
-all_found k (MoveStep p t ∷ steps) =
-    let rest : List ScriptGraft = grafts_after (k + 1) steps in
-    (found_first (k + 1) p t rest, all_both (IsFound rest) (λ (g : ScriptGraft). k + 1 < g.graft) (IsFound (the_graft (k + 1) p t ∷ rest)) rest (found_later (k + 1) p t rest) (all_found (k + 1) steps) (all_above (k + 1) steps))
-
-pub known_all : (setup : Setup) → AllByRecursion (λ (g : ScriptGraft). graft_at setup g.graft ≡ Some g) (grafts_in setup)
-known_all setup = all_found 0 setup.steps
-
--- the numbers of a peering's grafts are its own
-is_own : (setup : Setup) (p : ℕ) (g : ScriptGraft) → graft_at setup g.graft ≡ Some g → (g.peering == p) ≡ true → is_of setup p g.graft ≡ true
-is_own setup p g known is = ap (is_peering p) known ∙ is
-
-pub all_own : (setup : Setup) (p : ℕ) → AllByRecursion (λ (g : ScriptGraft). is_of setup p g.graft ≡ true) (grafts_of setup p)
-all_own setup p = all_both (λ (g : ScriptGraft). graft_at setup g.graft ≡ Some g) (λ (g : ScriptGraft). (g.peering == p) ≡ true) (λ (g : ScriptGraft). is_of setup p g.graft ≡ true)
-    (grafts_of setup p) (is_own setup p) (filter_all (λ (g : ScriptGraft). graft_at setup g.graft ≡ Some g) (λ g. g.peering == p) (grafts_in setup) (known_all setup)) (filter_tests (λ g. g.peering == p) (grafts_in setup))
-
--- a number is of one peering alone
-one_peering_step : (o : Option ScriptGraft) (p q : ℕ) → is_peering p o ≡ true → is_peering q o ≡ true → p ≡ q
-one_peering_step None p q a b = absurd cc
-one_peering_step (Some g) p q a b = grind (arith, nat_tests)
-
-pub one_peering : (setup : Setup) (p q k : ℕ) → is_of setup p k ≡ true → is_of setup q k ≡ true → p ≡ q
-one_peering setup p q k a b = one_peering_step (graft_at setup k) p q a b
-
--- ---- the graft of a step
-
-same_front : (k j p q t u : ℕ) (steps : List ScriptStep) → Some (MoveStep q u) ≡ Some (MoveStep p t) → j ≡ k + 0 + 1
-    → the_graft (k + 1) q u ∷ grafts_after (k + 1) steps ≡ the_graft j p t ∷ grafts_after j steps
-same_front k j p q t u steps e is =
-    let n : k + 1 ≡ j = omega arith in
-    let a : q ≡ p = cc in
-    let b : u ≡ t = cc in
-    ap (λ x. the_graft x q u ∷ grafts_after x steps) n ∙ (ap (λ x. the_graft j x u ∷ grafts_after j steps) a ∙ ap (λ x. the_graft j p x ∷ grafts_after j steps) b)
-
--- the script's grafts are those of the steps before, its own and those of the steps after
-pub split_at : (steps : List ScriptStep) (n k j p t : ℕ) → slice_get steps n ≡ Some (MoveStep p t) → j ≡ k + length (grafts_after k (take n steps)) + 1
-    → grafts_after k steps ≡ grafts_after k (take n steps) ++ the_graft j p t ∷ grafts_after j (drop (suc n) steps)
-split_at [] n k j p t e is = absurd cc
-split_at (SayStep q bytes ∷ steps) zero k j p t e is = absurd cc
-split_at (SettleStep ∷ steps) zero k j p t e is = absurd cc
-split_at (MoveStep q u ∷ steps) zero k j p t e is = same_front k j p q t u steps e is
-split_at (SayStep q bytes ∷ steps) (suc n) k j p t e is = split_at steps n k j p t e is
-split_at (SettleStep ∷ steps) (suc n) k j p t e is = split_at steps n k j p t e is
-split_at (MoveStep q u ∷ steps) (suc n) k j p t e is = ap (λ (x : List ScriptGraft). the_graft (k + 1) q u ∷ x) (split_at steps n (k + 1) j p t e (omega arith))
-
--- what holds of the graft of each step holds of all grafts
-pub all_steps : (P : ScriptGraft → Type 0) (k : ℕ) (steps : List ScriptStep)
-    → ((n p t j : ℕ) → slice_get steps n ≡ Some (MoveStep p t) → j ≡ k + length (grafts_after k (take n steps)) + 1 → P (the_graft j p t)) → AllByRecursion P (grafts_after k steps)
-all_steps P k [] h = tt
-all_steps P k (SayStep q bytes ∷ steps) h = all_steps P k steps (λ n p t j e is. h (suc n) p t j e is)
-all_steps P k (SettleStep ∷ steps) h = all_steps P k steps (λ n p t j e is. h (suc n) p t j e is)
-all_steps P k (MoveStep q u ∷ steps) h = (h 0 q u (k + 1) refl (omega arith), all_steps P (k + 1) steps (λ n p t j e is. h (suc n) p t j e (omega arith)))
-
--- a later move step has a higher number
-pub rises : (steps : List ScriptStep) (n m k p t : ℕ) → slice_get steps n ≡ Some (MoveStep p t) → n < m → length (grafts_after k (take n steps)) < length (grafts_after k (take m steps))
-rises [] n m k p t e l = absurd cc
-rises (s ∷ steps) n zero k p t e l = absurd (omega arith)
-rises (SayStep q bytes ∷ steps) zero (suc m) k p t e l = absurd cc
-rises (SettleStep ∷ steps) zero (suc m) k p t e l = absurd cc
-rises (MoveStep q u ∷ steps) zero (suc m) k p t e l = omega arith
-rises (SayStep q bytes ∷ steps) (suc n) (suc m) k p t e l = rises steps n m k p t e (omega arith)
-rises (SettleStep ∷ steps) (suc n) (suc m) k p t e l = rises steps n m k p t e (omega arith)
-rises (MoveStep q u ∷ steps) (suc n) (suc m) k p t e l = omega (arith, rises steps n m (k + 1) p t e (omega arith))
-
-above_or_below : (n m : ℕ) → n ≢ m → (n < m → ⊥) → (m < n → ⊥) → ⊥
-above_or_below n m ne a b = absurd (ne (omega arith))
-
-pub other_number : (setup : Setup) (n m p q t u : ℕ) → slice_get setup.steps n ≡ Some (MoveStep p t) → slice_get setup.steps m ≡ Some (MoveStep q u) → n ≢ m → graft_number setup n ≢ graft_number setup m
-other_number setup n m p q t u e f ne is = above_or_below n m ne
-    (λ l. let r = rises setup.steps n m 0 p t e l in omega arith)
-    (λ l. let r = rises setup.steps m n 0 q u f l in omega arith)
-
--- ---- a peering's grafts about a step
-
-abbrev pub earlier_grafts : Setup → ℕ → ℕ → List ScriptGraft
-earlier_grafts setup p n = filter (λ (g : ScriptGraft). g.peering == p) (grafts_after 0 (take n setup.steps))
-
-abbrev pub later_grafts : Setup → ℕ → ℕ → List ScriptGraft
-later_grafts setup p n = filter (λ (g : ScriptGraft). g.peering == p) (grafts_after (graft_number setup n) (drop (suc n) setup.steps))
-
-own_first : (k p t : ℕ) (gs : List ScriptGraft) → filter (λ (g : ScriptGraft). g.peering == p) (the_graft k p t ∷ gs) ≡ the_graft k p t ∷ filter (λ (g : ScriptGraft). g.peering == p) gs
-own_first k p t gs = grind (arith, nat_tests)
-
-pub split_of : (setup : Setup) (n p t : ℕ) → slice_get setup.steps n ≡ Some (MoveStep p t)
-    → grafts_of setup p ≡ earlier_grafts setup p n ++ the_graft (graft_number setup n) p t ∷ later_grafts setup p n
-split_of setup n p t e =
-    let k : ℕ = graft_number setup n in
-    let test : ScriptGraft → Bool = λ g. g.peering == p in
-    let rest : List ScriptGraft = grafts_after k (drop (suc n) setup.steps) in
-    ap (filter test) (split_at setup.steps n 0 k p t e (omega arith))
-    ∙ (filter-append test (grafts_after 0 (take n setup.steps)) (the_graft k p t ∷ rest)
-    ∙ ap (λ (x : List ScriptGraft). earlier_grafts setup p n ++ x) (own_first k p t rest))
+split_at : {A : Type 0} (xs : List A) (i : ℕ) (x : A) → slice_get xs i ≡ Some x → (us : List A) × (vs : List A) × (xs ≡ us ++ x ∷ vs)
+split_at [] i x e = absurd cc
+split_at (y ∷ xs) zero x e = ([], xs, ap (λ z. z ∷ xs) (same_Some y x e))
+split_at (y ∷ xs) (suc i) x e = let s = split_at xs i x e in (y ∷ s.0, s.1, ap (λ (zs : List _). y ∷ zs) s.2)
 
 pub found_in : (gs hs : List ScriptGraft) (g : ScriptGraft) (P : ScriptGraft → Type 0) → AllByRecursion P (gs ++ g ∷ hs) → P g
 found_in [] hs g P all = all.0
 found_in (x ∷ gs) hs g P all = found_in gs hs g P all.1
 
-pub step_known : (setup : Setup) (n p t : ℕ) → slice_get setup.steps n ≡ Some (MoveStep p t) → graft_at setup (graft_number setup n) ≡ Some (the_graft (graft_number setup n) p t)
-step_known setup n p t e =
-    let k : ℕ = graft_number setup n in
-    let P : ScriptGraft → Type 0 = λ g. graft_at setup g.graft ≡ Some g in
-    found_in (grafts_after 0 (take n setup.steps)) (grafts_after k (drop (suc n) setup.steps)) (the_graft k p t) P
-    (subst (λ (x : List ScriptGraft). AllByRecursion P x) (split_at setup.steps n 0 k p t e (omega arith)) (known_all setup))
+-- ---- numbers rise along the script
+
+abbrev Rises : List ScriptGraft → Type 0
+Rises [] = Unit {0}
+Rises (g ∷ gs) = AllByRecursion (λ (x : ScriptGraft). g.graft < x.graft) gs × Rises gs
+
+-- where each number is that of its place, counted from one above k
+all_rise : (k : ℕ) (gs : List ScriptGraft) → ((i : ℕ) (g : ScriptGraft) → slice_get gs i ≡ Some g → g.graft ≡ k + i + 1) → Rises gs
+all_rise k [] numbers = tt
+all_rise k (g ∷ gs) numbers =
+    let first = numbers zero g refl in (
+      all_at (λ (x : ScriptGraft). g.graft < x.graft) gs (λ i x e. let n = numbers (suc i) x e in omega (arith, first, n)),
+      all_rise (k + 1) gs (λ i x e. let n = numbers (suc i) x e in omega (arith, n)),
+    )
+
+rises_step : (b : Bool) (g : ScriptGraft) (gs : List ScriptGraft) → AllByRecursion (λ (x : ScriptGraft). g.graft < x.graft) gs → Rises gs → Rises (cond b (g ∷ gs) gs)
+rises_step true g gs all rise = (all, rise)
+rises_step false g gs all rise = rise
+
+filter_rises : (test : ScriptGraft → Bool) (gs : List ScriptGraft) → Rises gs → Rises (filter test gs)
+filter_rises test [] rise = tt
+filter_rises test (g ∷ gs) rise = rises_step (test g) g (filter test gs) (filter_all (λ (x : ScriptGraft). g.graft < x.graft) test gs rise.0) (filter_rises test gs rise.1)
+
+grafts_rise : (setup : Setup) (p : ℕ) → Rises (grafts_of setup p)
+grafts_rise setup p = filter_rises (λ g. g.peering == p) (grafts_in setup) (all_rise 0 (grafts_in setup) (λ i g e. let n = number_of_place setup i g e in omega (arith, n)))
+
+front_below : (gs hs : List ScriptGraft) (g : ScriptGraft) → Rises (gs ++ g ∷ hs) → AllByRecursion (λ (x : ScriptGraft). x.graft < g.graft) gs
+front_below [] hs g rise = tt
+front_below (y ∷ gs) hs g rise = (found_in gs hs g (λ (x : ScriptGraft). y.graft < x.graft) rise.0, front_below gs hs g rise.1)
+
+back_above : (gs hs : List ScriptGraft) (g : ScriptGraft) → Rises (gs ++ g ∷ hs) → AllByRecursion (λ (x : ScriptGraft). g.graft < x.graft) hs
+back_above [] hs g rise = rise.0
+back_above (y ∷ gs) hs g rise = back_above gs hs g rise.1
+
+-- of a peering's grafts those before one have lower numbers, and those behind it higher ones
+pub before_below : (setup : Setup) (p : ℕ) (gs hs : List ScriptGraft) (g : ScriptGraft) → grafts_of setup p ≡ gs ++ g ∷ hs → AllByRecursion (λ (x : ScriptGraft). x.graft < g.graft) gs
+before_below setup p gs hs g is = front_below gs hs g (subst Rises is (grafts_rise setup p))
+
+pub behind_above : (setup : Setup) (p : ℕ) (gs hs : List ScriptGraft) (g : ScriptGraft) → grafts_of setup p ≡ gs ++ g ∷ hs → AllByRecursion (λ (x : ScriptGraft). g.graft < x.graft) hs
+behind_above setup p gs hs g is = back_above gs hs g (subst Rises is (grafts_rise setup p))
+
+-- ---- whose a graft is
+
+-- the script's graft of its number is one of the peering
+abbrev pub IsGraftOf : Setup → ℕ → ScriptGraft → Type 0
+IsGraftOf setup p g = (graft_at setup g.graft ≡ Some g) × (g.peering ≡ p)
+
+all_known : (setup : Setup) → AllByRecursion (λ (g : ScriptGraft). graft_at setup g.graft ≡ Some g) (grafts_in setup)
+all_known setup = all_at (λ (g : ScriptGraft). graft_at setup g.graft ≡ Some g) (grafts_in setup) (λ i g e.
+    let n = number_of_place setup i g e in
+    let m : g.graft ≡ suc i = omega (arith, n) in
+    ap (graft_at setup) m ∙ (graft_by_place setup i ∙ e))
+
+pub all_of_peering : (setup : Setup) (p : ℕ) → AllByRecursion (IsGraftOf setup p) (grafts_of setup p)
+all_of_peering setup p = all_both (λ (g : ScriptGraft). graft_at setup g.graft ≡ Some g) (λ (g : ScriptGraft). (g.peering == p) ≡ true) (IsGraftOf setup p) (grafts_of setup p)
+    (λ g known own. (known, grind (arith, nat_tests)))
+    (filter_all (λ (g : ScriptGraft). graft_at setup g.graft ≡ Some g) (λ g. g.peering == p) (grafts_in setup) (all_known setup)) (filter_tests (λ g. g.peering == p) (grafts_in setup))
+
+pub is_own : (setup : Setup) (p : ℕ) (g : ScriptGraft) → IsGraftOf setup p g → is_of setup p g.graft ≡ true
+is_own setup p g own = ap (is_peering p) own.0 ∙ (let is : g.peering ≡ p = own.1 in grind (arith, nat_tests))
+
+-- the peering's graft of a number
+pub own_graft : (setup : Setup) (p k : ℕ) → is_of setup p k ≡ true → (g : ScriptGraft) × (g.graft ≡ k) × IsGraftOf setup p g
+own_graft setup p k own = by_value (graft_at setup k) refl own where
+  by_value : (o : Option ScriptGraft) → graft_at setup k ≡ o → is_peering p o ≡ true → (g : ScriptGraft) × (g.graft ≡ k) × IsGraftOf setup p g
+  by_value None e is = absurd cc
+  by_value (Some g) e is = (g, number_is setup k g e, (graft_is_known setup k g e, grind (arith, nat_tests)))
+
+-- a number is of one peering alone
+pub one_peering : (setup : Setup) (p q k : ℕ) → is_of setup p k ≡ true → is_of setup q k ≡ true → p ≡ q
+one_peering setup p q k a b = by_value (graft_at setup k) a b where
+  by_value : (o : Option ScriptGraft) → is_peering p o ≡ true → is_peering q o ≡ true → p ≡ q
+  by_value None a b = absurd cc
+  by_value (Some g) a b = grind (arith, nat_tests)
+
+-- ---- where a graft stands among those of its peering
+
+own_first : (p : ℕ) (g : ScriptGraft) (gs : List ScriptGraft) → g.peering ≡ p → filter (λ (x : ScriptGraft). x.peering == p) (g ∷ gs) ≡ g ∷ filter (λ (x : ScriptGraft). x.peering == p) gs
+own_first p g gs is = grind (arith, nat_tests)
+
+pub record StandsAmong (setup : Setup) (p : ℕ) (g : ScriptGraft) : Type 0 where
+  pub front : List ScriptGraft
+  pub back : List ScriptGraft
+  pub is : grafts_of setup p ≡ front ++ g ∷ back
+
+pub among : (setup : Setup) (p : ℕ) (g : ScriptGraft) → IsGraftOf setup p g → StandsAmong setup p g
+among setup p g own =
+    let test : ScriptGraft → Bool = λ x. x.peering == p in
+    let place = place_of_graft setup g.graft g own.0 in
+    let s = split_at (grafts_in setup) place.0 g place.2 in
+    record {
+      front = filter test s.0;
+      back = filter test s.1;
+      is = ap (filter test) s.2 ∙ (filter-append test s.0 (g ∷ s.1) ∙ ap (λ (x : List ScriptGraft). filter test s.0 ++ x) (own_first p g s.1 own.1));
+    }
+
+-- what holds of all grafts of a peering holds of each
+pub of_all : (setup : Setup) (p : ℕ) (g : ScriptGraft) (P : ScriptGraft → Type 0) → IsGraftOf setup p g → AllByRecursion P (grafts_of setup p) → P g
+of_all setup p g P own all =
+    let a : StandsAmong setup p g = among setup p g own in
+    found_in a.front a.back g P (subst (λ (x : List ScriptGraft). AllByRecursion P x) a.is all)
+
+-- and of the one that has a number
+pub at_number : (setup : Setup) (p k : ℕ) (P : ScriptGraft → Type 0) → AllByRecursion P (grafts_of setup p) → is_of setup p k ≡ true → (g : ScriptGraft) × (g.graft ≡ k) × P g
+at_number setup p k P all own = let f = own_graft setup p k own in (f.0, f.1, of_all setup p f.0 P f.2 all)

@@ -1,60 +1,39 @@
--- Each issued graft without an outcome is under way in one phase, and a report at the head of a channel is of such a one.
+-- Each graft that was ordered and has no outcome is under way in one phase, and a report at the head of a channel is of such a one.
 use Rattle.std.proofs.Common.{◌≡◌, ◌==◌, cond, ℕ, ◌<◌, ◌≤◌, Bool, true, false, List, [], ◌∷◌, ◌++◌, Option, Some, None, refl, sym, ap, ◌∙◌, subst, arith, inl, inr}
 use Rattle.std.proofs.lemmas.Bool.Decides.{nat_tests}
-use Rattle.std.specs.Prelude.{◌≢◌, ◌⊎◌, slice_get, is_some, IsSome}
-use Rattle.std.specs.List.{AllByRecursion, find}
+use Rattle.std.specs.Prelude.{◌≢◌, ◌⊎◌, IsSome}
+use Rattle.std.specs.List.{AllByRecursion}
 use Rattle.graft_steps.specs.declared.refusal.Outcome.{Outcome}
 use Rattle.graft_steps.specs.declared.refusal.Outcome.TheVariants.{Accepted, Refused}
 use Rattle.session_value.specs.Sessions.{SessionValue}
-use Rattle.graft_model.specs.Setups.{Setup, IsSetup, ScriptGraft, MoveStep, peerings_in, grafts_in, graft_number}
+use Rattle.graft_model.specs.Setups.{Setup, IsSetup, ScriptGraft, peerings_in, graft_at}
 use Rattle.graft_model.specs.Parts.{Place, Vacant, Live, Frozen, Shadow, Leaving, Owing, Asking as ToAnswer, OperatorPart, Told, Moved, Back, Asked, Answered, Done, Report, World}
 use Rattle.graft_model.specs.RouterRows.{RouterTaken, OrderIn, SegmentIn, MeshIn}
 use Rattle.graft_model.specs.Taking.{RouterMayTake, OperatorMayTake}
-use Rattle.graft_model.specs.OperatorRows.{OperatorTaken, ReportIn, placement}
+use Rattle.graft_model.specs.Placements.{target_in, placement}
+use Rattle.graft_model.specs.OperatorRows.{OperatorTaken, ReportIn}
 use Rattle.graft_model.specs.Laws.{HasGraft, HasOnce}
 use Rattle.graft_model.specs.Steps.{Heads}
-use Rattle.graft_laws.specs.Phases.{Stage, Ordered, Stored, Halted, Moving, Landed, Asking, Confirmed, Returning, Declined, Cleared, Phase, Idle, Busy, source_of, under_way, place_by}
-use Rattle.graft_laws.specs.Log.{graft_at, is_peering, is_of, HasEnded, Waits, LogSays}
+use Rattle.graft_laws.specs.Phases.{Stage, Ordered, Stored, Halted, Moving, Landed, Asking, Confirmed, Returning, Declined, Cleared, Phase, Idle, Busy, source_of, place_by}
+use Rattle.graft_laws.specs.Log.{grafts_of, is_peering, is_of, HasEnded, Waits, IsBehind, GoesOnIn, LogSays}
 use Rattle.graft_laws.specs.Owned.{reports_of, Stands, Owned}
 use Rattle.graft_laws.specs.Facts.{IsUnderWay}
 use Rattle.graft_laws.specs.Moves.{RouterHeads, OperatorHeads}
 use Rattle.graft_laws.proofs.Lists.{all_map, all_join}
 use Rattle.graft_laws.proofs.Phases.{refusal_in, success_in}
-use Rattle.graft_laws.proofs.Numbers.{the_graft, all_steps, one_peering, step_known, split_of, earlier_grafts, later_grafts, found_in}
+use Rattle.graft_laws.proofs.Numbers.{one_peering, of_all}
+use Rattle.graft_laws.proofs.GraftBounds.{graft_within}
 use Rattle.graft_laws.proofs.Logs.{own_known}
 use Rattle.graft_laws.proofs.Following.{own_head}
 use Rattle.graft_laws.proofs.Deeds.{below_or}
-use Rattle.graft_laws.proofs.FarDeeds.{step_is}
 use Rattle.graft_laws.proofs.Heads.{one_phase, may_store, vacant_at, shadow_back, shadow_done}
-
--- ---- the script's grafts
-
-find_all_step : {A : Type 0} (P : A → Type 0) (y x : A) (b : Bool) (rest : Option A) → P y → (rest ≡ Some x → P x) → cond b (Some y) rest ≡ Some x → P x
-find_all_step P y x true rest here later e = subst P (let f : y ≡ x = cc in f) here
-find_all_step P y x false rest here later e = later e
-
-pub find_all : {A : Type 0} (P : A → Type 0) (test : A → Bool) (xs : List A) (x : A) → AllByRecursion P xs → find test xs ≡ Some x → P x
-find_all P test [] x all e = absurd cc
-find_all P test (y ∷ xs) x all e = find_all_step P y x (test y) (find test xs) all.0 (λ f. find_all P test xs x all.1 f) e
-
-find_test_step : {A : Type 0} (test : A → Bool) (y x : A) (b : Bool) (rest : Option A) → test y ≡ b → (rest ≡ Some x → test x ≡ true) → cond b (Some y) rest ≡ Some x → test x ≡ true
-find_test_step test y x true rest is later e = ap test (let f : x ≡ y = cc in f) ∙ is
-find_test_step test y x false rest is later e = later e
-
-pub find_test : {A : Type 0} (test : A → Bool) (xs : List A) (x : A) → find test xs ≡ Some x → test x ≡ true
-find_test test [] x e = absurd cc
-find_test test (y ∷ xs) x e = find_test_step test y x (test y) (find test xs) refl (λ f. find_test test xs x f) e
-
-within : (setup : Setup) → IsSetup setup → AllByRecursion (λ (g : ScriptGraft). g.peering < peerings_in setup) (grafts_in setup)
-within setup ok = all_steps (λ (g : ScriptGraft). g.peering < peerings_in setup) 0 setup.steps (λ n p t j e is. (step_is setup n p t ok e).0)
 
 -- a graft of the script is one of a peering of the setup
 pub known_graft : (setup : Setup) (k : ℕ) → IsSetup setup → IsSome (graft_at setup k) → (p : ℕ) × (p < peerings_in setup) × (is_of setup p k ≡ true)
 known_graft setup k ok some = by_value (graft_at setup k) refl some where
   by_value : (o : Option ScriptGraft) → graft_at setup k ≡ o → IsSome o → (p : ℕ) × (p < peerings_in setup) × (is_of setup p k ≡ true)
   by_value None e there = absurd cc
-  by_value (Some g) e there =
-      (g.peering, find_all (λ (x : ScriptGraft). x.peering < peerings_in setup) (λ x. x.graft == k) (grafts_in setup) g (within setup ok) e, ap (is_peering g.peering) e ∙ grind (arith, nat_tests))
+  by_value (Some g) e there = (g.peering, graft_within setup k g ok e, ap (is_peering g.peering) e ∙ grind (arith, nat_tests))
 
 -- ---- reports
 
@@ -93,69 +72,89 @@ module _ (setup : Setup) (w : World) (ok : IsSetup setup) (owned : Owned setup w
 -- ---- a graft of the log's three parts
 
 abbrev IsPart : OperatorPart → List ScriptGraft → ScriptGraft → Type 0
-IsPart operator mid g = HasEnded operator g ⊎ ((g ∷ [] ≡ mid) ⊎ Waits operator g)
+IsPart operator now g = HasEnded operator g ⊎ ((g ∷ [] ≡ now) ⊎ Waits operator g)
 
-mid_parts : (operator : OperatorPart) (phase : Phase) (p : ℕ) → AllByRecursion (IsPart operator (under_way phase p)) (under_way phase p)
-mid_parts operator (Idle q) p = tt
-mid_parts operator (Busy q k t stage) p = (inr (inl refl), tt)
+behind_part : (setup : Setup) (operator : OperatorPart) (now : List ScriptGraft) (g : ScriptGraft) → HasEnded operator g ⊎ (Waits operator g × (target_in setup operator g ≡ None)) → IsPart operator now g
+behind_part setup operator now g (inl ended) = inl ended
+behind_part setup operator now g (inr (waits, none)) = inr (inr waits)
 
-parts : (setup : Setup) (operator : OperatorPart) (p : ℕ) (phase : Phase) (log : LogSays setup operator p phase) → AllByRecursion (IsPart operator (under_way phase p)) (log.past ++ (under_way phase p ++ log.later))
-parts setup operator p phase log =
-    all_join (IsPart operator (under_way phase p)) log.past (under_way phase p ++ log.later)
-    (all_map (HasEnded operator) (IsPart operator (under_way phase p)) log.past (λ g e. inl e) log.have_ended)
-    (all_join (IsPart operator (under_way phase p)) (under_way phase p) log.later (mid_parts operator phase p)
-    (all_map (Waits operator) (IsPart operator (under_way phase p)) log.later (λ g x. inr (inr x)) log.wait))
+now_parts : (setup : Setup) (operator : OperatorPart) (p : ℕ) (phase : Phase) (now : List ScriptGraft) → GoesOnIn setup operator p phase now → AllByRecursion (IsPart operator now) now
+now_parts setup operator p (Idle q) now none = subst (λ (x : List ScriptGraft). AllByRecursion (IsPart operator x) x) (sym none) tt
+now_parts setup operator p (Busy q k t stage) now on = subst (λ (x : List ScriptGraft). AllByRecursion (IsPart operator x) x) (sym on.is) (inr (inl refl), tt)
 
-busy_is : (phase : Phase) (p k t : ℕ) → the_graft k p t ∷ [] ≡ under_way phase p → (stage : Stage) × (phase ≡ Busy (source_of phase) k t stage)
-busy_is (Idle q) p k t e = absurd cc
-busy_is (Busy q l u stage) p k t e =
-    let f : the_graft k p t ≡ the_graft l p u = cc in
-    let a : l ≡ k = ap (λ (g : ScriptGraft). g.graft) (sym f) in
-    let b : u ≡ t = ap (λ (g : ScriptGraft). g.target) (sym f) in
-    (stage, ap (λ x. Busy q x u stage) a ∙ ap (λ x. Busy q k x stage) b)
+parts : (setup : Setup) (operator : OperatorPart) (p : ℕ) (phase : Phase) (log : LogSays setup operator p phase) → AllByRecursion (IsPart operator log.now) (grafts_of setup p)
+parts setup operator p phase log = subst (λ (x : List ScriptGraft). AllByRecursion (IsPart operator log.now) x) (sym log.grafts)
+    (all_join (IsPart operator log.now) log.past (log.now ++ log.later)
+    (all_map (IsBehind setup operator) (IsPart operator log.now) log.past (λ g b. behind_part setup operator log.now g b.over) log.are_behind)
+    (all_join (IsPart operator log.now) log.now log.later (now_parts setup operator p phase log.now log.goes_on)
+    (all_map (Waits operator) (IsPart operator log.now) log.later (λ g x. inr (inr x)) log.wait)))
 
-goes_on_is : (setup : Setup) (operator : OperatorPart) (n p t : ℕ) (phase : Phase) → slice_get setup.steps n ≡ Some (MoveStep p t) → operator.issued n ≡ true → operator.outcome (graft_number setup n) ≡ None
-    → LogSays setup operator p phase → (stage : Stage) × (phase ≡ Busy (source_of phase) (graft_number setup n) t stage)
-goes_on_is setup operator n p t phase step issued unended log =
-    by_part (found_in (earlier_grafts setup p n) (later_grafts setup p n) (the_graft (graft_number setup n) p t) (IsPart operator (under_way phase p))
-    (subst (λ (x : List ScriptGraft). AllByRecursion (IsPart operator (under_way phase p)) x) (sym log.grafts ∙ split_of setup n p t step) (parts setup operator p phase log)))
+-- the graft is under way: from where it was ordered to its target, in one stage
+record IsGoing (setup : Setup) (operator : OperatorPart) (g : ScriptGraft) (phase : Phase) : Type 0 where
+  target : ℕ
+  aims : target_in setup operator g ≡ Some target
+  source : operator.source g.graft ≡ Some (source_of phase)
+  stage : Stage
+  is : phase ≡ Busy (source_of phase) g.graft target stage
+
+going_now : (setup : Setup) (operator : OperatorPart) (g : ScriptGraft) (p : ℕ) (phase : Phase) (now : List ScriptGraft) → g ∷ [] ≡ now → GoesOnIn setup operator p phase now → IsGoing setup operator g phase
+going_now setup operator g p (Idle q) now here none = let e : g ∷ [] ≡ [] = here ∙ none in absurd cc
+going_now setup operator g p (Busy q k t stage) now here on =
+    let it : ScriptGraft = record { graft = k; peering = p; step = on.step } in
+    let same : g ≡ it = only_one g it (here ∙ on.is) in
+    record {
+      target = t;
+      aims = ap (target_in setup operator) same ∙ on.aims;
+      source = ap (λ (x : ScriptGraft). operator.source x.graft) same ∙ on.ordered;
+      stage = stage;
+      is = ap (λ (x : ScriptGraft). Busy q x.graft t stage) (sym same);
+    }
   where
-    by_part : IsPart operator (under_way phase p) (the_graft (graft_number setup n) p t) → (stage : Stage) × (phase ≡ Busy (source_of phase) (graft_number setup n) t stage)
+    only_one : (x y : ScriptGraft) → x ∷ [] ≡ y ∷ [] → x ≡ y
+    only_one x y e = cc
+
+goes_on_is : (setup : Setup) (operator : OperatorPart) (g : ScriptGraft) (phase : Phase) → graft_at setup g.graft ≡ Some g → operator.source g.graft ≢ None → operator.outcome g.graft ≡ None
+    → LogSays setup operator g.peering phase → IsGoing setup operator g phase
+goes_on_is setup operator g phase known ordered unended log =
+    by_part (of_all setup g.peering g (IsPart operator log.now) (known, refl) (parts setup operator g.peering phase log))
+  where
+    by_part : IsPart operator log.now g → IsGoing setup operator g phase
     by_part (inl ended) = absurd (ended.ended unended)
-    by_part (inr (inl mid)) = busy_is phase p (graft_number setup n) t mid
-    by_part (inr (inr waits)) = (let e : true ≡ false = sym issued ∙ (log.issued n t step ∙ ap is_some waits.unordered) in absurd cc)
+    by_part (inr (inl here)) = going_now setup operator g g.peering phase log.now here log.goes_on
+    by_part (inr (inr waits)) = absurd (ordered waits.unordered)
 
 -- ---- in the world
 
 one_peering_of : (setup : Setup) (w : World) (x p q u k t v : ℕ) (one other : Stage) (s z : SessionValue) → Stands setup w x (Busy q k t one) s → Stands setup w p (Busy u k v other) z → x ≡ p
-one_peering_of setup w x p q u k t v one other s z b o = one_peering setup x p k (own_known setup x k t b.log.goes_on.known) (own_known setup p k v o.log.goes_on.known)
+one_peering_of setup w x p q u k t v one other s z b o = one_peering setup x p k (own_known setup x k b.log.goes_on.known) (own_known setup p k o.log.goes_on.known)
 
-pub under_way_once : (setup : Setup) (w : World) (n p t : ℕ) → IsSetup setup → Owned setup w → slice_get setup.steps n ≡ Some (MoveStep p t) → w.operator.issued n ≡ true → w.operator.outcome (graft_number setup n) ≡ None
-    → IsUnderWay setup w p (placement setup w.operator p) (graft_number setup n) t
-under_way_once setup w n p t ok owned step issued unended =
-    let k : ℕ = graft_number setup n in
+pub under_way_once : (setup : Setup) (w : World) (g : ScriptGraft) → IsSetup setup → Owned setup w → graft_at setup g.graft ≡ Some g → w.operator.source g.graft ≢ None → w.operator.outcome g.graft ≡ None
+    → (target : ℕ) × (target_in setup w.operator g ≡ Some target) × (w.operator.source g.graft ≡ Some (placement setup w.operator g.peering))
+    × IsUnderWay setup w g.peering (placement setup w.operator g.peering) g.graft target
+under_way_once setup w g ok owned known ordered unended =
+    let p : ℕ = g.peering in
+    let k : ℕ = g.graft in
     let q : ℕ = placement setup w.operator p in
-    let held = owned.peerings p (step_is setup n p t ok step).0 in
-    let on = goes_on_is setup w.operator n p t held.phase step issued unended held.stands.log in
-    let is : held.phase ≡ Busy q k t on.0 = on.1 ∙ ap (λ x. Busy x k t on.0) (sym held.stands.log.placed) in
-    let b : Stands setup w p (Busy q k t on.0) held.session = subst (λ (x : Phase). Stands setup w p x held.session) is held.stands in
-    record {
-      stage = on.0;
-      session = held.session;
-      stands = b;
-      one = λ x r u other s o. (let same : x ≡ p = one_peering_of setup w x p r q k u t other on.0 s held.session o b in
-          (same, one_phase setup w p (Busy r k u other) (Busy q k t on.0) s held.session (subst (λ (y : ℕ). Stands setup w y (Busy r k u other) s) same o) b));
-    }
+    let held = owned.peerings p (graft_within setup k g ok known) in
+    let on = goes_on_is setup w.operator g held.phase known ordered unended held.stands.log in
+    let placed : source_of held.phase ≡ q = sym held.stands.log.placed in
+    let is : held.phase ≡ Busy q k on.target on.stage = on.is ∙ ap (λ x. Busy x k on.target on.stage) placed in
+    let b : Stands setup w p (Busy q k on.target on.stage) held.session = subst (λ (x : Phase). Stands setup w p x held.session) is held.stands in (
+      on.target,
+      on.aims,
+      on.source ∙ ap Some placed,
+      record {
+        stage = on.stage;
+        session = held.session;
+        stands = b;
+        one = λ x r u other s o. (let same : x ≡ p = one_peering_of setup w x p r q k u on.target other on.stage s held.session o b in
+            (same, one_phase setup w p (Busy r k u other) (Busy q k on.target on.stage) s held.session (subst (λ (y : ℕ). Stands setup w y (Busy r k u other) s) same o) b));
+      },
+    )
 
--- a graft that wasn't issued is in no phase
-pub nowhere_unissued : (setup : Setup) (w : World) (n p t x q u : ℕ) (stage : Stage) (s : SessionValue) → IsSetup setup → Owned setup w → slice_get setup.steps n ≡ Some (MoveStep p t) → w.operator.issued n ≡ false
-    → Stands setup w x (Busy q (graft_number setup n) u stage) s → ⊥
-nowhere_unissued setup w n p t x q u stage s ok owned step unissued b =
-    let k : ℕ = graft_number setup n in
-    let same : x ≡ p = one_peering setup x p k (own_known setup x k u b.log.goes_on.known) (own_known setup p k t (step_known setup n p t step)) in
-    let o : Stands setup w p (Busy q k u stage) s = subst (λ (y : ℕ). Stands setup w y (Busy q k u stage) s) same b in
-    let e : false ≡ true = sym unissued ∙ (o.log.issued n t step ∙ ap is_some o.log.goes_on.ordered) in
-    absurd cc
+-- a graft that wasn't ordered is in no phase
+pub nowhere_unordered : (setup : Setup) (w : World) (k x q t : ℕ) (stage : Stage) (s : SessionValue) → w.operator.source k ≡ None → Stands setup w x (Busy q k t stage) s → ⊥
+nowhere_unordered setup w k x q t stage s unordered b = let e : None ≡ Some q = sym unordered ∙ b.log.goes_on.ordered in absurd cc
 
 -- ---- a graft is at one place of a router
 
@@ -210,7 +209,7 @@ graft_is_of setup w r p k owned has = by_bound (below_or p (peerings_in setup)) 
       let held = owned.peerings p l in
       let f = has_graft_busy held.phase held.session r k ((w.router r).places p) (held.stands.places r) has in
       let b : Stands setup w p (Busy f.0 k f.1 f.2) held.session = subst (λ (x : Phase). Stands setup w p x held.session) f.3 held.stands in
-      own_known setup p k f.1 b.log.goes_on.known
+      own_known setup p k b.log.goes_on.known
 
 pub at_one_place : (setup : Setup) (w : World) (r k : ℕ) → Owned setup w → HasOnce k (w.router r)
 at_one_place setup w r k owned p q a b = one_peering setup p q k (graft_is_of setup w r p k owned a) (graft_is_of setup w r q k owned b)

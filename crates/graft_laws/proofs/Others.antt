@@ -1,27 +1,42 @@
 -- What an event leaves of a peering that isn't its own.
-use Rattle.std.proofs.Common.{◌≡◌, ◌==◌, ℕ, Bool, true, List, [], ◌++◌, Option, Some, refl, sym, ap, ◌∙◌, subst, arith}
+use Rattle.std.proofs.Common.{◌≡◌, ◌==◌, ℕ, ◌≤◌, Bool, true, List, [], ◌++◌, Option, refl, sym, ap, ◌∙◌, subst, arith}
 use Rattle.std.proofs.lemmas.Bool.Decides.{nat_tests}
 use Rattle.std.proofs.lemmas.List.Elements.{filter-append}
 use Rattle.std.proofs.lemmas.List.{append-nil}
-use Rattle.std.specs.Prelude.{filter, slice_get}
+use Rattle.std.specs.Prelude.{filter}
 use Rattle.graft_model.specs.Points.{at}
-use Rattle.graft_model.specs.Setups.{Setup, MoveStep}
-use Rattle.graft_model.specs.Parts.{RouterPart, FarPart, OperatorPart, Mesh, GraftOrder, Report, World}
+use Rattle.graft_model.specs.Setups.{Setup, ScriptGraft, group_of}
+use Rattle.graft_model.specs.Parts.{RouterPart, FarPart, Gift, OperatorPart, Mesh, GraftOrder, Report, World}
 use Rattle.graft_model.specs.RouterRows.{RouterTaken, RouterSent}
 use Rattle.graft_model.specs.FarRows.{FarTaken, FarSent}
 use Rattle.graft_model.specs.OperatorRows.{OperatorTaken, OperatorSent}
 use Rattle.graft_laws.specs.Log.{is_of}
 use Rattle.graft_laws.specs.Owned.{is_on, mesh_of, orders_of, reports_of, IsAbsent}
+use Rattle.graft_laws.proofs.Numbers.{IsGraftOf}
 use Rattle.graft_laws.specs.Moves.{mesh_taken, inward_taken, orders_taken, mesh_sent, outward_sent, reports_sent, RouterMoves, FarMoves, OperatorMoves, orders_sent, reports_taken}
 
--- the log has the same of a peering's grafts
-pub record SameLog (setup : Setup) (p : ℕ) (before after : OperatorPart) : Type 0 where
+-- The log has the same of a peering's grafts: of their orders and outcomes, and of what those of the groups that have begun are given.
+pub record KeepsLog (setup : Setup) (p : ℕ) (before after : OperatorPart) : Type 0 where
+  pub group : before.group ≤ after.group
+  pub given : (g : ScriptGraft) → IsGraftOf setup p g → group_of setup g.step ≤ before.group → after.given g.graft ≡ before.given g.graft
   pub source : (k : ℕ) → is_of setup p k ≡ true → after.source k ≡ before.source k
   pub outcome : (k : ℕ) → is_of setup p k ≡ true → after.outcome k ≡ before.outcome k
-  pub issued : (n t : ℕ) → slice_get setup.steps n ≡ Some (MoveStep p t) → after.issued n ≡ before.issued n
+
+-- and the same group is at work
+pub record SameLog (setup : Setup) (p : ℕ) (before after : OperatorPart) : Type 0 where
+  pub kept : KeepsLog setup p before after
+  pub group : after.group ≡ before.group
+
+-- an event that changes no group and no gift
+pub same_if : (setup : Setup) (p : ℕ) (before after : OperatorPart) → after.group ≡ before.group → after.given ≡ before.given → ((k : ℕ) → is_of setup p k ≡ true → after.source k ≡ before.source k)
+    → ((k : ℕ) → is_of setup p k ≡ true → after.outcome k ≡ before.outcome k) → SameLog setup p before after
+same_if setup p before after group given source outcome = record {
+  kept = record { group = omega (arith, group); given = λ g own begun. ap (λ (f : ℕ → Gift). f g.graft) given; source = source; outcome = outcome };
+  group = group;
+}
 
 pub same_log : (setup : Setup) (p : ℕ) (before after : OperatorPart) → after ≡ before → SameLog setup p before after
-same_log setup p before after is = rw is (record { source = λ k own. refl; outcome = λ k own. refl; issued = λ n t step. refl })
+same_log setup p before after is = rw is (same_if setup p before before refl refl (λ k own. refl) (λ k own. refl))
 
 -- the world has the same of a peering, but for its far side and its tables
 pub record Untouched (setup : Setup) (p : ℕ) (before after : World) : Type 0 where

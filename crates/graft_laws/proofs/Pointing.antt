@@ -48,13 +48,13 @@ module _ (setup : Setup) (w v : World) (p : ℕ) (grows : LogGrows w.operator v.
 
 -- a graft that is under way comes after the last that landed
 below_graft : (setup : Setup) (w : World) (p q k t last : ℕ) (stage : Stage) (s : SessionValue) → Stands setup w p (Busy q k t stage) s → IsPast setup w p last → last < k
-below_graft setup w p q k t last stage s b (inl zero) = subst (λ (x : ℕ). x < k) (sym zero) (above_zero setup p k (own_known setup p k t b.log.goes_on.known))
+below_graft setup w p q k t last stage s b (inl zero) = subst (λ (x : ℕ). x < k) (sym zero) (above_zero setup p k (own_known setup p k b.log.goes_on.known))
 below_graft setup w p q k t last stage s b (inr past) = past_below setup w.operator p q k t last stage b.log past.0 past.1
 
 -- a graft that succeeded has its outcome once it is noted
 landed_ended : (setup : Setup) (w v : World) (p q k t r : ℕ) (stage : Stage) (s u : SessionValue) → LogGrows w.operator v.operator → Stands setup w p (Busy q k t stage) s → Stands setup v p (Idle r) u → IsPast setup v p k
 landed_ended setup w v p q k t r stage s u grows b then =
-    let own : is_of setup p k ≡ true = own_known setup p k t b.log.goes_on.known in
+    let own : is_of setup p k ≡ true = own_known setup p k b.log.goes_on.known in
     inr (own, idle_ended setup v.operator p r k then.log own (grows.source k (λ none. (let e : Some q ≡ None = sym b.log.goes_on.ordered ∙ none in absurd cc))))
 
 -- ---- words, where the router sends none

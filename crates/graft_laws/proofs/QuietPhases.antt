@@ -24,7 +24,7 @@ not_idle remote place s errand idle is = subst (IsIdle remote) is idle
 not_frozen : (remote : Endpoint) (place : Place) (s : SessionValue) (order : Order) → IsIdle remote place → place ≡ Frozen s order → ⊥
 not_frozen remote place s order idle is = subst (IsIdle remote) is idle
 
-quiet_idle : (setup : Setup) (w : World) (p : ℕ) (phase : Phase) (s : SessionValue) → Quiet setup w → Stands setup w p phase s → phase ≡ Idle (source_of phase)
+pub quiet_idle : (setup : Setup) (w : World) (p : ℕ) (phase : Phase) (s : SessionValue) → Quiet setup w → Stands setup w p phase s → phase ≡ Idle (source_of phase)
 quiet_idle setup w p (Idle q) s quiet b = refl
 quiet_idle setup w p (Busy q k t Ordered) s quiet b = absurd (nothing_in (λ (o : GraftOrder). o.peering == p) (w.orders q) (record { graft = k; peering = p; target = t }) (quiet.orders q) (b.orders q ∙ only_here q (record { graft = k; peering = p; target = t })))
 quiet_idle setup w p (Busy q k t Stored) s quiet b = absurd (not_idle (w.far p).end ((w.router q).places p) s (Leaving (record { graft = k; target = t })) (quiet.places q p) (b.places q ∙ placed_here q (Live s (Some (Leaving (record { graft = k; target = t }))))))

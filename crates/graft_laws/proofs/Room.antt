@@ -46,7 +46,7 @@ one_later_step f g a xs here rest = by_tests (f a) (g a) here where
   by_tests false true h = omega arith
   by_tests false false h = rest
 
-one_more : (f g : ℕ → Bool) (a n q : ℕ) → ((x : ℕ) → x ≢ q → f x ≡ true → g x ≡ true) → length (filter f (range_with_len a n)) ≤ length (filter g (range_with_len a n)) + 1
+pub one_more : (f g : ℕ → Bool) (a n q : ℕ) → ((x : ℕ) → x ≢ q → f x ≡ true → g x ≡ true) → length (filter f (range_with_len a n)) ≤ length (filter g (range_with_len a n)) + 1
 one_more f g a zero q h = omega arith
 one_more f g a (suc n) q h = by_test (a == q) refl (one_more f g (a + 1) n q h) where
   by_test : (b : Bool) → (a == q) ≡ b → length (filter f (range_with_len (a + 1) n)) ≤ length (filter g (range_with_len (a + 1) n)) + 1

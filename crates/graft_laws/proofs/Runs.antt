@@ -6,19 +6,19 @@ use Rattle.std.specs.List.{AllByRecursion}
 use Rattle.session_value.specs.Sessions.{SessionValue, begun}
 use Rattle.session_value.specs.declared.config.SessionConfig.{SessionConfig}
 use Rattle.graft_model.specs.Points.{at}
-use Rattle.graft_model.specs.Setups.{Setup, PeeringSetup, IsSetup, routers_in, peerings_in, room_of, config_of, start_of}
+use Rattle.graft_model.specs.Setups.{Setup, PeeringSetup, IsSetup, routers_in, peerings_in, room_of, config_of, start_of, graft_at}
 use Rattle.graft_model.specs.Parts.{RouterPart, Report, World}
 use Rattle.graft_model.specs.GraftRows.{taken_in}
 use Rattle.graft_model.specs.First.{first_world}
 use Rattle.graft_model.specs.Steps.{Event, ByRouter, ByFar, ByOperator, Step, Run}
 use Rattle.graft_laws.specs.Phases.{Phase, Idle}
-use Rattle.graft_laws.specs.Log.{graft_at}
 use Rattle.graft_laws.specs.Owned.{Stands, Owned}
 use Rattle.graft_laws.specs.Moves.{reports_sent, RouterMoves, reports_taken, OperatorMoves, FarMoves}
 use Rattle.graft_laws.specs.Life.{Change}
 use Rattle.graft_laws.specs.Keeps.{Reached, Keeps, Has}
 use Rattle.graft_laws.proofs.Lists.{all_join, all_back}
 use Rattle.graft_laws.proofs.Moves.{router_moves, far_moves, operator_moves}
+use Rattle.graft_laws.proofs.Gifts.{GivesToRouters, row_gives}
 use Rattle.graft_laws.proofs.Following.{Followed}
 use Rattle.graft_laws.proofs.Deeds.{Each, Deed}
 use Rattle.graft_laws.proofs.SessionDeeds.{deed}
@@ -30,7 +30,7 @@ use Rattle.graft_laws.proofs.First.{some_peering, first_stands, first_owned}
 each_of : (setup : Setup) (w v : World) (event : Event) → IsSetup setup → Owned setup w → Step setup event w v → Each setup w v
 each_of setup w v (ByRouter r event) ok owned x = (deed setup w v r owned event x.taken x.sent x.part x.row (router_moves setup r event w v x)).each
 each_of setup w v (ByFar p event) ok owned x = far_each setup w v p event x.taken x.sent x.part x.row (far_moves setup p event w v x)
-each_of setup w v (ByOperator event) ok owned x = operator_each setup w v event x.taken x.sent x.part ok x.row (operator_moves setup event w v x)
+each_of setup w v (ByOperator event) ok owned x = operator_each setup w v event x.taken x.sent x.part ok owned.given x.may x.row (operator_moves setup event w v x)
 
 -- where a peering of the setup stands after an event, and what the event did to it
 pub followed : (setup : Setup) (w v : World) (event : Event) (p : ℕ) (phase : Phase) (s : SessionValue) → IsSetup setup → Owned setup w → Step setup event w v → p < peerings_in setup → Stands setup w p phase s
@@ -67,6 +67,13 @@ reports_then setup w v (ByOperator event) owned s a =
     let m : OperatorMoves s.taken s.sent s.part w v = operator_moves setup event w v s in
     all_back (λ (o : Report). IsSome (graft_at setup o.graft)) (reports_taken s.taken a) (v.reports a) (subst (λ (x : List Report). AreKnown setup x) (sym (m.reports a)) (owned.reports a))
 
+given_then : (setup : Setup) (w v : World) (event : Event) → Owned setup w → Step setup event w v → GivesToRouters setup v.operator
+given_then setup w v (ByRouter r event) owned s = let m : RouterMoves r s.taken s.sent s.part w v = router_moves setup r event w v s in subst (GivesToRouters setup) (sym m.operator) owned.given
+given_then setup w v (ByFar p event) owned s = let m : FarMoves p s.taken s.sent s.part w v = far_moves setup p event w v s in subst (GivesToRouters setup) (sym m.operator) owned.given
+given_then setup w v (ByOperator event) owned s =
+    let m : OperatorMoves s.taken s.sent s.part w v = operator_moves setup event w v s in
+    subst (GivesToRouters setup) (sym m.operator) (row_gives setup event w.operator s.part s.taken s.sent s.row owned.given)
+
 pub owned_then : (setup : Setup) (w v : World) (event : Event) → IsSetup setup → Owned setup w → Step setup event w v → Owned setup v
 owned_then setup w v event ok owned step =
     let each : Each setup w v = each_of setup w v event ok owned step in
@@ -75,6 +82,7 @@ owned_then setup w v event ok owned step =
       no_others = λ p past. each.absent p past (owned.no_others p past);
       room = room_then setup w v event owned step;
       reports = reports_then setup w v event owned step;
+      given = given_then setup w v event owned step;
     }
 
 -- ---- runs

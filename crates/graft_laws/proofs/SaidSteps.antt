@@ -1,5 +1,5 @@
 -- Every event keeps the sum of what a remote says.
-use Rattle.std.proofs.Common.{◌≡◌, ◌≢◌, ℕ, ◌+◌, ◌<◌, ◌≤◌, ◌^◌, Bool, true, false, List, [], ◌∷◌, ◌++◌, length, sum_by, Option, Some, None, refl, sym, ap, ◌∙◌, subst, arith, ◌⊎◌, inl, inr, length-append}
+use Rattle.std.proofs.Common.{◌≡◌, ◌≢◌, ℕ, ◌+◌, ◌<◌, ◌≤◌, ◌^◌, Bool, true, false, List, [], ◌∷◌, ◌++◌, length, sum_by, Option, Some, None, sym, ap, ◌∙◌, subst, arith, ◌⊎◌, inl, inr, length-append}
 use Rattle.std.specs.Prelude.{if◌then◌else◌, slice_get}
 use Rattle.std.specs.List.{AllByRecursion, flat_map}
 use Rattle.std.proofs.lemmas.Bool.{cases_eq}
@@ -12,7 +12,7 @@ use Rattle.tcp_seq.specs.Endpoint.{Endpoint}
 use Rattle.session_value.proofs.Rooms.{keepalive_size}
 use Rattle.session_value.proofs.Ties.{emits_same, takes_same}
 use Rattle.graft_model.specs.Points.{at}
-use Rattle.graft_model.specs.Setups.{Setup, PeeringSetup, ScriptStep, SayStep, MoveStep, IsPeeringSetup, beat_of, said_by}
+use Rattle.graft_model.specs.Setups.{Setup, PeeringSetup, ScriptStep, SayStep, IsPeeringSetup, beat_of, said_by}
 use Rattle.graft_model.specs.Parts.{FarPart, OperatorPart, World}
 use Rattle.tcp_seq.specs.declared.segment.Way.TheVariants.{Home, Remote}
 use Rattle.graft_model.specs.FarRows.{FarTaken, OutwardIn, SayIn, FarSent, Says, Beats}
@@ -204,12 +204,10 @@ module _ (setup : Setup) (p : ℕ) (peering : PeeringSetup) where
         same w v (ap (λ (f : ℕ → FarPart). (f p).end.stream) m.far) (ap (λ (f : ℕ → FarPart). (f p).beats) m.far) (issued_by w.operator.issued issued) (nothing_sent x.sent v w none (m.says p)) is
 
     by_row : (event : OperatorEvent) → operator_row setup event w.operator x.taken x.sent x.part → Said setup p peering v
-    by_row (Order step) (inl row) =
-        issues w v step (SayStep row.peering row.bytes) (only row.peering step p) row.is row.next.unissued m.far (issued_by (at w.operator.issued step true) (ap (λ (o : OperatorPart). o.issued) row.effect))
+    by_row (Order step number) (inl row) =
+        issues w v step (SayStep row.peering row.bytes) (only row.peering step p) row.is row.unissued m.far (issued_by (at w.operator.issued step true) (ap (λ (o : OperatorPart). o.issued) row.effect))
         (sent_says row.peering step x.sent v w row.sends (m.says p)) (only_size row.peering step row.bytes row.is) (only_says row.peering step row.bytes row.is) is
-    by_row (Order step) (inr row) =
-        issues w v step (MoveStep row.peering row.target) [] row.is row.next.unissued m.far (issued_by (at w.operator.issued step true) (ap (λ (o : OperatorPart). o.issued) row.effect))
-        (m.says p ∙ ap (λ (xs : List OperatorSent). w.says p ++ says_sent xs p) row.sends) refl tt is
+    by_row (Order step number) (inr row) = unchanged (ap (λ (o : OperatorPart). o.issued) row.effect) (ap (λ (xs : List OperatorSent). says_sent xs p) row.sends)
     by_row (Note router) row = unchanged (ap (λ (o : OperatorPart). o.issued) row.effect) (ap (λ (xs : List OperatorSent). says_sent xs p) row.sends)
     by_row Go row = unchanged (ap (λ (o : OperatorPart). o.issued) row.effect) (ap (λ (xs : List OperatorSent). says_sent xs p) row.sends)
 

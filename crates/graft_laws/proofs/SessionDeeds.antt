@@ -12,14 +12,13 @@ use Rattle.session_value.specs.Sessions.{SessionValue}
 use Rattle.session_value.specs.Cases.{GetsFrame, PutsUpdate, PassesRound}
 use Rattle.graft_model.specs.Slices.{EmitsAt}
 use Rattle.graft_model.specs.Points.{at}
-use Rattle.graft_model.specs.Setups.{Setup, peering_numbers, room_of}
+use Rattle.graft_model.specs.Setups.{Setup, peering_numbers, room_of, graft_at}
 use Rattle.graft_model.specs.Parts.{Errand, Place, Live, RouterPart, Entries, Told, Outward, Seg, Report, World}
 use Rattle.graft_model.specs.RouterRows.{RouterTaken, SegmentIn, MeshIn, RouterSent, MeshTo, OutwardTo, PutsNothing, PutsSome, Emits, Arrives, Strays, GetsNext, Ticks, Follows, update_for}
 use Rattle.graft_model.specs.TableRows.{Decides, Tells, Hears}
 use Rattle.graft_model.specs.GraftRows.{is_taken, taken_in}
 use Rattle.graft_laws.specs.Phases.{Phase, only, only2, place_by}
 use Rattle.graft_laws.specs.Owned.{Stands, Owned}
-use Rattle.graft_laws.specs.Log.{graft_at}
 use Rattle.graft_laws.specs.Moves.{inward_taken, outward_sent, reports_sent, RouterMoves}
 use Rattle.graft_model.specs.declared.event.RouterEvent.{RouterEvent}
 use Rattle.graft_model.specs.declared.event.RouterEvent.TheVariants.{Put, Emit, Arrive, Stray, Got, Decide, Tell, Hear, Admit, Refuse, Freeze, Leave, Land, TurnBack, Return, Clear, Ask, Answer, Collect, Confirm, Tick}

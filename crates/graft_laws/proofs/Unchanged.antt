@@ -56,7 +56,7 @@ module _ (setup : Setup) (w v : World) (p : ℕ) (grows : LogGrows w.operator v.
   noted : (q j u n : ℕ) (stage : Stage) (s z : SessionValue) → Stands setup w p (Busy q j u stage) s → Stands setup v p (Idle n) z → j ≡ k → v.operator.outcome k ≢ None
   noted q j u n stage s z b then is =
       subst (λ (x : ℕ). v.operator.outcome x ≢ None) is
-      (idle_ended setup v.operator p n j then.log (own_known setup p j u b.log.goes_on.known) (grows.source j (λ none. (let e : Some q ≡ None = sym b.log.goes_on.ordered ∙ none in absurd cc))))
+      (idle_ended setup v.operator p n j then.log (own_known setup p j b.log.goes_on.known) (grows.source j (λ none. (let e : Some q ≡ None = sym b.log.goes_on.ordered ∙ none in absurd cc))))
 
   away_on : (phase next : Phase) (s : SessionValue) → GraftMove setup w phase s next → Stands setup w p phase s → Stands setup v p next s → IsAwayIn phase r k t found s → IsAway v next r k t found s
   away_on _ _ _ Begins b then away = absurd away

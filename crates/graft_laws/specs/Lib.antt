@@ -13,3 +13,4 @@ pub mod Said
 pub mod Tables
 pub mod Ranges
 pub mod Avoiding
+pub mod Emptied

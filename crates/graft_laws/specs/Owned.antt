@@ -2,11 +2,11 @@
 use Rattle.std.specs.Prelude.{ℕ, ◌==◌, ◌≡◌, ◌≤◌, ◌<◌, Bool, false, List, [], filter, IsSome}
 use Rattle.std.specs.List.{AllByRecursion}
 use Rattle.session_value.specs.Sessions.{SessionValue}
-use Rattle.graft_model.specs.Setups.{Setup, routers_in, peerings_in, room_of}
-use Rattle.graft_model.specs.Parts.{Vacant, Mesh, Told, Moved, Back, Asked, Answered, Done, GraftOrder, Report, World}
+use Rattle.graft_model.specs.Setups.{Setup, routers_in, peerings_in, room_of, graft_at}
+use Rattle.graft_model.specs.Parts.{Vacant, Mesh, Told, Moved, Back, Asked, Answered, Done, GraftOrder, Report, To, World}
 use Rattle.graft_model.specs.GraftRows.{taken_in}
 use Rattle.graft_laws.specs.Phases.{Phase, place_by, mesh_by, orders_by, reports_by, InBounds}
-use Rattle.graft_laws.specs.Log.{graft_at, is_of, LogSays}
+use Rattle.graft_laws.specs.Log.{is_of, LogSays}
 
 -- ---- what channels have of a peering: sessions, and word of landings; questions and answers are in no count
 
@@ -51,10 +51,11 @@ pub record IsAbsent (w : World) (p : ℕ) : Type 0 where
   pub mesh : (a b : ℕ) → mesh_of p (w.mesh a b) ≡ []
   pub orders : (r : ℕ) → orders_of p (w.orders r) ≡ []
 
--- Each peering of the setup stands somewhere, and nothing is there of any other. No router has more places taken than it has room for, and
--- every report is of a graft of the script.
+-- Each peering of the setup stands somewhere, and nothing is there of any other. No router has more places taken than it has room for, every report is of a
+-- graft of the script, and each router to which an evacuate step gave a session is there.
 pub record Owned (setup : Setup) (w : World) : Type 0 where
   pub peerings : (p : ℕ) → p < peerings_in setup → IsHeld setup w p
   pub no_others : (p : ℕ) → peerings_in setup ≤ p → IsAbsent w p
   pub room : (r : ℕ) → r < routers_in setup → taken_in setup (w.router r) ≤ room_of setup r
   pub reports : (r : ℕ) → AllByRecursion (λ o. IsSome (graft_at setup o.graft)) (w.reports r)
+  pub given : (k target : ℕ) → w.operator.given k ≡ To target → target < routers_in setup

@@ -6,10 +6,10 @@ ghost use Rattle.bgp_types.specs.declared.attrs.Attrs.{Attrs};
 ghost use Rattle.bgp_types.specs.Prefixes.{PrefixValue};
 ghost use Rattle.bgp_types.specs.Writable.{IsWritableAttrs};
 ghost use Rattle.session_value.specs.Sessions.{SessionValue};
-ghost use Rattle.graft_model.specs.Setups.{Setup, PeeringSetup, SayStep, MoveStep, IsSetup, peerings_in, graft_number};
+ghost use Rattle.graft_model.specs.Setups.{Setup, PeeringSetup, ScriptGraft, SayStep, IsSetup, peerings_in, graft_at};
 ghost use Rattle.graft_model.specs.Decisions.{to_tell};
 ghost use Rattle.graft_model.specs.Parts.{Errand, Live, World};
-ghost use Rattle.graft_model.specs.OperatorRows.{placement};
+ghost use Rattle.graft_model.specs.Placements.{target_in, placement};
 ghost use Rattle.graft_model.specs.First.{first_world};
 ghost use Rattle.graft_model.specs.declared.event.RouterEvent.{RouterEvent};
 ghost use Rattle.graft_model.specs.declared.event.FarEvent.{FarEvent};
@@ -29,6 +29,7 @@ ghost use Rattle.graft_laws.specs.Said.{Said, IsSayOf};
 ghost use Rattle.graft_laws.specs.Pointing.{Points};
 ghost use Rattle.graft_laws.specs.Ranges.{IsInRange};
 ghost use Rattle.graft_laws.specs.Avoiding.{AvoidsRemote};
+ghost use Rattle.graft_laws.specs.Emptied.{AreEmptied, EmptyAlone, GiveByPlan};
 ghost use Rattle.graft_laws.specs.Tables.{Decided, Informed, Answered, DueIsHeld, IsWhole};
 
 /// Each channel is a queue. What an event takes stands at the head of its channel, what it sends goes to the ends of channels in the order of
@@ -59,14 +60,21 @@ pub fn no_item_is_dropped()
     ensures { (setup : Setup) (w : World) → IsSetup setup → Reached setup w → NothingIsDropped setup w }
 {}
 
-/// A graft that was issued and has no outcome is under way in one phase, from the router to which it was ordered. One that wasn't issued is
-/// in none. No two places of a router have the same graft.
+/// A graft that was ordered and has no outcome is under way in one phase, from the router to which it was ordered to its target. One that wasn't ordered
+/// is in none. No two places of a router have the same graft.
 pub fn grafts_are_in_one_phase()
-    ensures issued { (setup : Setup) (w : World) (n p target : ℕ) → IsSetup setup → Reached setup w → slice_get setup.steps n ≡ Some (MoveStep p target) → w.operator.issued n ≡ true
-        → w.operator.outcome (graft_number setup n) ≡ None → IsUnderWay setup w p (placement setup w.operator p) (graft_number setup n) target }
-    ensures unissued { (setup : Setup) (w : World) (n p target x q t : ℕ) (stage : Stage) (s : SessionValue) → IsSetup setup → Reached setup w → slice_get setup.steps n ≡ Some (MoveStep p target)
-        → w.operator.issued n ≡ false → Stands setup w x (Busy q (graft_number setup n) t stage) s → ⊥ }
+    ensures ordered { (setup : Setup) (w : World) (graft : ScriptGraft) → IsSetup setup → Reached setup w → graft_at setup graft.graft ≡ Some graft → w.operator.source graft.graft ≢ None
+        → w.operator.outcome graft.graft ≡ None → (target : ℕ) × (target_in setup w.operator graft ≡ Some target)
+        × (w.operator.source graft.graft ≡ Some (placement setup w.operator graft.peering))
+        × IsUnderWay setup w graft.peering (placement setup w.operator graft.peering) graft.graft target }
+    ensures unordered { (setup : Setup) (w : World) (graft : ScriptGraft) (x q t : ℕ) (stage : Stage) (s : SessionValue) → IsSetup setup → Reached setup w
+        → graft_at setup graft.graft ≡ Some graft → w.operator.source graft.graft ≡ None → Stands setup w x (Busy q graft.graft t stage) s → ⊥ }
     ensures once { (setup : Setup) (w : World) (r k : ℕ) → IsSetup setup → Reached setup w → HasOnce k (w.router r) }
+{}
+
+/// A list of events leads from the first world to one world.
+pub fn runs_lead_to_one_world()
+    ensures { (setup : Setup) (events : List Event) (u v : World) → IsSetup setup → Run setup (first_world setup) events u → Run setup (first_world setup) events v → v ≡ u }
 {}
 
 /// The session of a peering keeps what it began with.
@@ -150,4 +158,15 @@ pub fn told_paths_avoid_the_remote_as()
 /// anything of it.
 pub fn quiet_solves()
     ensures { (setup : Setup) (events : List Event) (w : World) → IsSetup setup → Run setup (first_world setup) events w → Quiet setup w → Solves setup w }
+{}
+
+/// Wherever a group begins, each of its evacuate steps gives the sessions of its router to the other routers by the plan, as sessions belong at that moment.
+pub fn evacuations_go_by_plan()
+    ensures { (setup : Setup) (events : List Event) → IsSetup setup → GiveByPlan setup events }
+{}
+
+/// Once nothing is left to do, each session that an evacuate step gave to a router is there, unless it was refused or moved again; and where no other step of
+/// such a group moves sessions none was refused for want of room.
+pub fn emptied_routers_are_left()
+    ensures { (setup : Setup) (w : World) → IsSetup setup → EmptyAlone setup → Reached setup w → Quiet setup w → AreEmptied setup w.operator }
 {}

@@ -1,28 +1,32 @@
 -- What a router's event sends and leaves is determined.
-use Rattle.std.proofs.Common.{◌≡◌, ℕ, zero, suc, List, [], ◌∷◌, Option, Some, None, refl, sym, ap, ◌∙◌, subst, inl, inr}
+use Rattle.std.proofs.Common.{◌≡◌, ℕ, zero, suc, not, ◌&&◌, List, [], ◌∷◌, ◌++◌, Option, Some, None, refl, sym, ap, ◌∙◌, subst, inl, inr}
 use Rattle.std.specs.Prelude.{◌≢◌, ◌⊎◌}
 use Rattle.std.specs.FinMap as map
+use Rattle.std.specs.List.{list_any}
+use Rattle.bgp_types.specs.declared.attrs.Attrs.{Attrs}
 use Rattle.bgp_types.specs.declared.attrs.Route.{Route}
-use Rattle.bgp_types.specs.Prefixes.{PrefixValue}
+use Rattle.bgp_types.specs.Prefixes.{PrefixValue, same_prefix}
 use Rattle.graft_steps.specs.declared.refusal.Refusal.{Refusal}
 use Rattle.graft_steps.specs.declared.refusal.Outcome.TheVariants.{Accepted, Refused}
 use Rattle.loc_rib.specs.Values.{with_best}
 use Rattle.tcp_seq.specs.Endpoint.{Endpoint, PlacedSegment, TakesSegment}
 use Rattle.tcp_seq.proofs.Arriving.{leaves_one}
 use Rattle.session_value.specs.Sessions.{SessionValue, state}
-use Rattle.session_value.specs.Sets.{Prefixes, Marks}
+use Rattle.session_value.specs.Cases.{PutsUpdate, update_for}
+use Rattle.session_value.specs.Sets.{Prefixes, has, Marks, Lists}
 use Rattle.graft_model.specs.Points.{at}
 use Rattle.graft_model.specs.Slices.{EmitsAt}
 use Rattle.graft_model.specs.Setups.{Setup}
 use Rattle.graft_model.specs.Parts.{Errand, Place, Live, Frozen, Shadow, Leaving, Owing, Asking, Word, Vacant, RouterPart, Entries, Told, Moved, Back, Asked, Answered, Done, Seg, PointAt}
-use Rattle.graft_model.specs.Decisions.{chosen}
-use Rattle.graft_model.specs.RouterRows.{RouterTaken, OrderIn, SegmentIn, MeshIn, RouterSent, MeshTo, OutwardTo, ReportOut, PutsNothing, Emits, Arrives, Strays, GetsNext, Ticks, Follows, FollowsHeard, BringsIn}
+use Rattle.graft_model.specs.Decisions.{chosen, to_tell}
+use Rattle.graft_model.specs.RouterRows.{RouterTaken, OrderIn, SegmentIn, MeshIn, RouterSent, MeshTo, OutwardTo, ReportOut, PutsNothing, PutsSome, IsToTell, Emits, Arrives, Strays, GetsNext, Ticks, Follows, FollowsHeard, BringsIn}
 use Rattle.graft_model.specs.TableRows.{Decides, Tells, Hears, DueEverywhere, with_telling}
 use Rattle.graft_model.specs.GraftRows.{Admits, Refuses, Freezes, Leaves, Lands, Asks, Answers, Counts, Ignores, Confirms, TurnsBack, Returns, Clears, DueAgain, refusal_of}
 use Rattle.graft_model.specs.Steps.{RouterEvent, Put, Emit, Arrive, Stray, Got, Decide, Tell, Hear, Admit, Refuse, Freeze, Leave, Land, TurnBack, Return, Clear, Ask, Answer, Collect, Confirm, Tick, router_row}
 use Rattle.graft_model.specs.Laws.{HasGraft, HasOnce, HasOneOutcome}
+use Rattle.graft_model.proofs.Rising.{one_least, one_list}
 use Rattle.graft_model.proofs.Items.{told_is, moved_is, back_is, asked_is, answered_is, done_is}
-use Rattle.graft_model.proofs.Same.{same_table, same_set, same_marks, same_session, same_order, live_here, same_segment, same_end, same_next, same_round, same_due}
+use Rattle.graft_model.proofs.Same.{same_table, same_set, same_marks, same_front, same_session, same_order, live_here, same_segment, same_end, same_next, same_round, same_due}
 
 module _ (setup : Setup) (r : ℕ) (before a b : RouterPart) (taken : Option RouterTaken) (sent items : List RouterSent) where
   abbrev Same : Type 0
@@ -32,6 +36,51 @@ module _ (setup : Setup) (r : ℕ) (before a b : RouterPart) (taken : Option Rou
   one_nothing p x y =
       let due : b.due_out p ≡ a.due_out p = same_set (b.due_out p) (a.due_out p) (λ z. y.due.members z ∙ sym (x.due.members z)) in
       (y.alone.1 ∙ sym x.alone.1, y.effect ∙ (ap (λ (d : Prefixes). let v : RouterPart = record before { due_out = at before.due_out p d } in v) due ∙ sym x.effect))
+
+  abbrev after_put : ℕ → SessionValue → Option Errand → Prefixes → RouterPart
+  after_put p s o due = record before { places = at before.places p (Live s o); due_out = at before.due_out p due }
+
+  abbrev IsAlike : ℕ → SessionValue → Option Attrs → PrefixValue → Type 0
+  IsAlike p s attrs q = IsToTell setup r before p s q × (to_tell setup r before s q ≡ attrs)
+
+  one_puts : (p n : ℕ) → PutsSome setup r p n before taken sent a → PutsSome setup r p n before taken items b → Same
+  one_puts p n x y = (y.alone.1 ∙ sym x.alone.1, y.effect ∙ ((λ i. after_put p (next i) (errand i) (due i)) ∙ sym x.effect)) where
+    live : Live y.session y.errand ≡ Live x.session x.errand
+    live = live_here before p y.session x.session y.errand x.errand y.live x.live
+
+    session : y.session ≡ x.session
+    session = same_session y.session x.session y.errand x.errand live
+
+    errand : y.errand ≡ x.errand
+    errand = same_order y.session x.session y.errand x.errand live
+
+    first : y.first ≡ x.first
+    first =
+        one_least y.first x.first (x.least y.first (subst (λ (s : SessionValue). IsToTell setup r before p s y.first) session y.is_to_tell))
+        (y.least x.first (subst (λ (s : SessionValue). IsToTell setup r before p s x.first) (sym session) x.is_to_tell))
+
+    attrs : y.attrs ≡ x.attrs
+    attrs = y.told_first ∙ ((λ i. to_tell setup r before (session i) (first i)) ∙ sym x.told_first)
+
+    listed : y.prefixes ++ y.later ≡ x.prefixes ++ x.later
+    listed =
+        one_list (IsAlike p x.session x.attrs) (y.prefixes ++ y.later) (x.prefixes ++ x.later)
+        (subst (λ (z : SessionValue × Option Attrs). Lists (IsAlike p z.0 z.1) (y.prefixes ++ y.later)) (λ i. (session i, attrs i)) y.alike) x.alike
+
+    prefixes : y.prefixes ≡ x.prefixes
+    prefixes = same_front y.prefixes x.prefixes y.later x.later (y.size ∙ sym x.size) listed
+
+    puts : PutsUpdate x.session (update_for x.attrs x.prefixes) y.next
+    puts = subst (λ (z : SessionValue × Option Attrs × List PrefixValue). PutsUpdate z.0 (update_for z.1 z.2) y.next) (λ i. (session i, attrs i, prefixes i)) y.puts
+
+    next : y.next ≡ x.next
+    next = puts.effect ∙ sym x.puts.effect
+
+    members : (q : PrefixValue) → has (b.due_out p) q ≡ has (a.due_out p) q
+    members q = y.due.members q ∙ ((λ i. has (before.due_out p) q && not (list_any (same_prefix q) (prefixes i))) ∙ sym (x.due.members q))
+
+    due : b.due_out p ≡ a.due_out p
+    due = same_set (b.due_out p) (a.due_out p) members
 
   abbrev with_end : ℕ → SessionValue → Option Errand → Endpoint → RouterPart
   with_end p s o e = record before { places = at before.places p (Live (record s { end = e }) o) }
@@ -397,7 +446,7 @@ module _ (setup : Setup) (r : ℕ) (before a b : RouterPart) (taken : Option Rou
 pub one_router : (setup : Setup) (r : ℕ) (event : RouterEvent) (before a b : RouterPart) (taken : Option RouterTaken) (sent items : List RouterSent)
     → HasOneOutcome event before → router_row setup r event before taken sent a → router_row setup r event before taken items b → (items ≡ sent) × (b ≡ a)
 one_router setup r (Put p zero) before a b taken sent items one x y = one_nothing setup r before a b taken sent items p x y
-one_router setup r (Put p (suc n)) before a b taken sent items one x y = absurd one
+one_router setup r (Put p (suc n)) before a b taken sent items one x y = one_puts setup r before a b taken sent items p (suc n) x y
 one_router setup r (Emit p from len) before a b taken sent items one x y = one_emits setup r before a b taken sent items p from len x y
 one_router setup r (Arrive p) before a b taken sent items one x y = one_arrives setup r before a b taken sent items p x y
 one_router setup r (Stray p) before a b taken sent items one x y = one_strays setup r before a b taken sent items p x y

@@ -1,6 +1,7 @@
 -- When two tables, two sets, two endpoints or two sessions are the same.
 use Rattle.std.proofs.Common.{◌≡◌, ℕ, ◌+◌, ◌≤◌, Bool, true, false, List, [], ◌∷◌, ◌++◌, length, Option, Some, None, refl, sym, ap, ◌∙◌, subst, inl, inr, arith}
-use Rattle.std.specs.Prelude.{◌⊎◌, is_some, IsSome, max}
+use Rattle.std.specs.Prelude.{◌⊎◌, take, is_some, IsSome, max}
+use Rattle.std.proofs.Math.Seq.{take-append_seam}
 use Rattle.std.specs.FinMap as map
 use Rattle.bgp_types.specs.declared.message.SessionState.{SessionState}
 use Rattle.bgp_types.specs.declared.message.SessionState.TheVariants.{OpenSent, OpenConfirm, Established, Closed}
@@ -86,15 +87,8 @@ same_end from len e a b g h one other = by_cases one.emits other.emits where
 
 -- ---- what is got, and rounds
 
-same_front : (a b r s : List ℕ) → length a ≡ length b → a ++ r ≡ b ++ s → a ≡ b
-same_front [] [] r s n e = refl
-same_front [] (y ∷ b) r s n e = absurd (omega arith)
-same_front (x ∷ a) [] r s n e = absurd (omega arith)
-same_front (x ∷ a) (y ∷ b) r s n e =
-    let h : x ≡ y = cc in
-    let t : a ++ r ≡ b ++ s = cc in
-    let i : a ≡ b = same_front a b r s (omega arith) t in
-    cc
+pub same_front : {A : Type 0} (a b r s : List A) → length a ≡ length b → a ++ r ≡ b ++ s → a ≡ b
+same_front a b r s n e = sym (take-append_seam a r) ∙ (ap (take (length a)) e ∙ (ap (λ (k : ℕ). take k (b ++ s)) n ∙ take-append_seam b s))
 
 no_fault : (o : Option HeaderFault) → o ≡ None → IsSome o → ⊥
 no_fault None e there = absurd cc

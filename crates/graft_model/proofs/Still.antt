@@ -1,5 +1,5 @@
 -- In a quiet world only such events happen as may happen when nothing is left to do.
-use Rattle.std.proofs.Common.{◌≡◌, ℕ, zero, suc, ◌<◌, Bool, true, false, List, [], ◌∷◌, length, Option, Some, None, ap, ◌∙◌, subst, inl, inr, arith}
+use Rattle.std.proofs.Common.{◌≡◌, ℕ, zero, suc, ◌<◌, Bool, true, false, List, [], ◌∷◌, length, Option, Some, None, sym, ap, ◌∙◌, subst, inl, inr, arith}
 use Rattle.std.specs.Prelude.{slice_get, is_some}
 use Rattle.std.specs.FinMap as map
 use Rattle.bgp_types.specs.Prefixes.{PrefixValue}
@@ -8,7 +8,7 @@ use Rattle.tcp_seq.specs.Endpoint.{Endpoint}
 use Rattle.session_value.specs.Sessions.{SessionValue}
 use Rattle.session_value.specs.Cases.{GetsFrame}
 use Rattle.session_value.specs.Sets.{Prefixes, has}
-use Rattle.graft_model.specs.Setups.{Setup, SayStep, MoveStep}
+use Rattle.graft_model.specs.Setups.{Setup, group_of}
 use Rattle.graft_model.specs.Parts.{Errand, Place, Live, World}
 use Rattle.graft_model.specs.RouterRows.{RouterTaken, OrderIn, SegmentIn, MeshIn}
 use Rattle.tcp_seq.specs.declared.segment.Way.{Way}
@@ -117,14 +117,15 @@ by_far setup p (Beat round) w v quiet s = tt
 both_ways : (b : Bool) → b ≡ true → b ≡ false → ⊥
 both_ways b is is_not = absurd cc
 
-orders_say : (setup : Setup) (step : ℕ) (w : World) {taken : Option OperatorTaken} {sent : List _} {part : _} → Quiet setup w → OrdersSay setup step w.operator taken sent part → ⊥
-orders_say setup step w quiet row = both_ways (w.operator.issued step) (quiet.issued step (SayStep row.peering row.bytes) row.is (λ e. absurd cc) row.next.group) row.next.unissued
+orders_say : (setup : Setup) (step number : ℕ) (w : World) {taken : Option OperatorTaken} {sent : List _} {part : _} → Quiet setup w → OrdersSay setup step number w.operator taken sent part → ⊥
+orders_say setup step number w quiet row = both_ways (w.operator.issued step) (quiet.issued step row.peering row.bytes row.is row.group) row.unissued
 
-orders_graft : (setup : Setup) (step : ℕ) (w : World) {taken : Option OperatorTaken} {sent : List _} {part : _} → Quiet setup w → OrdersGraft setup step w.operator taken sent part → ⊥
-orders_graft setup step w quiet row = both_ways (w.operator.issued step) (quiet.issued step (MoveStep row.peering row.target) row.is (λ e. absurd cc) row.next.group) row.next.unissued
+orders_graft : (setup : Setup) (step number : ℕ) (w : World) {taken : Option OperatorTaken} {sent : List _} {part : _} → Quiet setup w → OrdersGraft setup step number w.operator taken sent part → ⊥
+orders_graft setup step number w quiet row =
+    quiet.ended row.graft row.known (ap (group_of setup) row.by_step ∙ row.group) (λ none. (let f : Some row.target ≡ None = sym row.is ∙ none in absurd cc)) row.unended
 
 by_operator : (setup : Setup) (event : OperatorEvent) (w v : World) → Quiet setup w → OperatorStep setup event w v → MayStillHappen (ByOperator event)
-by_operator setup (OrderOf step) w v quiet s = elim s.row [ inl says ↦ orders_say setup step w quiet says | inr grafts ↦ orders_graft setup step w quiet grafts ]
+by_operator setup (OrderOf step number) w v quiet s = elim s.row [ inl says ↦ orders_say setup step number w quiet says | inr grafts ↦ orders_graft setup step number w quiet grafts ]
 by_operator setup (Note router) w v quiet s = operator_had setup w s.without s.taken _ quiet s.took s.row.takes
 by_operator setup Go w v quiet s = tt
 

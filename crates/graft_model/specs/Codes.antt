@@ -69,7 +69,7 @@ far_code (Point router) = coded 23 router 0 0
 far_code (Beat round) = coded 32 round 0 0
 
 abbrev pub operator_code : OperatorEvent → Code
-operator_code (Order step) = coded 24 step 0 0
+operator_code (Order step number) = coded 24 step number 0
 operator_code (Note router) = coded 25 router 0 0
 operator_code Go = coded 26 0 0 0
 

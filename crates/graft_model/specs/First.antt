@@ -4,7 +4,8 @@ use Rattle.std.specs.FinMap as map
 use Rattle.tcp_seq.specs.Endpoint.{fresh_endpoint}
 use Rattle.session_value.specs.Sessions.{begun}
 use Rattle.graft_model.specs.Setups.{Setup, PeeringSetup, of_router}
-use Rattle.graft_model.specs.Parts.{Place, Vacant, Live, RouterPart, FarPart, World}
+use Rattle.graft_model.specs.Parts.{Place, Vacant, Live, Unmade, RouterPart, FarPart, OperatorPart, World}
+use Rattle.graft_model.specs.Evacuations.{with_gifts}
 
 -- Each session is held where it starts, with its OPEN put.
 abbrev pub place_in : ℕ → Option PeeringSetup → Place
@@ -27,12 +28,16 @@ abbrev pub first_far : Option PeeringSetup → FarPart
 first_far None = record { end = fresh_endpoint; homeward = []; remoteward = []; pointer = 0; followed = 0; beats = 0; last_beat = 0 }
 first_far (Some peering) = record { end = record fresh_endpoint { stream = peering.opening }; homeward = []; remoteward = []; pointer = peering.start; followed = 0; beats = 0; last_beat = 0 }
 
--- Nothing is on its way, nothing was issued, and the own networks are to be decided.
+-- Nothing was ordered, and the evacuate steps of the first group have given out their grafts.
+abbrev pub first_operator : Setup → OperatorPart
+first_operator setup = with_gifts setup (record { group = 0; issued = λ n. false; given = λ k. Unmade; source = λ k. None; outcome = λ k. None })
+
+-- Nothing is on its way, nothing was ordered, and the own networks are to be decided.
 abbrev pub first_world : Setup → World
 first_world setup = record {
   router = first_router setup;
   far = λ p. first_far (slice_get setup.peerings p);
-  operator = record { group = 0; issued = λ n. false; source = λ k. None; outcome = λ k. None };
+  operator = first_operator setup;
   mesh = λ a b. [];
   outward = λ r p. [];
   inward = λ p r. [];

@@ -1,5 +1,5 @@
 -- What a step leaves as it is, what may happen in a quiet world, and of which events the laws of rows speak.
-use Rattle.std.specs.Prelude.{ℕ, suc, ◌≡◌, ◌≢◌, List, [], Option, Some, None}
+use Rattle.std.specs.Prelude.{ℕ, ◌≡◌, ◌≢◌, List, [], Option, Some, None}
 use Rattle.session_value.specs.Sessions.{SessionValue}
 use Rattle.graft_model.specs.Parts.{Place, Vacant, Live, Frozen, Shadow, graft_of, RouterPart, World}
 use Rattle.graft_model.specs.RouterRows.{RouterTaken, OrderIn, SegmentIn, MeshIn, RouterSent, MeshTo, OutwardTo, ReportOut}
@@ -61,10 +61,8 @@ HasGraft k (Shadow graft) = ⊥
 abbrev pub HasOnce : ℕ → RouterPart → Type 0
 HasOnce k part = (p q : ℕ) → HasGraft k (part.places p) → HasGraft k (part.places q) → p ≡ q
 
--- An event of a router with one outcome. One that names its place by a graft alone has it where the graft is at one place; a put of some
--- prefixes is left open here.
+-- An event of a router with one outcome. One that names its place by a graft alone has it where the graft is at one place.
 abbrev pub HasOneOutcome : RouterEvent → RouterPart → Type 0
-HasOneOutcome (Put p (suc n)) part = ⊥
 HasOneOutcome (Refuse k) part = HasOnce k part
 HasOneOutcome (Freeze k) part = HasOnce k part
 HasOneOutcome (Leave k) part = HasOnce k part

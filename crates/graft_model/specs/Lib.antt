@@ -8,6 +8,8 @@ pub mod RouterRows
 pub mod TableRows
 pub mod GraftRows
 pub mod FarRows
+pub mod Placements
+pub mod Evacuations
 pub mod OperatorRows
 pub mod Quiet
 pub mod Steps

@@ -72,11 +72,19 @@ pub record FarPart : Type 0 where
 
 -- ---- the operator
 
--- The operator: the group of the script that is at work; which steps were issued; and the log of grafts by number, with the router at
--- which a graft was ordered and the outcome that was reported.
+-- what an evacuate step has for a graft that it may make: no graft, since its group hasn't begun or the session belongs elsewhere; the router that the
+-- session is to go to; or that it stays at the router that is emptied, since no other one has a free place
+pub data Gift : Type 0 where
+  Unmade : Gift
+  To : (target : ℕ) → Gift
+  Stays : (router : ℕ) → Gift
+
+-- The operator: the group of the script that is at work; which says were ordered; what evacuate steps have for their grafts, by number; and the log of
+-- grafts by number, with the router at which a graft was ordered and the outcome that was reported.
 pub record OperatorPart : Type 0 where
   pub group : ℕ
   pub issued : ℕ → Bool
+  pub given : ℕ → Gift
   pub source : ℕ → Option ℕ
   pub outcome : ℕ → Option Outcome
 

@@ -1,12 +1,13 @@
 -- When nothing is left to do.
-use Rattle.std.specs.Prelude.{ℕ, ◌≡◌, ◌≢◌, [], length, Some, None, true, ◌⊎◌, slice_get}
+use Rattle.std.specs.Prelude.{ℕ, ◌≡◌, ◌≢◌, List, [], length, Some, None, true, ◌⊎◌, slice_get}
 use Rattle.std.specs.FinMap as map
 use Rattle.bgp_types.specs.declared.message.SessionState.TheVariants.{Closed}
 use Rattle.session_value.specs.Sessions.{SessionValue, state, unread}
 use Rattle.session_value.specs.Fronts.{BeginsNothing}
 use Rattle.tcp_seq.specs.Endpoint.{Endpoint, received}
-use Rattle.graft_model.specs.Setups.{Setup, ScriptStep, MoveStep, SettleStep, group_of, graft_number}
+use Rattle.graft_model.specs.Setups.{Setup, SayStep, ScriptGraft, group_of, graft_at}
 use Rattle.graft_model.specs.Parts.{Place, Vacant, Live, World}
+use Rattle.graft_model.specs.Placements.{target_in}
 
 -- the session has read what it can read
 abbrev pub HasRead : SessionValue → Type 0
@@ -24,8 +25,8 @@ IsIdle remote Vacant = Unit {0}
 IsIdle remote (Live session None) = HasRead session × AllAcked session.end remote × AllAcked remote session.end
 IsIdle remote place = ⊥
 
--- Nothing is left to do: all channels and links are empty, no prefix is dirty or due, every place is idle, and each step of the group that is at
--- work was issued and each of its grafts has its outcome.
+-- Nothing is left to do: all channels and links are empty, no prefix is dirty or due, every place is idle, and of the group that is at work each say was
+-- ordered and each graft has its outcome.
 pub record Quiet (setup : Setup) (w : World) : Type 0 where
   pub mesh : (a b : ℕ) → w.mesh a b ≡ []
   pub outward : (r p : ℕ) → w.outward r p ≡ []
@@ -39,5 +40,5 @@ pub record Quiet (setup : Setup) (w : World) : Type 0 where
   pub told_in : (r q : ℕ) → (w.router r).due_in q ≡ map.empty
   pub told_out : (r p : ℕ) → (w.router r).due_out p ≡ map.empty
   pub places : (r p : ℕ) → IsIdle (w.far p).end ((w.router r).places p)
-  pub issued : (n : ℕ) (step : ScriptStep) → slice_get setup.steps n ≡ Some step → step ≢ SettleStep → group_of setup n ≡ w.operator.group → w.operator.issued n ≡ true
-  pub ended : (n p target : ℕ) → slice_get setup.steps n ≡ Some (MoveStep p target) → group_of setup n ≡ w.operator.group → w.operator.outcome (graft_number setup n) ≢ None
+  pub issued : (n p : ℕ) (bytes : List ℕ) → slice_get setup.steps n ≡ Some (SayStep p bytes) → group_of setup n ≡ w.operator.group → w.operator.issued n ≡ true
+  pub ended : (g : ScriptGraft) → graft_at setup g.graft ≡ Some g → group_of setup g.step ≡ w.operator.group → target_in setup w.operator g ≢ None → w.operator.outcome g.graft ≢ None

@@ -1,5 +1,5 @@
 -- What a laboratory is given: the home network, the peerings, and the script of the operator.
-use Rattle.std.specs.Prelude.{ℕ, ◌==◌, ◌+◌, Bool, true, false, List, [], ◌∷◌, length, take, filter, min, ◌/◌, ◌^◌, All, ◌<◌, ◌≤◌, ◌≡◌, Option, Some, None, option_map, unwrap_or, is_none, if◌then◌else◌, slice_get}
+use Rattle.std.specs.Prelude.{ℕ, ◌==◌, ◌+◌, Bool, true, false, List, [], ◌∷◌, ◌++◌, length, take, filter, min, ◌/◌, ◌^◌, All, ◌<◌, ◌≤◌, ◌≡◌, Option, Some, None, option_map, unwrap_or, is_none, if◌then◌else◌, slice_get}
 use Rattle.std.specs.List.{list_any, find, flat_map, range_with_len, last_or}
 use Rattle.std.specs.Str.{bytes_eq}
 use Rattle.bgp_types.specs.Prefixes.{PrefixValue, IsPrefix, same_prefix}
@@ -36,10 +36,11 @@ pub record PeeringSetup : Type 0 where
 abbrev pub beat_of : PeeringSetup → ℕ
 beat_of peering = if peering.beats then min peering.config.home_hold peering.hold / 3 else 0
 
--- a step of the script: a remote says bytes, a graft of a peering to a target, or the end of a group
+-- a step of the script: a remote says bytes, a graft of a peering to a target, grafts of all peerings of a router to others, or the end of a group
 pub data ScriptStep : Type 0 where
   SayStep : (peering : ℕ) → List ℕ → ScriptStep
   MoveStep : (peering : ℕ) → (target : ℕ) → ScriptStep
+  EvacuateStep : (router : ℕ) → ScriptStep
   SettleStep : ScriptStep
 
 pub record Setup : Type 0 where
@@ -115,6 +116,7 @@ start_of setup p = unwrap_or (option_map (λ peering. peering.start) (slice_get 
 abbrev pub is_settle : ScriptStep → Bool
 is_settle (SayStep peering bytes) = false
 is_settle (MoveStep peering target) = false
+is_settle (EvacuateStep router) = false
 is_settle SettleStep = true
 
 -- the group of a step, from 0: as many groups were ended before it
@@ -124,25 +126,40 @@ group_of setup step = length (filter is_settle (take step setup.steps))
 abbrev pub groups_in : Setup → ℕ
 groups_in setup = length (filter is_settle setup.steps)
 
--- a graft of the script: its number, counted from 1 over the whole script, its peering and its target
+-- a graft that a step makes, or may make as its group begins: its number, its peering, and the step
 pub record ScriptGraft : Type 0 where
   pub graft : ℕ
   pub peering : ℕ
-  pub target : ℕ
+  pub step : ℕ
 
--- the grafts of steps, numbered from one above this number on
-abbrev pub grafts_after : ℕ → List ScriptStep → List ScriptGraft
-grafts_after k [] = []
-grafts_after k (SayStep peering bytes ∷ steps) = grafts_after k steps
-grafts_after k (SettleStep ∷ steps) = grafts_after k steps
-grafts_after k (MoveStep peering target ∷ steps) = record { graft = k + 1; peering = peering; target = target } ∷ grafts_after (k + 1) steps
+-- the peerings whose sessions a step moves, or may move
+abbrev pub moved_by : Setup → ScriptStep → List ℕ
+moved_by setup (SayStep peering bytes) = []
+moved_by setup (MoveStep peering target) = peering ∷ []
+moved_by setup (EvacuateStep router) = peering_numbers setup
+moved_by setup SettleStep = []
 
+-- a graft of each of these peerings, by a step, numbered from one above the number k on
+abbrev pub numbered : ℕ → ℕ → List ℕ → List ScriptGraft
+numbered k step [] = []
+numbered k step (p ∷ peerings) = record { graft = k + 1; peering = p; step = step } ∷ numbered (k + 1) step peerings
+
+-- the grafts of steps, of which the first one is step n, numbered from one above the number k on
+abbrev pub grafts_after : Setup → ℕ → ℕ → List ScriptStep → List ScriptGraft
+grafts_after setup k n [] = []
+grafts_after setup k n (step ∷ steps) = numbered k n (moved_by setup step) ++ grafts_after setup (k + length (moved_by setup step)) (n + 1) steps
+
+-- the grafts of the script, numbered from 1
 abbrev pub grafts_in : Setup → List ScriptGraft
-grafts_in setup = grafts_after 0 setup.steps
+grafts_in setup = grafts_after setup 0 0 setup.steps
 
--- the number that the graft at a step has, or would have
-abbrev pub graft_number : Setup → ℕ → ℕ
-graft_number setup step = length (grafts_after 0 (take step setup.steps)) + 1
+-- how many grafts stand before a step
+abbrev pub grafts_before : Setup → ℕ → ℕ
+grafts_before setup step = length (grafts_after setup 0 0 (take step setup.steps))
+
+-- the graft of a number
+abbrev pub graft_at : Setup → ℕ → Option ScriptGraft
+graft_at setup k = find (λ g. g.graft == k) (grafts_in setup)
 
 -- ---- what makes sense
 
@@ -150,6 +167,7 @@ graft_number setup step = length (grafts_after 0 (take step setup.steps)) + 1
 abbrev pub said_by : ℕ → ScriptStep → List ℕ
 said_by p (SayStep q bytes) = if q == p then bytes else []
 said_by p (MoveStep peering target) = []
+said_by p (EvacuateStep router) = []
 said_by p SettleStep = []
 
 -- how many bytes a remote says over the whole script, its opening with them, its timer's aside
@@ -174,10 +192,11 @@ pub record IsPeeringSetup (setup : Setup) (p : ℕ) (peering : PeeringSetup) : T
 abbrev pub starting_at : Setup → ℕ → ℕ
 starting_at setup r = length (filter (λ peering. peering.start == r) setup.peerings)
 
--- the peering and the target of a step are there
+-- the peering and the router of a step are there
 abbrev pub IsStep : Setup → ScriptStep → Type 0
 IsStep setup (SayStep peering bytes) = peering < peerings_in setup
 IsStep setup (MoveStep peering target) = (peering < peerings_in setup) × (target < routers_in setup)
+IsStep setup (EvacuateStep router) = router < routers_in setup
 IsStep setup SettleStep = Unit {0}
 
 -- What a laboratory can begin with: sound peerings, room for them where they start, and a script of sound steps whose last one ends a group.

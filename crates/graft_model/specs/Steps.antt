@@ -63,13 +63,13 @@ far_row setup p (Point router) before taken sent after = TurnsLink router before
 far_row setup p (Beat round) before taken sent after = Beats setup p round before taken sent after
 
 abbrev pub operator_row : Setup → OperatorEvent → OperatorPart → Option OperatorTaken → List OperatorSent → OperatorPart → Type 0
-operator_row setup (Order step) before taken sent after = OrdersSay setup step before taken sent after ⊎ OrdersGraft setup step before taken sent after
+operator_row setup (Order step number) before taken sent after = OrdersSay setup step number before taken sent after ⊎ OrdersGraft setup step number before taken sent after
 operator_row setup (Note router) before taken sent after = Notes router before taken sent after
 operator_row setup Go before taken sent after = BeginsGroup setup before taken sent after
 
 -- what an event of the operator asks of the whole world: the next group begins in a quiet one
 abbrev pub MayMake : Setup → OperatorEvent → World → Type 0
-MayMake setup (Order step) w = Unit {0}
+MayMake setup (Order step number) w = Unit {0}
 MayMake setup (Note router) w = Unit {0}
 MayMake setup Go w = Quiet setup w
 

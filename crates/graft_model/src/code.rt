@@ -110,7 +110,7 @@ impl OperatorEvent {
         ensures { result ≡ operator_code self }
     {
         match self {
-            OperatorEvent::Order { step } => coded(24, step, 0, 0),
+            OperatorEvent::Order { step, graft } => coded(24, step, graft, 0),
             OperatorEvent::Note { router } => coded(25, router, 0, 0),
             OperatorEvent::Go => coded(26, 0, 0, 0),
         }
@@ -271,11 +271,14 @@ fn operator_event(code: Code) -> Option<OperatorEvent>
     ensures some { IfSome result (λ event. operator_code event ≡ code) }
     ensures none { IfNone result ((event : OperatorEvent) → operator_code event ≢ code) }
 {
-    let number = one(code)?;
+    let (number, graft) = two(code)?;
     match code.kind {
-        24 => Some(OperatorEvent::Order { step: number }),
-        25 => Some(OperatorEvent::Note { router: number }),
-        26 if number == 0 => Some(OperatorEvent::Go),
+        24 => Some(OperatorEvent::Order {
+            step: number,
+            graft,
+        }),
+        25 if graft == 0 => Some(OperatorEvent::Note { router: number }),
+        26 if number == 0 && graft == 0 => Some(OperatorEvent::Go),
         _ => None,
     }
 }

@@ -10,11 +10,14 @@ ghost use Rattle.session_value.specs.declared.config.SessionConfig.{SessionConfi
 ghost use Rattle.session_value.specs.Sessions.{SessionValue, state, hold_time};
 ghost use Rattle.session_value.specs.Sets.{has};
 ghost use Rattle.graft_steps.specs.Landings.{IsNextToAsk, AreAllAsked};
-ghost use Rattle.graft_model.specs.Setups.{Setup, PeeringSetup, SayStep, MoveStep, peerings_in, routers_in, room_of, missing_policy, group_of, groups_in, graft_number, beat_of, rules_named};
-ghost use Rattle.graft_model.specs.Parts.{RouterPart, FarPart, OperatorPart, World, GraftOrder, Errand, Vacant, Live, Frozen, Shadow, Leaving, Owing, Moved, Back, Asked, Done, PointAt};
+ghost use Rattle.graft_model.specs.Setups.{Setup, PeeringSetup, ScriptGraft, SayStep, MoveStep, EvacuateStep, peerings_in, routers_in, room_of, missing_policy, group_of, groups_in, grafts_in, grafts_before, graft_at, beat_of, rules_named};
+ghost use Rattle.graft_model.specs.Parts.{RouterPart, FarPart, OperatorPart, World, GraftOrder, Errand, Vacant, Live, Frozen, Shadow, Leaving, Owing, Moved, Back, Asked, Done, PointAt, Unmade};
 ghost use Rattle.graft_model.specs.RouterRows.{RouterTaken, OrderIn, MeshIn, RouterSent, MeshTo, ReportOut};
 ghost use Rattle.graft_model.specs.FarRows.{FarTaken, OutwardIn, FarSent};
-ghost use Rattle.graft_model.specs.OperatorRows.{OperatorTaken, OperatorSent, OrderTo, SayTo, placement};
+ghost use Rattle.graft_model.specs.OperatorRows.{OperatorTaken, OperatorSent, OrderTo, SayTo, target_in, placement};
+ghost use Rattle.graft_model.specs.Evacuations.{peerings_at, loads_of, rooms_of, targets_from, gift_in, gift_to, AreGivenWell};
+ghost use Rattle.evacuation.specs.Plans.{Plan};
+ghost use Rattle.graft_edge.specs.declared.ids.RouterId.{RouterId};
 ghost use Rattle.graft_model.specs.Taking.{RouterMayTake, FarMayTake, OperatorMayTake};
 ghost use Rattle.graft_model.specs.Steps.{Step, RouterEvent, FarEvent, OperatorEvent, ByOperator, Go, Put, Emit, Arrive, Stray, Got, Tell, Admit, Refuse, Freeze, Leave, Land, TurnBack, Return, Clear, Ask, Confirm, Tick, Point, Beat, router_row, far_row, operator_row};
 ghost use Rattle.graft_model.specs.Steps.{Order as OrderOf};
@@ -130,20 +133,59 @@ pub fn later_grafts_alone_turn_links()
         → far_row setup p (Point r) before (Some (OutwardIn r (PointAt k))) sent after → k ≤ before.followed → after ≡ before }
 {}
 
-/// A step is ordered once, in its group. A say waits for the earlier says of its peering in the group, a graft for the outcomes of the earlier grafts of its
-/// peering; and it is ordered where its session belongs by the log.
-pub fn steps_wait_for_earlier_ones()
-    ensures once { (setup : Setup) (step : ℕ) (before after : OperatorPart) (taken : Option OperatorTaken) (sent : List OperatorSent)
-        → operator_row setup (OrderOf step) before taken sent after → (group_of setup step ≡ before.group) × (before.issued step ≡ false) }
-    ensures say { (setup : Setup) (step m p : ℕ) (bytes other : List ℕ) (before after : OperatorPart) (taken : Option OperatorTaken) (sent : List OperatorSent)
-        → operator_row setup (OrderOf step) before taken sent after → slice_get setup.steps step ≡ Some (SayStep p bytes)
+/// What a step says is ordered once, in the step's group, and waits for the earlier says of its peering in the group.
+pub fn says_wait_for_earlier_ones()
+    ensures group { (setup : Setup) (step number : ℕ) (before after : OperatorPart) (taken : Option OperatorTaken) (sent : List OperatorSent)
+        → operator_row setup (OrderOf step number) before taken sent after → group_of setup step ≡ before.group }
+    ensures once { (setup : Setup) (step number p : ℕ) (bytes : List ℕ) (before after : OperatorPart) (taken : Option OperatorTaken) (sent : List OperatorSent)
+        → operator_row setup (OrderOf step number) before taken sent after → slice_get setup.steps step ≡ Some (SayStep p bytes)
+        → (before.issued step ≡ false) × (after.issued step ≡ true) × (sent ≡ SayTo p step ∷ []) }
+    ensures say { (setup : Setup) (step number m p : ℕ) (bytes other : List ℕ) (before after : OperatorPart) (taken : Option OperatorTaken) (sent : List OperatorSent)
+        → operator_row setup (OrderOf step number) before taken sent after → slice_get setup.steps step ≡ Some (SayStep p bytes)
         → m < step → group_of setup m ≡ before.group → slice_get setup.steps m ≡ Some (SayStep p other) → before.issued m ≡ true }
-    ensures graft { (setup : Setup) (step m p target other : ℕ) (before after : OperatorPart) (taken : Option OperatorTaken) (sent : List OperatorSent)
-        → operator_row setup (OrderOf step) before taken sent after → slice_get setup.steps step ≡ Some (MoveStep p target)
-        → m < step → slice_get setup.steps m ≡ Some (MoveStep p other) → before.outcome (graft_number setup m) ≢ None }
-    ensures sends { (setup : Setup) (step p target : ℕ) (before after : OperatorPart) (taken : Option OperatorTaken) (sent : List OperatorSent)
-        → operator_row setup (OrderOf step) before taken sent after → slice_get setup.steps step ≡ Some (MoveStep p target)
-        → sent ≡ OrderTo (placement setup before p) (record { graft = graft_number setup step; peering = p; target = target }) ∷ [] }
+{}
+
+/// A graft is ordered once, at the router where its session belongs by the log and to its target. It waits for the outcomes of the earlier grafts of its peering.
+pub fn grafts_wait_for_earlier_ones()
+    ensures sends { (setup : Setup) (step number r : ℕ) (order : GraftOrder) (before after : OperatorPart) (taken : Option OperatorTaken) (sent : List OperatorSent)
+        → operator_row setup (OrderOf step number) before taken sent after → sent ≡ OrderTo r order ∷ []
+        → (r ≡ placement setup before order.peering) × (graft : ScriptGraft) × (graft_at setup order.graft ≡ Some graft) × (graft.step ≡ step)
+        × (graft.peering ≡ order.peering) × (target_in setup before graft ≡ Some order.target) }
+    ensures once { (setup : Setup) (step number r : ℕ) (order : GraftOrder) (before after : OperatorPart) (taken : Option OperatorTaken) (sent : List OperatorSent)
+        → operator_row setup (OrderOf step number) before taken sent after → sent ≡ OrderTo r order ∷ []
+        → (before.source order.graft ≡ None) × (after.source order.graft ≡ Some r) }
+    ensures earlier { (setup : Setup) (step number r : ℕ) (order : GraftOrder) (other : ScriptGraft) (before after : OperatorPart) (taken : Option OperatorTaken) (sent : List OperatorSent)
+        → operator_row setup (OrderOf step number) before taken sent after → sent ≡ OrderTo r order ∷ []
+        → graft_at setup other.graft ≡ Some other → other.peering ≡ order.peering → other.graft < order.graft
+        → target_in setup before other ≢ None → before.outcome other.graft ≢ None }
+    ensures noted { (setup : Setup) (step number router r : ℕ) (order : GraftOrder) (before after : OperatorPart) (taken : Option OperatorTaken) (sent : List OperatorSent)
+        → operator_row setup (OrderOf step number) before taken sent after → sent ≡ OrderTo r order ∷ []
+        → slice_get setup.steps step ≡ Some (EvacuateStep router) → number ≡ order.graft }
+{}
+
+/// A graft step takes one number, and an evacuate step one for each peering, in their order; they count from 1 over the whole script.
+pub fn grafts_are_numbered()
+    ensures step { (setup : Setup) (n p target : ℕ) → slice_get setup.steps n ≡ Some (MoveStep p target)
+        → graft_at setup (grafts_before setup n + 1) ≡ Some (record { graft = grafts_before setup n + 1; peering = p; step = n }) }
+    ensures evacuation { (setup : Setup) (n router p : ℕ) → slice_get setup.steps n ≡ Some (EvacuateStep router) → p < peerings_in setup
+        → graft_at setup (grafts_before setup n + p + 1) ≡ Some (record { graft = grafts_before setup n + p + 1; peering = p; step = n }) }
+    ensures known { (setup : Setup) (k : ℕ) (graft : ScriptGraft) → graft_at setup k ≡ Some graft → (graft.graft ≡ k) × (0 < k) × (k ≤ length (grafts_in setup)) }
+{}
+
+/// As a group begins, its evacuate steps give each peering that is placed at their router what the plan has for it, and nothing to others. What other grafts were
+/// given stays.
+pub fn emptied_routers_give_by_plan()
+    ensures given { (setup : Setup) (before after : World) (graft : ScriptGraft) (router : ℕ) → Step setup (ByOperator Go) before after → graft_at setup graft.graft ≡ Some graft
+        → group_of setup graft.step ≡ before.operator.group + 1 → slice_get setup.steps graft.step ≡ Some (EvacuateStep router) → before.operator.given graft.graft ≡ Unmade
+        → after.operator.given graft.graft ≡ gift_to setup (placement setup before.operator) router graft.peering }
+    ensures others { (setup : Setup) (before after : World) (graft : ScriptGraft) → Step setup (ByOperator Go) before after → graft_at setup graft.graft ≡ Some graft
+        → group_of setup graft.step ≢ before.operator.group + 1 → after.operator.given graft.graft ≡ before.operator.given graft.graft }
+    ensures there { (setup : Setup) (placed : ℕ → ℕ) (router i p : ℕ) (target : Option RouterId) → slice_get (peerings_at setup placed router) i ≡ Some p
+        → slice_get (targets_from setup placed router) i ≡ Some target → gift_to setup placed router p ≡ gift_in router target }
+    ensures elsewhere { (setup : Setup) (placed : ℕ → ℕ) (router p : ℕ) → placed p ≢ router → gift_to setup placed router p ≡ Unmade }
+    ensures well { (setup : Setup) (placed : ℕ → ℕ) (router : ℕ) → AreGivenWell setup placed router }
+    ensures plan { (setup : Setup) (placed : ℕ → ℕ) (router : ℕ)
+        → Plan (rooms_of setup) router (loads_of setup placed) (length (peerings_at setup placed router)) (targets_from setup placed router) }
 {}
 
 /// A remote says a KEEPALIVE by its timer only where it beats, in a round that is a multiple of its beat and above the last one, and 27,594 times at most.

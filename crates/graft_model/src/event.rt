@@ -74,8 +74,9 @@ pub enum FarEvent {
 /// An event of the operator.
 #[derive(Clone, Copy, Debug, PartialEq, Eq, Hash)]
 pub enum OperatorEvent {
-    /// A step of the script, counted from 0, is issued.
-    Order { step: u32 },
+    /// What a step of the script, counted from 0, has a remote say is ordered, or a graft of the step: `graft` is its number where
+    /// an evacuate step makes it, else 0.
+    Order { step: u32, graft: u32 },
     /// A router's report of how a graft ended goes into the log.
     Note { router: u32 },
     /// The next group of the script begins.

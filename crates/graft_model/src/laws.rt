@@ -52,6 +52,11 @@ pub fn rows_are_exact()
         → operator_row setup event before taken sent after → operator_row setup event before taken items other → (items ≡ sent) × (other ≡ after) }
 {}
 
+/// An event leads from a world to one world, where no two places of a router have the same graft.
+pub fn events_lead_to_one_world()
+    ensures { (setup : Setup) (event : Event) (w u v : World) → ((r k : ℕ) → HasOnce k (w.router r)) → Step setup event w u → Step setup event w v → v ≡ u }
+{}
+
 /// In a graft no session is made, lost or changed: what a router held of a peering and took, it holds or sent then, in every field.
 pub fn grafts_keep_sessions()
     ensures { (setup : Setup) (r p : ℕ) (event : RouterEvent) (before after : RouterPart) (taken : Option RouterTaken) (sent : List RouterSent)

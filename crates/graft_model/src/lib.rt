@@ -10,10 +10,11 @@ mod laws;
 
 pub use code::{Code, event_of};
 pub use conditions::{
-    beats_are_few_and_later, dirty_prefixes_wait, grafts_go_on_where_they_stand,
+    beats_are_few_and_later, dirty_prefixes_wait, emptied_routers_give_by_plan,
+    grafts_are_numbered, grafts_go_on_where_they_stand, grafts_wait_for_earlier_ones,
     groups_begin_in_quiet_worlds, items_are_taken_where_they_may_be, landings_have_room,
     later_grafts_alone_turn_links, live_sessions_alone_act, missing_policies_are_named,
-    quiet_sessions_are_settled, sessions_act_in_their_states, steps_wait_for_earlier_ones,
+    quiet_sessions_are_settled, says_wait_for_earlier_ones, sessions_act_in_their_states,
     word_waits_for_what_is_told,
 };
 pub use effects::{
@@ -23,6 +24,6 @@ pub use effects::{
 };
 pub use event::{ActorEvent, FarEvent, OperatorEvent, RouterEvent};
 pub use laws::{
-    codes_are_exact, grafts_keep_sessions, grafts_move_sessions, nothing_moves_at_quiet,
-    refused_items_change_nothing, rows_are_exact, steps_leave_the_rest,
+    codes_are_exact, events_lead_to_one_world, grafts_keep_sessions, grafts_move_sessions,
+    nothing_moves_at_quiet, refused_items_change_nothing, rows_are_exact, steps_leave_the_rest,
 };

@@ -166,7 +166,7 @@ module _ (setup : Setup) (net next : Net) (deed : Deed Thing) (w : World) (sees 
       same a b e = cc
 
   may_make : (event : OperatorEvent) → HasCode (operator_code event) deed.entry → (IsGo deed.entry → Quiet setup w) → MayMake setup event w
-  may_make (Order n) coded quiet = tt
+  may_make (Order n k) coded quiet = tt
   may_make (Note r) coded quiet = tt
   may_make Go coded quiet = quiet coded.kind
 

@@ -1,11 +1,11 @@
 -- How the parts and the numbered channels of a net are seen as a world.
-use Rattle.std.specs.Prelude.{ℕ, ◌≡◌, ◌<◌, ◌+◌, List, [], Option, Some, None, map, false, slice_get}
+use Rattle.std.specs.Prelude.{ℕ, ◌≡◌, ◌<◌, ◌+◌, List, [], Option, Some, map, slice_get}
 use Rattle.ring_net.specs.Phases.{View}
 use Rattle.journal_merge.specs.Worlds as worlds
 use Rattle.journal_merge.specs.Growth.{IsWorldOf}
 use Rattle.graft_model.specs.Setups.{Setup, PeeringSetup, routers_in, peerings_in}
 use Rattle.graft_model.specs.Parts.{World}
-use Rattle.graft_model.specs.First.{first_router, first_far, first_world}
+use Rattle.graft_model.specs.First.{first_router, first_far, first_operator, first_world}
 use Rattle.graft_runs.specs.Actors.{ActorPart, RouterIs, FarIs, OperatorIs, Thing, MeshItem, OutwardItem, SegmentItem, OrderItem, ReportItem, StepItem, ActorName, Router, FarSide, Operator, IsActor, actor_at}
 
 -- parts and channels by the numbers of the actors
@@ -48,5 +48,5 @@ pub record SeesView {A : Type 0} (part : A → ActorPart) (setup : Setup) (view 
 pub record IsFirst (setup : Setup) (net : Net) : Type 0 where
   pub routers : (r : ℕ) → r < routers_in setup → net.part r ≡ RouterIs (first_router setup r)
   pub far_sides : (p : ℕ) (peering : PeeringSetup) → slice_get setup.peerings p ≡ Some peering → net.part (routers_in setup + p) ≡ FarIs (first_far (Some peering))
-  pub operator : net.part (routers_in setup + peerings_in setup) ≡ OperatorIs (record { group = 0; issued = λ n. false; source = λ k. None; outcome = λ k. None })
+  pub operator : net.part (routers_in setup + peerings_in setup) ≡ OperatorIs (first_operator setup)
   pub channels : (a b : ℕ) → net.channel a b ≡ []

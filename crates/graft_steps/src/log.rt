@@ -3,11 +3,16 @@
 use crate::refusal::Outcome;
 use graft_edge::{Items, NoMemory, PeeringId, RouterId, TryCopy};
 
-/// The grafts of a script, in the order of their numbers.
+/// The grafts of a script, in the order of their numbers: those of its graft steps, and those that its evacuate
+/// steps made as their groups began.
 pub type GraftLog = Items<GraftEntry>;
 
-/// A graft in the log: its number, which counts the graft steps of the script from 1, its peering, the
-/// router that it was ordered at, which is none until then, its target, and how far it is.
+/// A graft in the log: its number, its peering, the router that it was ordered at, which is none until
+/// then, its target, and how far it is.
+///
+/// Numbers count from 1 over the script. A graft step takes one, and an evacuate step one for each
+/// peering of the laboratory, in their order. Where no router has a free place for a session of a
+/// router that is emptied, source and target are that router, and the graft ended with `NoTarget`.
 #[derive(Debug, Drop)]
 pub struct GraftEntry {
     pub graft: u32,

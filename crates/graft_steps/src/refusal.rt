@@ -4,8 +4,8 @@ use bgp_types::SessionState;
 use graft_edge::{Name, NoMemory, TryCopy};
 
 /// Why a graft is refused. The source refuses for one of the first three reasons, and the target for
-/// one of the last two; where several hold, the first in this order is given. A refused graft leaves
-/// the session at its source as it was.
+/// one of the next two; where several hold, the first in this order is given. The operator gives the
+/// last one itself. A refused graft leaves the session at its source as it was.
 #[derive(Debug, Drop)]
 pub enum Refusal {
     /// The target is the source.
@@ -20,6 +20,8 @@ pub enum Refusal {
     /// The target has no policy of this name. Where it has neither of the peering's two policies,
     /// this is the name of the import policy.
     PolicyMissing(Name),
+    /// The router is emptied, and no other router has a free place for the session.
+    NoTarget,
 }
 
 /// How a graft ended.
@@ -39,6 +41,7 @@ impl TryCopy for Refusal {
             Refusal::HoldTooShort(hold) => Ok(Refusal::HoldTooShort(*hold)),
             Refusal::RouterFull(room) => Ok(Refusal::RouterFull(*room)),
             Refusal::PolicyMissing(name) => Ok(Refusal::PolicyMissing(name.copy()?)),
+            Refusal::NoTarget => Ok(Refusal::NoTarget),
         }
     }
 }

@@ -10,6 +10,7 @@ use Rattle.graft_model.specs.Parts.{Vacant, Live}
 use Rattle.graft_worked.specs.Base.{base, peering_c}
 use Rattle.graft_worked.specs.Places.{two, idle_router, idle_far}
 use Rattle.graft_worked.specs.First.{session_first, a_first, far_first, operator_first, first}
+use Rattle.graft_worked.proofs.Ungiven.{empties, nothing_given}
 use Rattle.graft_worked.proofs.Points.{empty_at, empty_two, empty_one}
 
 not_zero : (n : ℕ) → (suc n == 0) ≡ false
@@ -45,11 +46,19 @@ far_at : (p : ℕ) → first_far (slice_get base.peerings p) ≡ at (λ p. idle_
 far_at zero = refl
 far_at (suc p) = sym (at_beyond idle_far far_first p)
 
+-- no step of the worked script empties a router
+pub base_empties : (n : ℕ) → empties (slice_get base.steps n) ≡ false
+base_empties zero = refl
+base_empties (suc zero) = refl
+base_empties (suc (suc zero)) = refl
+base_empties (suc (suc (suc zero))) = refl
+base_empties (suc (suc (suc (suc n)))) = refl
+
 pub first_is : first_world base ≡ first
 first_is = λ i. record {
   router = λ r. router_at r i;
   far = λ p. far_at p i;
-  operator = operator_first;
+  operator = nothing_given base operator_first base_empties i;
   mesh = λ r q. sym (empty_two 1 0 r q) i;
   outward = λ r p. sym (empty_two 0 0 r p) i;
   inward = λ p r. sym (empty_one p r) i;

@@ -1,9 +1,10 @@
 -- The worlds before and after the worked graft are quiet, and the last one solves.
-use Rattle.std.proofs.Common.{◌≡◌, ◌≢◌, ℕ, zero, suc, ◌==◌, Bool, true, false, cond, [], ◌∷◌, drop, length, Option, Some, None, is_some, refl, sym, ap, ◌∙◌, inl, inr, lit<}
-use Rattle.std.specs.Prelude.{slice_get, unwrap_or}
+use Rattle.std.proofs.Common.{◌≡◌, ◌≢◌, ℕ, zero, suc, ◌==◌, Bool, true, false, cond, List, [], ◌∷◌, drop, length, Option, Some, None, is_some, refl, sym, ap, ◌∙◌, inl, inr, lit<}
+use Rattle.std.specs.Prelude.{slice_get}
 use Rattle.std.specs.FinMap as map
 use Rattle.std.specs.List.{enumerate_from}
 use Rattle.std.specs.Ordering.{nat_cmp}
+use Rattle.std.proofs.lemmas.Option.{same_Some}
 use Rattle.bgp_types.specs.declared.attrs.Attrs.{Attrs}
 use Rattle.bgp_types.specs.FirstFault.{body_of, message_of}
 use Rattle.bgp_types.specs.Header.{header_fault, frame_at}
@@ -23,14 +24,16 @@ use Rattle.tcp_seq.specs.Endpoint.{received_bytes, run_from}
 use Rattle.session_value.specs.Sessions.{peering_of, state, unread, while_established}
 use Rattle.session_value.specs.Fronts.{BeginsNothing}
 use Rattle.graft_model.specs.Points.{at}
-use Rattle.graft_model.specs.Setups.{ScriptStep, SayStep, SettleStep, MoveStep, group_of, graft_number, identifier_of, cost_between, has_network}
+use Rattle.graft_model.specs.Setups.{ScriptStep, SayStep, MoveStep, EvacuateStep, SettleStep, ScriptGraft, group_of, grafts_in, graft_at, identifier_of, cost_between, has_network}
 use Rattle.graft_model.specs.Parts.{Vacant, Live, Entry, RouterPart, FarPart, OperatorPart}
+use Rattle.graft_model.specs.Placements.{target_in}
 use Rattle.graft_model.specs.Decisions.{to_tell, remote_identifier}
 use Rattle.graft_model.specs.Quiet.{Quiet, IsIdle, HasRead, AllAcked}
 use Rattle.graft_model.specs.Claims.{Solves, SolvesOn, session_routes, router_routes}
 use Rattle.graft_worked.specs.Base.{base, config}
 use Rattle.graft_worked.specs.Places.{idle_router, idle_far, nothing, world_of}
 use Rattle.graft_worked.specs.Graft.{put_all, said_all, home_end, remote_end, heard_attrs, route, entry, over_peering, over_router, session, a_before, b_before, far_before, operator_before, a_after, b_after, far_after, operator_after, before_graft, after_graft, with_entry_kept}
+use Rattle.graft_model.proofs.Numbers.{place_of_graft}
 use Rattle.graft_worked.proofs.Points.{two_all, at_all, empty_at, empty_two, empty_one}
 use Rattle.graft_worked.proofs.Setup.{below_two, below_one}
 use Rattle.graft_worked.proofs.Tens.{is_ten, got_none, got_ten, got_it}
@@ -73,10 +76,10 @@ record Calm (far : FarPart) (part : RouterPart) : Type 0 where
   places : (p : ℕ) → IsIdle (at (λ p. idle_far) 0 far p).end (part.places p)
 
 abbrev Issued : OperatorPart → Type 0
-Issued o = (n : ℕ) (step : ScriptStep) → slice_get base.steps n ≡ Some step → step ≢ SettleStep → group_of base n ≡ o.group → o.issued n ≡ true
+Issued o = (n p : ℕ) (bytes : List ℕ) → slice_get base.steps n ≡ Some (SayStep p bytes) → group_of base n ≡ o.group → o.issued n ≡ true
 
 abbrev Ended : OperatorPart → Type 0
-Ended o = (n p target : ℕ) → slice_get base.steps n ≡ Some (MoveStep p target) → group_of base n ≡ o.group → o.outcome (graft_number base n) ≢ None
+Ended o = (g : ScriptGraft) → graft_at base g.graft ≡ Some g → group_of base g.step ≡ o.group → target_in base o g ≢ None → o.outcome g.graft ≢ None
 
 calm_world : (a b : RouterPart) (far : FarPart) (o : OperatorPart) → Calm far a → Calm far b → far.homeward ≡ [] → far.remoteward ≡ [] → Issued o → Ended o → Quiet base (world_of a b far o nothing)
 calm_world a b far o x y home remote issued ended = record {
@@ -99,54 +102,51 @@ calm_world a b far o x y home remote issued ended = record {
 with_session : (far : FarPart) → far.end ≡ remote_end → (p : ℕ) → IsIdle (at (λ p. idle_far) 0 far p).end (at (λ p. Vacant) 0 (Live session None) p)
 with_session far e p = idle_place far e (p == 0)
 
-settle_apart : (step : ScriptStep) → ◌≡◌ {A = Option ScriptStep} (Some SettleStep) (Some step) → step ≢ SettleStep → ⊥
-settle_apart step e apart = apart (sym (ap (λ o. unwrap_or o step) e))
+abbrev is_say : Option ScriptStep → Bool
+is_say None = false
+is_say (Some (SayStep p bytes)) = true
+is_say (Some (MoveStep p target)) = false
+is_say (Some (EvacuateStep router)) = false
+is_say (Some SettleStep) = false
 
-issued_before : Issued operator_before
-issued_before zero step e apart g = refl
-issued_before (suc zero) step e apart g = absurd (settle_apart step e apart)
-issued_before (suc (suc zero)) step e apart g = let h : ◌≡◌ {A = ℕ} 1 0 = g in absurd cc
-issued_before (suc (suc (suc zero))) step e apart g = absurd (settle_apart step e apart)
-issued_before (suc (suc (suc (suc n)))) step e apart g = let h : ◌≡◌ {A = Bool} false true = ap is_some e in absurd cc
+-- only the first step says something
+issued : (o : OperatorPart) → o.issued 0 ≡ true → Issued o
+issued o first zero p bytes e g = first
+issued o first (suc zero) p bytes e g = let h : ◌≡◌ {A = Bool} false true = ap is_say e in absurd cc
+issued o first (suc (suc zero)) p bytes e g = let h : ◌≡◌ {A = Bool} false true = ap is_say e in absurd cc
+issued o first (suc (suc (suc zero))) p bytes e g = let h : ◌≡◌ {A = Bool} false true = ap is_say e in absurd cc
+issued o first (suc (suc (suc (suc n)))) p bytes e g = let h : ◌≡◌ {A = Bool} false true = ap is_say e in absurd cc
 
-issued_after : Issued operator_after
-issued_after zero step e apart g = refl
-issued_after (suc zero) step e apart g = absurd (settle_apart step e apart)
-issued_after (suc (suc zero)) step e apart g = refl
-issued_after (suc (suc (suc zero))) step e apart g = absurd (settle_apart step e apart)
-issued_after (suc (suc (suc (suc n)))) step e apart g = let h : ◌≡◌ {A = Bool} false true = ap is_some e in absurd cc
+abbrev the_graft : ScriptGraft
+the_graft = record { graft = 1; peering = 0; step = 2 }
 
-abbrev is_move : Option ScriptStep → Bool
-is_move None = false
-is_move (Some (SayStep p bytes)) = false
-is_move (Some (MoveStep p target)) = true
-is_move (Some SettleStep) = false
+-- the script has one graft
+one_graft : (i : ℕ) (g : ScriptGraft) → slice_get (grafts_in base) i ≡ Some g → the_graft ≡ g
+one_graft zero g e = same_Some the_graft g e
+one_graft (suc i) g e = absurd cc
+
+the_only : (g : ScriptGraft) → graft_at base g.graft ≡ Some g → the_graft ≡ g
+the_only g known = let t = place_of_graft base g.graft g known in one_graft t.0 g t.2
 
 ended_before : Ended operator_before
-ended_before zero p target e g = let h : ◌≡◌ {A = Bool} false true = ap is_move e in absurd cc
-ended_before (suc zero) p target e g = let h : ◌≡◌ {A = Bool} false true = ap is_move e in absurd cc
-ended_before (suc (suc zero)) p target e g = let h : ◌≡◌ {A = ℕ} 1 0 = g in absurd cc
-ended_before (suc (suc (suc zero))) p target e g = let h : ◌≡◌ {A = Bool} false true = ap is_move e in absurd cc
-ended_before (suc (suc (suc (suc n)))) p target e g = let h : ◌≡◌ {A = Bool} false true = ap is_move e in absurd cc
+ended_before g known group made = let h : ◌≡◌ {A = ℕ} 1 0 = ap (λ (z : ScriptGraft). group_of base z.step) (the_only g known) ∙ group in absurd cc
 
 ended_after : Ended operator_after
-ended_after zero p target e g = let h : ◌≡◌ {A = Bool} false true = ap is_move e in absurd cc
-ended_after (suc zero) p target e g = let h : ◌≡◌ {A = Bool} false true = ap is_move e in absurd cc
-ended_after (suc (suc zero)) p target e g = λ s. let h : ◌≡◌ {A = Bool} true false = ap is_some s in cc
-ended_after (suc (suc (suc zero))) p target e g = let h : ◌≡◌ {A = Bool} false true = ap is_move e in absurd cc
-ended_after (suc (suc (suc (suc n)))) p target e g = let h : ◌≡◌ {A = Bool} false true = ap is_move e in absurd cc
+ended_after g known group made none =
+    let h : operator_after.outcome 1 ≡ None = ap (λ (z : ScriptGraft). operator_after.outcome z.graft) (the_only g known) ∙ none in
+    let apart : ◌≡◌ {A = Bool} true false = ap is_some h in cc
 
 pub quiet_before : Quiet base before_graft
 quiet_before = calm_world a_before b_before far_before operator_before
     (record { dirty = refl; due_in = λ q. refl; due_out = λ p. refl; places = with_session far_before refl })
     (record { dirty = refl; due_in = λ q. refl; due_out = λ p. refl; places = λ p. tt })
-    refl refl issued_before ended_before
+    refl refl (issued operator_before refl) ended_before
 
 pub quiet_after : Quiet base after_graft
 quiet_after = calm_world a_after b_after far_after operator_after
     (record { dirty = refl; due_in = λ q. refl; due_out = λ p. refl; places = λ p. tt })
     (record { dirty = refl; due_in = λ q. refl; due_out = λ p. refl; places = with_session far_after refl })
-    refl refl issued_after ended_after
+    refl refl (issued operator_after refl) ended_after
 
 -- ---- solves
 

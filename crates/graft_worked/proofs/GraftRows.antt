@@ -1,6 +1,6 @@
 -- The rows of the worked graft, each computed.
 use Rattle.std.proofs.Common.{◌≡◌, ◌≢◌, ◌⊎◌, ℕ, zero, suc, ◌<◌, ◌==◌, ◌&&◌, ◌||◌, Bool, true, false, cond, [], ◌∷◌, ◌++◌, Option, Some, None, is_some, refl, sym, ap, ◌∙◌, inl, inr, lit<, arith}
-use Rattle.std.specs.Prelude.{option_map, slice_get}
+use Rattle.std.specs.Prelude.{option_map}
 use Rattle.std.specs.FinMap as map
 use Rattle.std.specs.List.{filter_map}
 use Rattle.bgp_types.specs.declared.attrs.Attrs.{Attrs}
@@ -24,7 +24,7 @@ use Rattle.graft_steps.specs.Refusals.{freeze_refusal}
 use Rattle.session_value.specs.Sessions.{SessionValue, state, hold_time}
 use Rattle.session_value.specs.Sets.{has}
 use Rattle.graft_model.specs.Points.{at}
-use Rattle.graft_model.specs.Setups.{Setup, ScriptStep, SayStep, MoveStep, SettleStep, graft_number, routers_in}
+use Rattle.graft_model.specs.Setups.{Setup, routers_in}
 use Rattle.graft_model.specs.Parts.{Place, Vacant, Live, Frozen, Shadow, Entry, RouterPart, Told, Moved, Done, PointAt, Leaving, Owing}
 use Rattle.graft_model.specs.Decisions.{entry_candidate, telling_candidate, session_route, chosen, to_tell, out_side, remote_identifier}
 use Rattle.graft_model.specs.RouterRows.{OrderIn, MeshIn, MeshTo, OutwardTo, ReportOut, BringsIn, PutsNothing}
@@ -36,7 +36,8 @@ use Rattle.graft_worked.specs.Base.{base, config}
 use Rattle.graft_worked.specs.Places.{holding}
 use Rattle.graft_worked.specs.Graft.{at_ten, ten_alone, heard_attrs, route, entry, over_peering, over_router, session, b_before, far_before, operator_before, to_b, a_left, a_cleared, a_decided, a_after, b_landed, b_decided, b_put, b_told, b_heard, b_after, far_after, operator_begun, operator_ordered, operator_after, a_heard, a_kept, to_a, b_confirmed}
 use Rattle.graft_worked.proofs.Points.{at-at, at-back, other_of_0, other_of_1}
-use Rattle.graft_worked.proofs.Setup.{below_two}
+use Rattle.graft_worked.proofs.Ungiven.{nothing_given, none_before}
+use Rattle.graft_worked.proofs.First.{base_empties}
 use Rattle.graft_worked.proofs.Tens.{empty, is_ten, got_none, got_ten, got_it, again, gone, some_at_ten, some_in_none, adds_ten, keeps_ten, keeps_none, drops_ten, marks_new, marks_old}
 
 -- ---- the session, computed
@@ -56,25 +57,20 @@ identifier_is = refl
 -- ---- the operator
 
 pub goes : BeginsGroup base operator_before None [] operator_begun
-goes = record { further = lit< tt; takes = refl; sends = refl; effect = refl }
+goes = record { further = lit< tt; takes = refl; sends = refl; effect = sym (nothing_given base operator_begun base_empties) }
 
-abbrev is_move : Option ScriptStep → Bool
-is_move None = false
-is_move (Some (SayStep p bytes)) = false
-is_move (Some (MoveStep p target)) = true
-is_move (Some SettleStep) = false
-
-pub no_move : (step : Option ScriptStep) (p target : ℕ) → is_move step ≡ false → step ≢ Some (MoveStep p target)
-no_move step p target e same = let apart : ◌≡◌ {A = Bool} false true = sym e ∙ ap is_move same in cc
-
-pub orders : OrdersGraft base 2 operator_begun None (OrderTo 0 (record { graft = 1; peering = 0; target = 1 }) ∷ []) operator_ordered
+pub orders : OrdersGraft base 2 0 operator_begun None (OrderTo 0 (record { graft = 1; peering = 0; target = 1 }) ∷ []) operator_ordered
 orders = record {
-  next = record { group = refl; unissued = refl };
-  peering = 0;
+  graft = record { graft = 1; peering = 0; step = 2 };
+  known = refl;
+  by_step = refl;
+  named = refl;
+  group = refl;
   target = 1;
   is = refl;
-  earlier = λ m other lt. below_two (λ n. slice_get base.steps n ≡ Some (MoveStep 0 other) → operator_begun.outcome (graft_number base n) ≢ None)
-      (λ e. absurd (no_move (slice_get base.steps 0) 0 other refl e)) (λ e. absurd (no_move (slice_get base.steps 1) 0 other refl e)) m lt;
+  unordered = refl;
+  unended = refl;
+  earlier = λ other known peering before made. absurd (none_before base other known before);
   takes = refl;
   sends = refl;
   effect = refl;

@@ -29,7 +29,7 @@ graft_runs quiet = (
   operator_alone base base_small a_before b_before far_before operator_before nothing Go operator_begun quiet goes,
   (
     _,
-    operator_orders base base_small a_before b_before far_before operator_begun nothing (Order 2) operator_ordered (record { graft = 1; peering = 0; target = 1 }) tt (inr orders),
+    operator_orders base base_small a_before b_before far_before operator_begun nothing (Order 2 0) operator_ordered (record { graft = 1; peering = 0; target = 1 }) tt (inr orders),
     (
       _,
       a_ordered_by base base_small a_before b_before far_before operator_ordered nothing (Admit 1) a_ordered (record { graft = 1; peering = 0; target = 1 }) [] (admits base (lit< tt) a_before session),

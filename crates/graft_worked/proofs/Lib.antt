@@ -1,6 +1,7 @@
 pub mod Points
 pub mod Tens
 pub mod Setup
+pub mod Ungiven
 pub mod First
 pub mod GraftRows
 pub mod GraftRun
@@ -16,3 +17,4 @@ pub mod Puts
 pub mod Sends
 pub mod Refused
 pub mod Wrong
+mod Emptied

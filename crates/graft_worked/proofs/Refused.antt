@@ -1,5 +1,5 @@
 -- Grafts that are refused, from the first world on.
-use Rattle.std.proofs.Common.{◌≡◌, ℕ, zero, suc, ◌<◌, ◌≤◌, ◌||◌, Bool, true, false, [], ◌∷◌, Some, None, is_some, refl, sym, ap, ◌∙◌, subst, inr, lit<, lit≤, arith}
+use Rattle.std.proofs.Common.{◌≡◌, ℕ, zero, suc, ◌≤◌, ◌||◌, Bool, true, false, [], ◌∷◌, Some, None, is_some, refl, sym, ap, ◌∙◌, subst, inr, lit<, lit≤, arith}
 use Rattle.std.specs.Prelude.{All, slice_get, unwrap_or}
 use Rattle.std.specs.FinMap as map
 use Rattle.std.proofs.lemmas.List.Elements.{All-from_recursion, All-nil}
@@ -14,8 +14,8 @@ use Rattle.graft_steps.specs.declared.refusal.Refusal.TheVariants.{NotEstablishe
 use Rattle.graft_steps.specs.Refusals.{freeze_refusal}
 use Rattle.session_value.specs.Sessions.{state, hold_time}
 use Rattle.session_value.specs.Sets.{has}
-use Rattle.graft_model.specs.Setups.{MoveStep, PeeringSetup, IsPeeringSetup, IsSetup, IsStep, starting_at, room_of}
-use Rattle.graft_model.specs.First.{first_router, first_world}
+use Rattle.graft_model.specs.Setups.{PeeringSetup, IsPeeringSetup, IsSetup, IsStep, starting_at, room_of}
+use Rattle.graft_model.specs.First.{first_router, first_operator, first_world}
 use Rattle.graft_model.specs.Points.{at}
 use Rattle.graft_model.specs.Parts.{Vacant, Live, Frozen, Shadow, OperatorPart, Moved, Back, World, Leaving}
 use Rattle.graft_model.specs.RouterRows.{MeshIn, MeshTo, ReportOut}
@@ -26,16 +26,17 @@ use Rattle.graft_model.specs.declared.event.OperatorEvent.TheVariants.{Order}
 use Rattle.graft_model.specs.Steps.{Run}
 use Rattle.graft_worked.specs.Base.{peering_c, base}
 use Rattle.graft_worked.specs.Places.{idle_router, holding, nothing}
-use Rattle.graft_worked.specs.First.{session_first, a_first, far_first, first}
-use Rattle.graft_worked.specs.Graft.{to_b}
+use Rattle.graft_worked.specs.First.{session_first, a_first, far_first, operator_first, first}
+use Rattle.graft_worked.specs.Graft.{to_b, operator_before}
 use Rattle.graft_worked.specs.Start.{a_with, session_joined, far_emitted, joined_world, joining_events}
 use Rattle.graft_worked.specs.Refused.{refusing, operator_moved, refusal_report, refused_events, with_refusal, away_events, returned_events, with_returned}
 use Rattle.graft_worked.proofs.Points.{at-at, at-same}
 use Rattle.graft_worked.proofs.Tens.{empty, some_in_none}
 use Rattle.graft_worked.proofs.Setup.{below_two}
-use Rattle.graft_worked.proofs.First.{first_is}
+use Rattle.graft_worked.proofs.First.{base_empties, first_is}
+use Rattle.graft_worked.proofs.Ungiven.{empties, nothing_given, none_before}
 use Rattle.graft_worked.proofs.Moves.{IsSmall, a_alone, a_to_b, a_ordered_by, a_ends, a_reports, b_sends_back, operator_orders}
-use Rattle.graft_worked.proofs.GraftRows.{no_move, admits, freezes, leaves}
+use Rattle.graft_worked.proofs.GraftRows.{admits, freezes, leaves}
 use Rattle.graft_worked.proofs.StartRun.{joins, joined}
 
 -- ---- the laboratory
@@ -76,26 +77,37 @@ same_router zero = refl
 same_router (suc zero) = refl
 same_router (suc (suc r)) = refl
 
+refusing_empties : (n : ℕ) → empties (slice_get refusing.steps n) ≡ false
+refusing_empties zero = refl
+refusing_empties (suc zero) = refl
+refusing_empties (suc (suc zero)) = refl
+refusing_empties (suc (suc (suc n))) = refl
+
+same_operator : first_operator refusing ≡ first_operator base
+same_operator = nothing_given refusing operator_first refusing_empties ∙ sym (nothing_given base operator_first base_empties)
+
 begins : first_world refusing ≡ first
-begins = (λ i. record (first_world base) { router = λ r. same_router r i }) ∙ first_is
+begins = (λ i. record (first_world base) { router = λ r. same_router r i; operator = same_operator i }) ∙ first_is
 
 -- ---- the order
 
-orders : (issued : ℕ → Bool) → issued 1 ≡ false
-    → OrdersGraft refusing 1 (record { group = 0; issued = issued; source = λ k. None; outcome = λ k. None }) None (OrderTo 0 (record { graft = 1; peering = 0; target = 1 }) ∷ []) (operator_moved issued)
-orders issued unissued = record {
-  next = record { group = refl; unissued = unissued };
-  peering = 0;
+orders : (issued : ℕ → Bool)
+    → OrdersGraft refusing 1 0 (record operator_first { issued = issued }) None (OrderTo 0 (record { graft = 1; peering = 0; target = 1 }) ∷ []) (operator_moved issued)
+orders issued = record {
+  graft = record { graft = 1; peering = 0; step = 1 };
+  known = refl;
+  by_step = refl;
+  named = refl;
+  group = refl;
   target = 1;
   is = refl;
-  earlier = λ m other lt e. absurd (by_step m other lt e);
+  unordered = refl;
+  unended = refl;
+  earlier = λ other known peering before made. absurd (none_before refusing other known before);
   takes = refl;
   sends = refl;
   effect = refl;
-} where
-  by_step : (m other : ℕ) → m < 1 → slice_get refusing.steps m ≡ Some (MoveStep 0 other) → ⊥
-  by_step zero other lt e = no_move (slice_get refusing.steps 0) 0 other refl e
-  by_step (suc m) other lt e = omega arith
+}
 
 -- ---- refused at the source
 
@@ -119,7 +131,7 @@ refuses = record {
 refused : Run refusing first refused_events with_refusal
 refused = (
   _,
-  operator_orders refusing small a_first idle_router far_first (record { group = 0; issued = λ n. false; source = λ k. None; outcome = λ k. None }) nothing (Order 1) (operator_moved (λ n. false)) (record { graft = 1; peering = 0; target = 1 }) tt (inr (orders (λ n. false) refl)),
+  operator_orders refusing small a_first idle_router far_first operator_first nothing (Order 1 0) (operator_moved (λ n. false)) (record { graft = 1; peering = 0; target = 1 }) tt (inr (orders (λ n. false))),
   (
     _,
     a_ordered_by refusing small a_first idle_router far_first (operator_moved (λ n. false)) nothing (Admit 1) (holding idle_router (Live session_first (Some (Leaving to_b)))) (record { graft = 1; peering = 0; target = 1 }) [] (admits refusing (lit< tt) idle_router session_first),
@@ -172,7 +184,7 @@ moved = operator_moved (at (λ n. false) 0 true)
 comes_back : Run refusing joined_world away_events with_returned
 comes_back = (
   _,
-  operator_orders refusing small (a_with session_joined) idle_router far_emitted (record { group = 0; issued = at (λ n. false) 0 true; source = λ k. None; outcome = λ k. None }) nothing (Order 1) moved (record { graft = 1; peering = 0; target = 1 }) tt (inr (orders (at (λ n. false) 0 true) refl)),
+  operator_orders refusing small (a_with session_joined) idle_router far_emitted operator_before nothing (Order 1 0) moved (record { graft = 1; peering = 0; target = 1 }) tt (inr (orders (at (λ n. false) 0 true))),
   (
     _,
     a_ordered_by refusing small (a_with session_joined) idle_router far_emitted moved nothing (Admit 1) (holding idle_router (Live session_joined (Some (Leaving to_b)))) (record { graft = 1; peering = 0; target = 1 }) [] (admits refusing (lit< tt) idle_router session_joined),

@@ -60,9 +60,11 @@ received_put = ap (run_from 0) (map.entries-from_sorted nat_cmp (enumerate_from 
 
 -- ---- the operator and the remote
 
-pub orders_say : (setup : Setup) → slice_get setup.steps 0 ≡ Some (SayStep 0 update_bytes) → OrdersSay setup 0 operator_first None (SayTo 0 0 ∷ []) operator_before
+pub orders_say : (setup : Setup) → slice_get setup.steps 0 ≡ Some (SayStep 0 update_bytes) → OrdersSay setup 0 0 operator_first None (SayTo 0 0 ∷ []) operator_before
 orders_say setup says_first = record {
-  next = record { group = refl; unissued = refl };
+  alone = refl;
+  group = refl;
+  unissued = refl;
   peering = 0;
   bytes = update_bytes;
   is = says_first;

@@ -24,7 +24,7 @@ use Rattle.graft_worked.proofs.StartTables.{a_decides_first, a_puts_nothing, a_t
 pub joins : (setup : Setup) → IsSmall setup → slice_get setup.steps 0 ≡ Some (SayStep 0 update_bytes) → Run setup first joining_events joined_world
 joins setup small says_first = (
   _,
-  operator_says setup small a_first idle_router far_first operator_first nothing (Order 0) operator_before 0 tt (inl (orders_say setup says_first)),
+  operator_says setup small a_first idle_router far_first operator_first nothing (Order 0 0) operator_before 0 tt (inl (orders_say setup says_first)),
   (
     _,
     far_says setup small a_first idle_router far_first operator_before nothing (Say 0) far_said 0 [] (says setup says_first),

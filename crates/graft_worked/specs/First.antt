@@ -6,7 +6,7 @@ use Rattle.tcp_seq.specs.Endpoint.{fresh_endpoint}
 use Rattle.bgp_story.specs.WorkedSessions.{open_bytes, keepalive_bytes, sent_lines}
 use Rattle.session_value.specs.Sessions.{SessionValue}
 use Rattle.graft_model.specs.Points.{at}
-use Rattle.graft_model.specs.Parts.{Vacant, Live, RouterPart, FarPart, OperatorPart, World}
+use Rattle.graft_model.specs.Parts.{Vacant, Live, Unmade, RouterPart, FarPart, OperatorPart, World}
 use Rattle.graft_worked.specs.Base.{config}
 use Rattle.graft_worked.specs.Places.{idle_router, idle_far, nothing, world_of}
 
@@ -27,7 +27,7 @@ abbrev pub far_first : FarPart
 far_first = record idle_far { end = record fresh_endpoint { stream = open_bytes ++ keepalive_bytes } }
 
 abbrev pub operator_first : OperatorPart
-operator_first = record { group = 0; issued = λ n. false; source = λ k. None; outcome = λ k. None }
+operator_first = record { group = 0; issued = λ n. false; given = λ k. Unmade; source = λ k. None; outcome = λ k. None }
 
 -- Router b has nothing, and nothing is on its way.
 abbrev pub first : World

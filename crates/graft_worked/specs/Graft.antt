@@ -16,7 +16,7 @@ use Rattle.bgp_story.specs.WorkedSessions.{ten, open_bytes, keepalive_bytes, upd
 use Rattle.session_value.specs.Sessions.{SessionValue}
 use Rattle.session_value.specs.Sets.{Prefixes}
 use Rattle.graft_model.specs.Points.{at}
-use Rattle.graft_model.specs.Parts.{Order as StoredOrder, Vacant, Live, Frozen, Shadow, Entry, RouterPart, FarPart, OperatorPart, World, Word, Leaving, Owing}
+use Rattle.graft_model.specs.Parts.{Order as StoredOrder, Vacant, Live, Frozen, Shadow, Unmade, Entry, RouterPart, FarPart, OperatorPart, World, Word, Leaving, Owing}
 use Rattle.graft_model.specs.declared.event.RouterEvent.TheVariants.{Admit, Freeze, Leave, Land, Confirm, Clear, Decide, Put, Tell, Hear}
 use Rattle.graft_model.specs.declared.event.FarEvent.TheVariants.{Point}
 use Rattle.graft_model.specs.declared.event.OperatorEvent.TheVariants.{Go, Order, Note}
@@ -102,9 +102,9 @@ b_before = record {
 abbrev pub far_before : FarPart
 far_before = record { end = remote_end; homeward = []; remoteward = []; pointer = 0; followed = 0; beats = 0; last_beat = 0 }
 
--- the first step, that the remote is to announce, was issued
+-- the first step, that the remote is to announce, was ordered
 abbrev pub operator_before : OperatorPart
-operator_before = record { group = 0; issued = at (λ n. false) 0 true; source = λ k. None; outcome = λ k. None }
+operator_before = record { group = 0; issued = at (λ n. false) 0 true; given = λ k. Unmade; source = λ k. None; outcome = λ k. None }
 
 abbrev pub before_graft : World
 before_graft = world_of a_before b_before far_before operator_before nothing
@@ -175,7 +175,7 @@ abbrev pub operator_begun : OperatorPart
 operator_begun = record operator_before { group = 1 }
 
 abbrev pub operator_ordered : OperatorPart
-operator_ordered = record operator_begun { issued = at operator_before.issued 2 true; source = at (λ k. None) 1 (Some 0) }
+operator_ordered = record operator_begun { source = at (λ k. None) 1 (Some 0) }
 
 abbrev pub operator_after : OperatorPart
 operator_after = record operator_ordered { outcome = at (λ k. None) 1 (Some Accepted) }
@@ -188,7 +188,7 @@ after_graft = world_of a_after b_after far_after operator_after nothing
 abbrev pub graft_events : List Event
 graft_events =
     ByOperator Go
-    ∷ ByOperator (Order 2)
+    ∷ ByOperator (Order 2 0)
     ∷ ByRouter 0 (Admit 1)
     ∷ ByRouter 0 (Freeze 1)
     ∷ ByRouter 0 (Leave 1)

@@ -8,3 +8,4 @@ pub mod Asked
 pub mod Puts
 pub mod Refused
 pub mod Wrong
+pub mod Emptied

@@ -8,7 +8,7 @@ use Rattle.graft_steps.specs.declared.refusal.Refusal.TheVariants.{NotEstablishe
 use Rattle.graft_steps.specs.declared.refusal.Outcome.TheVariants.{Refused}
 use Rattle.graft_model.specs.Points.{at}
 use Rattle.graft_model.specs.Setups.{Setup, SayStep, MoveStep, SettleStep}
-use Rattle.graft_model.specs.Parts.{OperatorPart, Report, World}
+use Rattle.graft_model.specs.Parts.{Unmade, OperatorPart, Report, World}
 use Rattle.graft_model.specs.declared.event.RouterEvent.TheVariants.{Admit, Refuse, Freeze, Leave, TurnBack, Return}
 use Rattle.graft_model.specs.declared.event.OperatorEvent.TheVariants.{Order}
 use Rattle.graft_model.specs.Steps.{Event, ByRouter, ByOperator}
@@ -20,9 +20,9 @@ use Rattle.graft_worked.specs.Start.{a_with, session_joined, far_emitted, joinin
 abbrev pub refusing : Setup
 refusing = record base { routers = router_a ∷ record router_b { room = 0 } ∷ []; steps = SayStep 0 update_bytes ∷ MoveStep 0 1 ∷ SettleStep ∷ [] }
 
--- the operator, with these steps issued besides the graft's
+-- the operator, with these says ordered besides the graft
 abbrev pub operator_moved : (ℕ → Bool) → OperatorPart
-operator_moved issued = record { group = 0; issued = at issued 1 true; source = at (λ k. None) 1 (Some 0); outcome = λ k. None }
+operator_moved issued = record { group = 0; issued = issued; given = λ k. Unmade; source = at (λ k. None) 1 (Some 0); outcome = λ k. None }
 
 abbrev pub refusal_report : Refusal → Report
 refusal_report refusal = record { graft = 1; outcome = Refused refusal }
@@ -30,7 +30,7 @@ refusal_report refusal = record { graft = 1; outcome = Refused refusal }
 -- ---- at the source
 
 abbrev pub refused_events : List Event
-refused_events = ByOperator (Order 1) ∷ ByRouter 0 (Admit 1) ∷ ByRouter 0 (Refuse 1) ∷ []
+refused_events = ByOperator (Order 1 0) ∷ ByRouter 0 (Admit 1) ∷ ByRouter 0 (Refuse 1) ∷ []
 
 abbrev pub with_refusal : World
 with_refusal = world_of a_first idle_router far_first (operator_moved (λ n. false)) (record nothing { reported = refusal_report (NotEstablished OpenSent) ∷ [] })
@@ -38,7 +38,7 @@ with_refusal = world_of a_first idle_router far_first (operator_moved (λ n. fal
 -- ---- at the target
 
 abbrev pub away_events : List Event
-away_events = ByOperator (Order 1) ∷ ByRouter 0 (Admit 1) ∷ ByRouter 0 (Freeze 1) ∷ ByRouter 0 (Leave 1) ∷ ByRouter 1 (TurnBack 0) ∷ ByRouter 0 (Return 1) ∷ []
+away_events = ByOperator (Order 1 0) ∷ ByRouter 0 (Admit 1) ∷ ByRouter 0 (Freeze 1) ∷ ByRouter 0 (Leave 1) ∷ ByRouter 1 (TurnBack 0) ∷ ByRouter 0 (Return 1) ∷ []
 
 abbrev pub returned_events : List Event
 returned_events = joining_events ++ away_events

@@ -96,7 +96,7 @@ joined_world = world_of (a_with session_joined) idle_router far_emitted operator
 -- the session is established
 abbrev pub joining_events : List Event
 joining_events =
-    ByOperator (Order 0)
+    ByOperator (Order 0 0)
     ∷ ByFar 0 (Say 0)
     ∷ ByFar 0 (Send 0 91)
     ∷ ByFar 0 (Pass 0 false 0)

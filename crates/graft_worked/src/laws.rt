@@ -17,12 +17,14 @@ ghost use Rattle.graft_model.specs.Quiet.{Quiet};
 ghost use Rattle.graft_model.specs.Setups.{IsSetup};
 ghost use Rattle.graft_model.specs.declared.event.RouterEvent.TheVariants.{Put, Emit, Tick, Stray, Ask, Answer, Collect, Confirm};
 ghost use Rattle.graft_model.specs.declared.event.FarEvent.TheVariants.{Send, Lose, Beat};
-ghost use Rattle.graft_model.specs.declared.event.OperatorEvent.TheVariants.{Go};
-ghost use Rattle.graft_model.specs.Steps.{Run, Step, Event, ByRouter, ByFar, ByOperator, router_row};
+ghost use Rattle.graft_model.specs.declared.event.OperatorEvent.TheVariants.{Go, Order};
+ghost use Rattle.graft_model.specs.Steps.{Run, Step, Event, ByRouter, ByFar, ByOperator, router_row, operator_row};
 ghost use Rattle.tcp_seq.specs.declared.segment.Way.TheVariants.{Home};
-ghost use Rattle.graft_model.specs.Parts.{RouterPart, World, Asked, Answered, Done};
+ghost use Rattle.graft_model.specs.Parts.{RouterPart, OperatorPart, World, Asked, Answered, Done, Unmade, To, Stays};
 ghost use Rattle.graft_model.specs.RouterRows.{RouterTaken, MeshIn, RouterSent, MeshTo};
+ghost use Rattle.graft_model.specs.OperatorRows.{OperatorTaken, OperatorSent, OrderTo};
 ghost use Rattle.graft_worked.specs.Asked.{three, landed, asking, answered, confirmed};
+ghost use Rattle.graft_worked.specs.Emptied.{emptying, with_room, without_room, order_of_c2, with_order};
 ghost use Rattle.graft_worked.specs.Places.{idle_router};
 ghost use Rattle.graft_worked.specs.Others as others;
 ghost use Rattle.graft_worked.specs.Puts.{with_route_due, with_route_put, with_link_at_source};
@@ -83,6 +85,24 @@ pub fn every_router_is_asked()
     ensures again { router_row three 1 (Collect 2) answered (Some (MeshIn 2 (Answered 1 0))) [] answered }
     ensures confirmed { router_row three 1 (Confirm 1) answered None (MeshTo 0 (Done 1 0) ∷ []) confirmed }
     ensures not_before { (taken : Option RouterTaken) (sent : List RouterSent) (after : RouterPart) → ¬ router_row three 1 (Confirm 1) landed taken sent after }
+{}
+
+/// A router of three sessions is emptied in the first group. The first session goes to router c, which has one free place, and the other two go to router b.
+/// Where b has no free place, these two stay. The session at b is given nothing. A graft that has a target may be ordered under its number; none is ordered for a
+/// session that stays or is elsewhere.
+pub fn emptied_routers_are_worked()
+    ensures setup { IsSetup (emptying 4) }
+    ensures first { with_room.given 1 ≡ To 2 }
+    ensures second { with_room.given 2 ≡ To 1 }
+    ensures third { with_room.given 3 ≡ To 1 }
+    ensures elsewhere { with_room.given 4 ≡ Unmade }
+    ensures one_place { without_room.given 1 ≡ To 2 }
+    ensures full { (without_room.given 2 ≡ Stays 0) × (without_room.given 3 ≡ Stays 0) × (without_room.given 4 ≡ Unmade) }
+    ensures ordered { operator_row (emptying 4) (Order 0 2) with_room None (OrderTo 0 order_of_c2 ∷ []) with_order }
+    ensures unmade { (taken : Option OperatorTaken) (sent : List OperatorSent) (after : OperatorPart)
+        → ¬ operator_row (emptying 4) (Order 0 4) with_room taken sent after }
+    ensures stays { (taken : Option OperatorTaken) (sent : List OperatorSent) (after : OperatorPart)
+        → ¬ operator_row (emptying 1) (Order 0 2) without_room taken sent after }
 {}
 
 /// At the end of the worked run no item is taken and nothing is put, said, delivered, decided or moved. No further group begins, no round

@@ -6,6 +6,7 @@ mod laws;
 
 pub use laws::{
     a_graft_runs_to_its_end, a_link_left_behind_solves_nothing, an_update_may_be_put, base_begins,
-    base_is_a_setup, base_runs_to_its_end, nothing_is_sent_at_the_end, other_events_may_happen,
-    refused_grafts_run_to_their_end, some_events_never_happen, wrong_rules_lead_elsewhere,
+    base_is_a_setup, base_runs_to_its_end, emptied_routers_are_worked, every_router_is_asked,
+    nothing_is_sent_at_the_end, other_events_may_happen, refused_grafts_run_to_their_end,
+    some_events_never_happen, wrong_rules_lead_elsewhere,
 };

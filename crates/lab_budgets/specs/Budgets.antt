@@ -4,7 +4,7 @@ use Rattle.std.specs.List.{flat_map}
 use Rattle.std.specs.Option.{option_map_or}
 use Rattle.lab_tables.specs.declared.input.LabInput.{LabInput}
 use Rattle.lab_tables.specs.declared.input.Step.{Step}
-use Rattle.lab_tables.specs.declared.input.Step.TheVariants.{Settle, Evacuate}
+use Rattle.lab_tables.specs.declared.input.Step.TheVariants.{Settle}
 use Rattle.lab_budgets.specs.declared.budget.Budget.{Budget}
 
 -- how many rounds a settle may make that names no number: 2,048, and 8 for each planned fault
@@ -30,11 +30,6 @@ added_budget usual ended = if ended then [] else record { rounds = usual; least 
 -- the budget of each settle, an added one included
 abbrev pub budgets_in : LabInput → List Budget
 budgets_in input = flat_map (budget_of (usual_rounds input)) input.steps ++ added_budget (usual_rounds input) (ends_itself input.steps)
-
--- a step that doesn't evacuate a router
-abbrev pub moves_one : Step → Bool
-moves_one (Evacuate router) = false
-moves_one step = true
 
 -- A settle makes a round, and may make as many as it makes at least.
 pub record IsSoundBudget (budget : Budget) : Type 0 where

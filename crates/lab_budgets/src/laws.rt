@@ -1,16 +1,16 @@
 //! What holds of the budgets of an input.
 
-ghost use Rattle.std.specs.Prelude.{◌≡◌, ℕ, List, length, true};
-ghost use Rattle.std.specs.List.{AllByRecursion, list_all};
+ghost use Rattle.std.specs.Prelude.{◌≡◌, ℕ, List, length};
+ghost use Rattle.std.specs.List.{AllByRecursion};
 ghost use Rattle.graft_model.specs.Setups.{groups_in};
 ghost use Rattle.lab_tables.specs.declared.input.LabInput.{LabInput};
 ghost use Rattle.lab_input.specs.Labs.{InputOf};
 ghost use Rattle.lab_setup.specs.Setups.{setup_of};
-ghost use Rattle.lab_budgets.specs.Budgets.{budgets_in, moves_one, IsSoundBudget};
+ghost use Rattle.lab_budgets.specs.Budgets.{budgets_in, IsSoundBudget};
 
-/// Where no step evacuates a router: each group of the laboratory that an input describes has one budget, and there is no other.
+/// Each group of the laboratory that an input describes has one budget, and there is no other.
 pub fn each_group_has_a_budget()
-    ensures { (input : LabInput) → list_all moves_one input.steps ≡ true → length (budgets_in input) ≡ groups_in (setup_of input) }
+    ensures { (input : LabInput) → length (budgets_in input) ≡ groups_in (setup_of input) }
 {}
 
 /// Whatever bytes are an input: each budget has at least one round, and no fewer than it makes at least.

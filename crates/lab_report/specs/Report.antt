@@ -16,7 +16,7 @@ use Rattle.graft_steps.specs.declared.log.GraftStage.TheVariants.{Waiting, Issue
 use Rattle.graft_steps.specs.declared.refusal.Outcome.{Outcome}
 use Rattle.graft_steps.specs.declared.refusal.Outcome.TheVariants.{Accepted, Refused}
 use Rattle.graft_steps.specs.declared.refusal.Refusal.{Refusal}
-use Rattle.graft_steps.specs.declared.refusal.Refusal.TheVariants.{SameRouter, NotEstablished, HoldTooShort, RouterFull, PolicyMissing}
+use Rattle.graft_steps.specs.declared.refusal.Refusal.TheVariants.{SameRouter, NotEstablished, HoldTooShort, RouterFull, PolicyMissing, NoTarget}
 use Rattle.lab_tables.specs.declared.input.LabInput.{LabInput}
 use Rattle.lab_tables.specs.declared.input.RouterInput.{RouterInput}
 use Rattle.lab_tables.specs.declared.input.PeeringInput.{PeeringInput}
@@ -134,6 +134,7 @@ refusal_text (NotEstablished state) = named_text (codes "NotEstablished") (state
 refusal_text (HoldTooShort hold) = named_text (codes "HoldTooShort") (decimal hold)
 refusal_text (RouterFull room) = named_text (codes "RouterFull") (decimal room)
 refusal_text (PolicyMissing name) = named_text (codes "PolicyMissing") name
+refusal_text NoTarget = codes "NoTarget"
 
 abbrev pub outcome_text : Outcome → List ℕ
 outcome_text Accepted = codes "accepted"

@@ -7,6 +7,7 @@ mod lab;
 mod refused;
 mod short;
 mod texts;
+mod traces;
 mod whole;
 
 pub use accepted::check_text;

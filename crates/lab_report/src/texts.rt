@@ -12,7 +12,7 @@ use lab_tables::{LabInput, PeeringInput, RouterInput};
 use std::fmt::Write;
 
 /// The name of a router of the input.
-fn router_name(input: &LabInput, place: u8) -> &str
+pub(crate) fn router_name(input: &LabInput, place: u8) -> &str
     ensures { result.now ≡ router_name input.now place }
 {
     match input.routers.get(usize::from(place)) {
@@ -22,7 +22,7 @@ fn router_name(input: &LabInput, place: u8) -> &str
 }
 
 /// The name of a peering of the input.
-fn peering_name(input: &LabInput, place: u8) -> &str
+pub(crate) fn peering_name(input: &LabInput, place: u8) -> &str
     ensures { result.now ≡ peering_name input.now place }
 {
     match input.peerings.get(usize::from(place)) {
@@ -360,6 +360,10 @@ fn push_refusal(text: &mut String, refusal: &Refusal) -> Result<(), NoMemory>
         Refusal::HoldTooShort(hold) => push_counted(text, "HoldTooShort", *hold),
         Refusal::RouterFull(room) => push_counted(text, "RouterFull", *room),
         Refusal::PolicyMissing(name) => push_named(text, "PolicyMissing", name.as_str()),
+        Refusal::NoTarget => {
+            text.push_str("NoTarget")?;
+            Ok(())
+        }
     }
 }
 

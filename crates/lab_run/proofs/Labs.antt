@@ -1,11 +1,12 @@
 -- What a lab tells of the end of its net.
-use Rattle.std.proofs.Common.{◌≡◌, ℕ, List, sym, subst, ◌∙◌}
-use Rattle.graft_model.specs.Setups.{Setup, IsSetup}
+use Rattle.std.proofs.Common.{◌≡◌, ℕ, ◌<◌, List, sym, subst, ◌∙◌}
+use Rattle.graft_model.specs.Setups.{Setup, IsSetup, peerings_in}
 use Rattle.graft_model.specs.Parts.{World}
 use Rattle.graft_model.specs.First.{first_world}
 use Rattle.graft_model.specs.Steps.{Event, Run}
-use Rattle.graft_model.specs.Claims.{Unchanged, MadeBeforeBroken, Solves}
+use Rattle.graft_model.specs.Claims.{Unchanged, MadeBeforeBroken, Solves, Transparent}
 use Rattle.graft_model.specs.Quiet.{Quiet}
+use Rattle.graft_laws.specs.Emptied.{GiveByPlan, EmptyAlone, AreEmptied}
 use Rattle.graft_laws.specs.Keeps.{Reached}
 use Rattle.router_core.specs.Parts.{carried}
 use Rattle.world_runs.specs.Laws.{RunsAreTransparent}
@@ -17,9 +18,12 @@ use Rattle.lab_setup.specs.Setups.{setup_of}
 use Rattle.lab_report.specs.declared.lab.RunEnd.{RunEnd}
 use Rattle.lab_report.specs.declared.lab.RunEnd.TheVariants.{Settled}
 use Rattle.lab_budgets.specs.Budgets.{budgets_in}
+use Rattle.lab_budgets.proofs.Groups.{each_has_one}
+use Rattle.lab_seen.specs.Seen.{Observed}
 use Rattle.lab_run.specs.Ends.{HasMarks}
 use Rattle.lab_run.specs.Stories.{RunGoes}
 use Rattle.lab_run.specs.Runs.{LabsTellOfRuns}
+use Rattle.lab_run.proofs.Forwards.{WalksAreShort, WalksLeaveThere, forwards_as_solved}
 use Rattle.lab_run.proofs.Stands.{IsWhole}
 use Rattle.lab_run.proofs.Stories.{WayRan, marks_of_run, run_whole, run_ran, settled_quiet, same_marks, same_merge, made_there, way_there}
 
@@ -32,21 +36,35 @@ AlwaysMadeBefore = (setup : Setup) (events : List Event) → IsSetup setup → M
 abbrev pub QuietSolves : Type 0
 QuietSolves = (setup : Setup) (events : List Event) (w : World) → IsSetup setup → Run setup (first_world setup) events w → Quiet setup w → Solves setup w
 
-pub labs_tell : WayRan → RunsAreTransparent → AlwaysUnchanged → AlwaysMadeBefore → QuietSolves → RoundsAreReal → LabsTellOfRuns
-labs_tell way_ran transparent unchanged made solves rounds lab a z sound as_many tells = record {
+abbrev pub AlwaysTransparent : Type 0
+AlwaysTransparent = (setup : Setup) (events : List Event) (w : World) (p : ℕ) → IsSetup setup → Run setup (first_world setup) events w → p < peerings_in setup → Transparent setup w p
+
+abbrev pub EvacuationsGoByPlan : Type 0
+EvacuationsGoByPlan = (setup : Setup) (events : List Event) → IsSetup setup → GiveByPlan setup events
+
+abbrev pub EmptiedAreLeft : Type 0
+EmptiedAreLeft = (setup : Setup) (w : World) → IsSetup setup → EmptyAlone setup → Reached setup w → Quiet setup w → AreEmptied setup w.operator
+
+pub labs_tell : WayRan → RunsAreTransparent → AlwaysUnchanged → AlwaysMadeBefore → QuietSolves → AlwaysTransparent → WalksAreShort → WalksLeaveThere → EvacuationsGoByPlan → EmptiedAreLeft
+    → RoundsAreReal → LabsTellOfRuns
+labs_tell way_ran transparent unchanged made solves always short leave by_plan left rounds lab a z sound alone tells = record {
   events = ran.events;
   entries_of = ran.entries_of;
   world = ran.world;
   run = ran.run;
-  observed = tells.observed ran.world (record { world = (ran.seen, reached); all = whole.size; channels = whole.edges });
+  observed = observed;
   transparent = transparent (setup_of lab.input) ran.events ran.world sound ran.run;
   unchanged = unchanged (setup_of lab.input) ran.events sound;
   made = made (setup_of lab.input) ran.events sound;
+  emptied = by_plan (setup_of lab.input) ran.events sound;
   marks = subst (λ (ms : List (List ℕ)). HasMarks (setup_of lab.input) lab.journal (budgets_in lab.input) ms lab.rounds lab.end) (sym tells.marks)
-      (marks_of_run way_ran (setup_of lab.input) sound a tells.begins z lab.journal tells.merged (budgets_in lab.input) lab.rounds lab.end as_many tells.goes);
+      (marks_of_run way_ran (setup_of lab.input) sound a tells.begins z lab.journal tells.merged (budgets_in lab.input) lab.rounds lab.end (each_has_one lab.input) tells.goes);
   real = subst (λ (ms : List (List ℕ)). RealRounds (setup_of lab.input) lab.input.faults lab.journal ms) (sym (same_marks way_ran (setup_of lab.input) sound a tells.begins z lab.journal tells.merged (budgets_in lab.input) lab.rounds lab.end tells.goes) ∙ sym tells.marks) real;
   quiet = quiet;
-  solves = λ settled. solves (setup_of lab.input) ran.events ran.world sound ran.run (quiet settled);
+  solves = solved;
+  forwards = λ settled. forwards_as_solved short leave (setup_of lab.input) ran.world lab sound (solved settled)
+      (λ p there. always (setup_of lab.input) ran.events ran.world p sound ran.run there) observed;
+  left = λ settled. left (setup_of lab.input) ran.world sound alone reached (quiet settled);
 }
   where
     ran : RanAs own carried (setup_of lab.input) lab.journal z.view
@@ -58,9 +76,15 @@ labs_tell way_ran transparent unchanged made solves rounds lab a z sound as_many
     reached : Reached (setup_of lab.input) ran.world
     reached = record { events = ran.events; run = ran.run }
 
+    observed : Observed (setup_of lab.input) ran.world lab
+    observed = tells.observed ran.world (record { world = (ran.seen, reached); all = whole.size; channels = whole.edges })
+
     quiet : lab.end ≡ Settled → Quiet (setup_of lab.input) ran.world
     quiet settled = settled_quiet way_ran (setup_of lab.input) sound a tells.begins z lab.journal tells.merged (budgets_in lab.input) lab.rounds
         (subst (λ (e : RunEnd). RunGoes (setup_of lab.input) a (budgets_in lab.input) lab.rounds e z) settled tells.goes) ran.world ran.seen reached
+
+    solved : lab.end ≡ Settled → Solves (setup_of lab.input) ran.world
+    solved settled = solves (setup_of lab.input) ran.events ran.world sound ran.run (quiet settled)
 
     real : RealRounds (setup_of lab.input) lab.input.faults lab.journal tells.goes.marked.marks
     real = rounds (setup_of lab.input) lab.input.faults a tells.goes.marked

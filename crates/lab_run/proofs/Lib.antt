@@ -3,5 +3,6 @@ mod Behind
 mod Stories
 mod Counts
 mod Loops
+mod Forwards
 mod Labs
 mod Told

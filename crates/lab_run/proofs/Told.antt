@@ -1,14 +1,14 @@
 -- What is seen of a net that has finished tells of it.
-use Rattle.std.proofs.Common.{◌≡◌, ℕ, true, List, [], length, get_or, Result, Ok, Err, sym, ◌∙◌, ap, subst}
+use Rattle.std.proofs.Common.{◌≡◌, ℕ, List, [], length, get_or, Result, Ok, Err, sym, ◌∙◌, ap, subst}
 use Rattle.std.specs.Prelude.{IfOk}
-use Rattle.std.specs.List.{list_all}
 use Rattle.graft_edge.specs.declared.memory.NoMemory.{NoMemory}
 use Rattle.ring_net.specs.declared.entry.JournalEntry.{JournalEntry}
 use Rattle.ring_net.specs.Left.{HasJournals, left_of}
 use Rattle.ring_net.specs.declared.parts.Left.{Left}
 use Rattle.journal_merge.specs.Merges.{Interleaves}
-use Rattle.graft_model.specs.Setups.{Setup, IsSetup, groups_in}
+use Rattle.graft_model.specs.Setups.{Setup, IsSetup}
 use Rattle.graft_model.specs.Parts.{World}
+use Rattle.graft_laws.specs.Emptied.{EmptyAlone}
 use Rattle.world_nodes.specs.declared.node.Node.{Node}
 use Rattle.world_nodes.specs.Edges.{AreEdgesOf}
 use Rattle.world_nodes.specs.Nodes.{Mail}
@@ -19,10 +19,8 @@ use Rattle.lab_report.specs.declared.lab.Lab.{Lab}
 use Rattle.lab_report.specs.declared.lab.RunEnd.{RunEnd}
 use Rattle.lab_budgets.specs.declared.budget.Budget.{Budget}
 use Rattle.lab_budgets.specs.Budgets.{budgets_in}
-use Rattle.lab_budgets.specs.Budgets.{moves_one}
-use Rattle.lab_budgets.proofs.Groups.{each_has_one}
 use Rattle.node_configs.specs.Accepted.{IsAccepted}
-use Rattle.node_configs.proofs.Accepted.{is_setup}
+use Rattle.node_configs.proofs.Accepted.{is_setup, is_alone}
 use Rattle.lab_seen.specs.Finished.{IsFinished}
 use Rattle.lab_seen.specs.Seen.{Observed}
 use Rattle.lab_run.specs.Stories.{RunGoes}
@@ -50,23 +48,23 @@ finished setup z w actors left edges net actors_are edges_are left_is = record {
 -- what is said of a lab of an input
 record IsTold (input : LabInput) (lab : Lab) (a z : Stand) : Type 0 where
   setup : IsSetup (setup_of input)
-  count : length (budgets_in input) ≡ groups_in (setup_of input)
+  alone : EmptyAlone (setup_of input)
   begins : BeginsFresh (setup_of input) input.faults a
   goes : RunGoes (setup_of input) a (budgets_in input) lab.rounds lab.end z
   observed : (w : World) → IsNetOf (setup_of input) z w → Observed (setup_of input) w lab
 
-module _ (tell : LabsTellOfRuns) (input : LabInput) (accepted : IsAccepted input) (moves : list_all moves_one input.steps ≡ true) (a z : Stand) (budgets : List Budget) (rounds : List ℕ) (end : RunEnd)
+module _ (tell : LabsTellOfRuns) (input : LabInput) (accepted : IsAccepted input) (a z : Stand) (budgets : List Budget) (rounds : List ℕ) (end : RunEnd)
     (begins : BeginsFresh (setup_of input) input.faults a) (budgets_are : budgets ≡ budgets_in input) (goes : RunGoes (setup_of input) a budgets rounds end z)
     (actors : List Node) (journals : List (List JournalEntry)) (marks : List (List ℕ)) (left : List (Left Mail)) (edges : List (ℕ × ℕ))
     (actors_are : actors ≡ z.view.actors) (journals_are : HasJournals z.view journals) (marks_are : marks ≡ z.marks) (left_is : left ≡ left_of z.view edges) (edges_are : AreEdgesOf (setup_of input) edges) where
   ran_as_told : (lab : Lab) → lab.input ≡ input → lab.end ≡ end → lab.marks ≡ marks → lab.rounds ≡ rounds → Interleaves (λ k. get_or journals k []) lab.journal
       → ((w : World) → IsFinished (setup_of input) w actors left → Observed (setup_of input) w lab) → RanLab lab
-  ran_as_told lab input_is end_is marks_is rounds_are merge seen = tell lab a z told.setup told.count
+  ran_as_told lab input_is end_is marks_is rounds_are merge seen = tell lab a z told.setup told.alone
       (record { begins = told.begins.begins; fresh = told.begins.fresh; goes = told.goes; marks = marks_is ∙ marks_are; merged = merge_of z journals lab.journal journals_are merge; observed = told.observed }) where
         here : IsTold input lab a z
         here = record {
           setup = is_setup input accepted;
-          count = each_has_one input moves;
+          alone = is_alone input accepted;
           begins = begins;
           goes = subst (λ (e : RunEnd). RunGoes (setup_of input) a (budgets_in input) lab.rounds e z) (sym end_is)
               (subst (λ (ns : List ℕ). RunGoes (setup_of input) a (budgets_in input) ns end z) (sym rounds_are) (subst (λ (bs : List Budget). RunGoes (setup_of input) a bs rounds end z) budgets_are goes));

@@ -1,3 +1,4 @@
 pub mod Ends
 pub mod Stories
+pub mod Forwards
 pub mod Runs

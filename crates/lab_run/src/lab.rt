@@ -1,11 +1,9 @@
 //! The run of an input.
 
-ghost use Rattle.std.specs.Prelude.{◌≡◌, ◌≤◌, true, IfOk};
-ghost use Rattle.std.specs.List.{list_all};
+ghost use Rattle.std.specs.Prelude.{◌≡◌, ◌≤◌, IfOk};
 ghost use Rattle.world_nodes.specs.Courses.{stand, counts, AllWork};
 ghost use Rattle.world_nodes.specs.Edges.{HasCounts};
 ghost use Rattle.lab_setup.specs.Setups.{setup_of};
-ghost use Rattle.lab_budgets.specs.Budgets.{moves_one};
 ghost use Rattle.node_configs.specs.Accepted.{IsAccepted};
 ghost use Rattle.lab_run.specs.Runs.{BeginsFresh, RanLab};
 
@@ -35,7 +33,7 @@ fn begin(alloc: Global, input: &LabInput) -> Result<Course, NoMemory>
 }
 
 /// Runs the laboratory of an input by 1 to 8 workers, until nothing is left to do after the last group of its script, or a limit is met. Each actor passes the
-/// gate before each of its turns. The input is one that was accepted, and no step of it evacuates a router, since that isn't built yet.
+/// gate before each of its turns. The input is one that was accepted.
 pub fn run_lab<R: Threads + Sync, G: Gate>(
     rt: &R,
     alloc: Global,
@@ -44,7 +42,6 @@ pub fn run_lab<R: Threads + Sync, G: Gate>(
     gate: &G,
 ) -> Result<Lab, NoMemory>
     requires accepted { IsAccepted input }
-    requires moves { list_all moves_one input.steps ≡ true }
     requires workers { (1 ≤ workers) × (workers ≤ 8) }
     ensures input { IfOk result (λ lab. lab.input ≡ input) }
     ensures ran { IfOk result RanLab }

@@ -15,7 +15,7 @@ use crate::found::{by_peering, sessions_of};
 use crate::tables::table_of;
 use crate::views::far_view;
 use far_side::Far;
-use graft_edge::{Items, NoMemory, TryCopy};
+use graft_edge::{Items, NoMemory};
 use graft_steps::GraftLog;
 use journal_merge::merge;
 use lab_report::{FarView, Lab, RouterTable, RunEnd};
@@ -83,7 +83,7 @@ fn log_at(alloc: Global, actors: &[Node], number: usize) -> Result<GraftLog, NoM
     ensures { IfOk result (λ log. log ≡ log_in (operator_in (slice_get actors.now number))) }
 {
     match actors.get(number) {
-        Some(Node::Operator(operator)) => operator.log().copy(),
+        Some(Node::Operator(operator)) => operator.log(),
         _ => Ok(Items::new(alloc)),
     }
 }

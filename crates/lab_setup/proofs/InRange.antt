@@ -10,7 +10,7 @@ use Rattle.bgp_types.specs.OctetLists.{AreOctets}
 use Rattle.bgp_types.specs.Values.{is_no_host}
 use Rattle.route_policy.specs.declared.rule.Rule.{Rule}
 use Rattle.session_value.specs.declared.config.SessionConfig.{SessionConfig}
-use Rattle.graft_model.specs.Setups.{RouterSetup, PeeringSetup, NamedRules, ScriptStep, SayStep, MoveStep, SettleStep, of_router, rules_named}
+use Rattle.graft_model.specs.Setups.{RouterSetup, PeeringSetup, NamedRules, ScriptStep, SayStep, MoveStep, EvacuateStep, SettleStep, of_router, rules_named}
 use Rattle.graft_model.specs.Setups.{config_of as config_in_model}
 use Rattle.graft_laws.specs.Ranges.{HasMedInRange, IsInRange}
 use Rattle.lab_keys.specs.Values.{has, number_or, text_at, tables_at}
@@ -76,6 +76,7 @@ peerings_ranged doc routers (t ∷ ts) =
 abbrev SaysOctets : ScriptStep → Type 0
 SaysOctets (SayStep p bytes) = AreOctets bytes
 SaysOctets (MoveStep p target) = Unit {0}
+SaysOctets (EvacuateStep router) = Unit {0}
 SaysOctets SettleStep = Unit {0}
 
 none_unknown : (o : Option PeeringInput) (t : Members) → (said_attrs o t).unknown ≡ []

@@ -1,4 +1,6 @@
 pub mod InRange
+pub mod Groups
+pub mod Alone
 pub mod Kept
 pub mod Lists
 pub mod Names

@@ -7,7 +7,7 @@ use Rattle.std.proofs.lemmas.List.{length-append}
 use Rattle.std.proofs.lemmas.List.Sums.{sum_by-cons}
 use Rattle.bgp_types.specs.declared.message.Message.TheVariants.{UpdateMsg}
 use Rattle.bgp_types.specs.Spelling.{spell}
-use Rattle.graft_model.specs.Setups.{ScriptStep, SayStep, MoveStep, SettleStep}
+use Rattle.graft_model.specs.Setups.{ScriptStep, SayStep, MoveStep, EvacuateStep, SettleStep}
 use Rattle.graft_model.specs.Setups.{said_by as said_in_model}
 use Rattle.lab_tables.specs.declared.input.PeeringInput.{PeeringInput}
 use Rattle.lab_tables.specs.declared.input.Step.{Step}
@@ -55,6 +55,7 @@ module _ (peerings : List PeeringInput) (p : ℕ) (peering : PeeringInput) (ther
   nothing_more None = refl
   nothing_more (Some (SayStep q bytes)) = refl
   nothing_more (Some (MoveStep q target)) = refl
+  nothing_more (Some (EvacuateStep router)) = refl
   nothing_more (Some SettleStep) = refl
 
   -- what a remote says over the script has as many octets as over the steps of the input
@@ -77,6 +78,7 @@ ends_with_settle steps = by_last (last_or None steps) refl where
   by_last None e = last_append None steps SettleStep
   by_last (Some (SayStep q bytes)) e = last_append None steps SettleStep
   by_last (Some (MoveStep q target)) e = last_append None steps SettleStep
+  by_last (Some (EvacuateStep router)) e = last_append None steps SettleStep
   by_last (Some SettleStep) e = no_more None steps ∙ e
 
 -- what is of each step, and of the end of a group
@@ -86,4 +88,5 @@ all_ended P settle steps all = all_append P steps (ended_by (last_or None steps)
   by_last None = (settle, tt)
   by_last (Some (SayStep q bytes)) = (settle, tt)
   by_last (Some (MoveStep q target)) = (settle, tt)
+  by_last (Some (EvacuateStep router)) = (settle, tt)
   by_last (Some SettleStep) = tt

@@ -4,7 +4,7 @@ use Rattle.std.specs.List.{enumerate_from, range_with_len, last_or}
 use Rattle.bgp_types.specs.declared.message.Message.TheVariants.{UpdateMsg}
 use Rattle.bgp_types.specs.Spelling.{spell}
 use Rattle.session_value.specs.declared.config.SessionConfig.{SessionConfig}
-use Rattle.graft_model.specs.Setups.{NamedRules, RouterSetup, PeeringSetup, ScriptStep, SayStep, MoveStep, SettleStep, Setup}
+use Rattle.graft_model.specs.Setups.{NamedRules, RouterSetup, PeeringSetup, ScriptStep, SayStep, MoveStep, EvacuateStep, SettleStep, Setup}
 use Rattle.lab_tables.specs.declared.input.LabInput.{LabInput}
 use Rattle.lab_tables.specs.declared.input.CostInput.{CostInput}
 use Rattle.lab_tables.specs.declared.input.PeeringInput.{PeeringInput}
@@ -77,15 +77,14 @@ peering_setup input p = record {
 abbrev pub is_wide_at : List PeeringInput → ℕ → Bool
 is_wide_at peerings p = unwrap_or (option_map is_wide (slice_get peerings p)) false
 
--- What a step is in the script: a remote says an UPDATE or bytes, a session moves, or a group ends. Evacuate steps have no place in a script
--- yet, and no input that has one is run.
+-- What a step is in the script: a remote says an UPDATE or bytes, a session moves, the sessions of a router move, or a group ends.
 abbrev pub script_step : List PeeringInput → Step → ScriptStep
 script_step peerings (Announce peering prefixes a) = SayStep peering.0 (spell (UpdateMsg (update_of (Announce peering prefixes a))) (is_wide_at peerings peering.0))
 script_step peerings (Withdraw peering prefixes) = SayStep peering.0 (spell (UpdateMsg (update_of (Withdraw peering prefixes))) (is_wide_at peerings peering.0))
 script_step peerings (Raw peering bytes) = SayStep peering.0 bytes
 script_step peerings (Graft peering target) = MoveStep peering.0 target.0
 script_step peerings (Settle rounds least) = SettleStep
-script_step peerings (Evacuate router) = SettleStep
+script_step peerings (Evacuate router) = EvacuateStep router.0
 
 -- where the last step isn't a settle, one is added
 abbrev pub ended_by : Option ScriptStep → List ScriptStep

@@ -3,4 +3,4 @@
 
 mod laws;
 
-pub use laws::{accepted_is_a_setup, accepted_is_in_range};
+pub use laws::{accepted_evacuations_are_alone, accepted_is_a_setup, accepted_is_in_range};

@@ -120,6 +120,7 @@ fn reports<R: Threads + Sync + Abort + AllocGlobal>(rt: &R, workers: usize) -> R
     requires { (1 ≤ workers) × (workers ≤ 8) }
 {
     let lab = run(rt, TWO_MOVES, workers, &FreeGate)?;
+    assert!(rt; lab.input.routers.len() == 2);
     let text = report(rt.alloc(), &lab)?;
     assert_eq!(rt; text.as_str(), REPORT, "by {workers} workers");
     Ok(())

@@ -13,10 +13,10 @@ use Rattle.lab_make.specs.Made.{made}
 use Rattle.lab_report.specs.declared.lab.Lab.{Lab}
 use Rattle.lab_report.specs.declared.lab.RunEnd.{RunEnd}
 use Rattle.lab_report.specs.declared.lab.RunEnd.TheVariants.{Settled, Unsettled, StreamFull, JournalFull}
-use Rattle.lab_report.specs.Report.{report_text}
 use Rattle.lab_report.specs.Summary.{summary_text}
+use Rattle.lab_report.specs.Traces.{IsReport}
 use Rattle.lab_run.specs.Runs.{RanLab}
-use Rattle.lab_top.specs.Ends.{AreRefused, AskToRun, AskForJournal, RunsSource, AskToDrill, AskForLab, AskToMake, Reads, TookInput, GaveBadInput, IsStatus, Writes, WritesJournal, Checks, end_status, verdict_text, verdict_status}
+use Rattle.lab_top.specs.Ends.{AreRefused, AskToRun, AskForJournal, RunsSource, AskToDrill, AskForLab, AskToMake, Reads, TookInput, GaveBadInput, IsStatus, Writes, WritesReport, WritesJournal, Checks, end_status, verdict_text, verdict_status}
 use Rattle.lab_top.specs.declared.finish.InputStop.{InputStop}
 use Rattle.lab_top.specs.declared.finish.InputStop.TheVariants as stops
 use Rattle.lab_top.specs.Cases.{Outside, Stops, Shows, shows_report, shows_journal, shows_summary, Cause, usage, makes, checks, refuses, drops, runs, Ended, wrote, unread, no_memory}
@@ -335,17 +335,17 @@ drilled words o n status (Some end) ended = let c = came words o n status (Some 
 
 -- ---- what was written
 
-report_by : (words : List (List ℕ)) (left rest : Option (List ℕ)) (end : Lab) (text : List ℕ) → Shows words left rest end text → AskToRun words → text ≡ report_text end
+report_by : (words : List (List ℕ)) (left rest : Option (List ℕ)) (end : Lab) (text : List ℕ) → Shows words left rest end text → AskToRun words → IsReport end text
 report_by words left rest end text (shows_report run read t) ask = t
 report_by words left rest end text (shows_journal run bytes took is t) ask = absurd (against words (Journal run.0) is_report refl run.1 (passed words (Run ask.0) is_report refl ask.1))
 report_by words left rest end text (shows_summary seed drill is t) ask = absurd (against words (Drill seed drill.0) is_report refl drill.1 (passed words (Run ask.0) is_report refl ask.1))
 
 pub reported : (words : List (List ℕ)) (o n : Outside) (status : ℕ) (lab : Option Lab) → Ended words o n status lab
-    → IfSome lab (λ end. AskToRun words → Wrote (report_text end) (end_status end.end) o n status)
+    → IfSome lab (λ end. AskToRun words → WritesReport end o.write_faults n.write_faults o.written n.written status)
 reported words o n status None ended = tt
 reported words o n status (Some end) ended = λ ask.
     let c = came words o n status (Some end) end refl ended in
-    subst (λ t. Wrote t (end_status end.end) o n status) (report_by words o.left n.left end c.text c.shows ask) c.wrote
+    record { text = c.text; report = report_by words o.left n.left end c.text c.shows ask; wrote = c.wrote }
 
 drill_against : (words : List (List ℕ)) → ((seed : ℕ) × AskToDrill words seed) → (test : ℕ → Bool) → test 100 ≡ false → test (letter_in words) ≡ true → ⊥
 drill_against words drill test fails is = against words (Drill drill.0 drill.1.0) test fails drill.1.1 is

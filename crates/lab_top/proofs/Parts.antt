@@ -13,8 +13,8 @@ use Rattle.lab_report.specs.BadText.{bad_line}
 use Rattle.lab_report.specs.CheckText.{check_line}
 use Rattle.lab_report.specs.declared.lab.Lab.{Lab}
 use Rattle.lab_report.specs.Journals.{journal_text}
-use Rattle.lab_report.specs.Report.{report_text}
 use Rattle.lab_report.specs.Summary.{summary_text}
+use Rattle.lab_report.specs.Traces.{IsReport}
 use Rattle.lab_top.specs.Built.{is_built}
 use Rattle.lab_top.specs.Ends.{AskToRun, AskForJournal, RunsSource, AskToDrill, Reads, SaysWhy, Writes, end_status, not_built_text}
 use Rattle.lab_top.specs.declared.finish.Finish.{Finish}
@@ -78,10 +78,10 @@ pub unbuilt_ends : (words : List (List ℕ)) (o n : Outside) (input : LabInput) 
 unbuilt_ends words o n input finish run read built end = wrote not_built_text 2 (refuses (Ok input) run read (built, refl) refl end.0) end.1
 
 pub report_ends : (words : List (List ℕ)) (o n : Outside) (input : LabInput) (lab : Lab) (text : List ℕ) (finish : Finish) → AskToRun words → Reads o.left n.left (Ok input) → BuiltOr input (Ok (Some lab))
-    → text ≡ report_text lab → EndsRun text lab o.write_faults n.write_faults o.written n.written finish → Ended words o n finish.status finish.lab
-report_ends words o n input lab text finish run read built same end =
+    → IsReport lab text → EndsRun text lab o.write_faults n.write_faults o.written n.written finish → Ended words o n finish.status finish.lab
+report_ends words o n input lab text finish run read built is end =
     let its : Reads o.left n.left (Ok lab.input) = rw built.0 read in
-    wrote text (end_status lab.end) (runs lab (shows_report run its same) built.1 refl end.0) end.1
+    wrote text (end_status lab.end) (runs lab (shows_report run its is) built.1 refl end.0) end.1
 
 pub journal_ends : (words : List (List ℕ)) (o n : Outside) (bytes : List ℕ) (input : LabInput) (lab : Lab) (text : List ℕ) (finish : Finish) → AskForJournal words → TookAll o.left n.left bytes → InputOf bytes input
     → BuiltOr input (Ok (Some lab)) → text ≡ journal_text bytes lab.journal → EndsRun text lab o.write_faults n.write_faults o.written n.written finish → Ended words o n finish.status finish.lab

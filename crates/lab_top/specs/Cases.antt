@@ -11,8 +11,8 @@ use Rattle.lab_make.specs.Made.{made}
 use Rattle.lab_report.specs.BadText.{bad_line}
 use Rattle.lab_report.specs.declared.lab.Lab.{Lab}
 use Rattle.lab_report.specs.Journals.{journal_text}
-use Rattle.lab_report.specs.Report.{report_text}
 use Rattle.lab_report.specs.Summary.{summary_text}
+use Rattle.lab_report.specs.Traces.{IsReport}
 use Rattle.lab_run.specs.Runs.{RanLab}
 use Rattle.lab_top.specs.declared.finish.Finish.{Finish}
 use Rattle.lab_top.specs.declared.finish.InputStop.{InputStop}
@@ -97,7 +97,7 @@ StopsFor stops.NoMemory faults_before faults_after before after end = FindsNone 
 
 -- What was run, and which text of the run it is: the report of what was read, its journal behind the bytes that were read, or the summary of a seed's laboratory.
 pub data Shows (words : List (List ℕ)) (left_before left_after : Option (List ℕ)) (end : Lab) (text : List ℕ) : Type 0 where
-  shows_report : AskToRun words → Reads left_before left_after (Ok end.input) → text ≡ report_text end → Shows words left_before left_after end text
+  shows_report : AskToRun words → Reads left_before left_after (Ok end.input) → IsReport end text → Shows words left_before left_after end text
   shows_journal : AskForJournal words → (bytes : List ℕ) → TookAll left_before left_after bytes → InputOf bytes end.input → text ≡ journal_text bytes end.journal → Shows words left_before left_after end text
   shows_summary : (seed : ℕ) → AskToDrill words seed → InputOf (made seed) end.input → text ≡ summary_text end → Shows words left_before left_after end text
 

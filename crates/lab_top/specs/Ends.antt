@@ -15,6 +15,7 @@ use Rattle.lab_report.specs.declared.lab.RunEnd.TheVariants.{Settled, Unsettled,
 use Rattle.lab_report.specs.BadText.{bad_line}
 use Rattle.lab_report.specs.CheckText.{check_line}
 use Rattle.lab_report.specs.Journals.{journal_text}
+use Rattle.lab_report.specs.Traces.{IsReport}
 
 -- ---- words
 
@@ -116,6 +117,12 @@ pub record Checks (left_before left_after : Option (List ℕ)) (faults_before fa
   pub answer : Result LabInput BadInput
   pub read : Reads left_before left_after answer
   pub wrote : Writes (verdict_text answer) (verdict_status answer) faults_before faults_after before after status
+
+-- The report of a run was written under the status of its end: a text that says how the run ended and where packets go then.
+pub record WritesReport (lab : Lab) (faults_before faults_after : ℕ) (before after : Option (List ℕ)) (status : ℕ) : Type 0 where
+  pub text : List ℕ
+  pub report : IsReport lab text
+  pub wrote : Writes text (end_status lab.end) faults_before faults_after before after status
 
 -- All bytes of a source were taken, are the input that was run, and were written with the journal of the run behind them.
 pub record WritesJournal (left_before left_after : Option (List ℕ)) (lab : Lab) (faults_before faults_after : ℕ) (before after : Option (List ℕ)) (status : ℕ) : Type 0 where

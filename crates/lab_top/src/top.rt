@@ -6,10 +6,9 @@ ghost use Rattle.lab_words.specs.declared.job.Job.TheVariants.{Check, Make};
 ghost use Rattle.lab_words.specs.Asked.{usage_text, Asks};
 ghost use Rattle.lab_make.specs.Made.{made};
 ghost use Rattle.lab_input.specs.Labs.{InputOf};
-ghost use Rattle.lab_report.specs.Report.{report_text};
 ghost use Rattle.lab_report.specs.Summary.{summary_text};
 ghost use Rattle.lab_run.specs.Runs.{RanLab};
-ghost use Rattle.lab_top.specs.Ends.{AreRefused, AskToRun, AskForJournal, RunsSource, AskToDrill, AskForLab, AskToMake, AskUnread, TookInput, GaveBadInput, IsStatus, Writes, WritesJournal, Checks, end_status};
+ghost use Rattle.lab_top.specs.Ends.{AreRefused, AskToRun, AskForJournal, RunsSource, AskToDrill, AskForLab, AskToMake, AskUnread, TookInput, GaveBadInput, IsStatus, Writes, WritesReport, WritesJournal, Checks, end_status};
 ghost use Rattle.lab_top.specs.Cases.{outside, EndsOr, Ended};
 
 use crate::finish::{Finish, NO_MEMORY, USAGE, end_with, without_run};
@@ -109,12 +108,13 @@ where
     // router or one moving capsule, with one legal story of which the bytes each way are the first part, and a refused
     // graft leaves it unchanged. A source clears a moved session's routes only when it has heard what its target chose
     // in their place. Between any two marks each actor did what a round asks of it (`RealRounds`). Where the run is
-    // settled, every table solves the decision equations for the placement after the accepted grafts.
+    // settled, every table solves the decision equations for the placement after the accepted grafts; and a packet, to
+    // whatever address and from whichever router, meets at most two routers and leaves only where that peering's session is.
     ensures headline { IfSome result.lab RanLab }
 
     // Its text is written whole, under the status of its end, or a write failed and a front of it stands: a report,
-    // a summary, or the input with the journal behind it.
-    ensures reported { IfSome result.lab (λ lab. AskToRun words.now → Writes (report_text lab) (end_status lab.end) (K.faults sink.old) (K.faults sink.new) (K.written sink.old) (K.written sink.new) result.status) }
+    // which ends with where packets go to the addresses of the input, a summary, or the input with the journal behind it.
+    ensures reported { IfSome result.lab (λ lab. AskToRun words.now → WritesReport lab (K.faults sink.old) (K.faults sink.new) (K.written sink.old) (K.written sink.new) result.status) }
     ensures summed { IfSome result.lab (λ lab. ((seed : ℕ) × AskToDrill words.now seed) → Writes (summary_text lab) (end_status lab.end) (K.faults sink.old) (K.faults sink.new) (K.written sink.old) (K.written sink.new) result.status) }
     ensures journaled { IfSome result.lab (λ lab. AskForJournal words.now → WritesJournal (S.left source.old) (S.left source.new) lab (K.faults sink.old) (K.faults sink.new) (K.written sink.old) (K.written sink.new) result.status) }
 {

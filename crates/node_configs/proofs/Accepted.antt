@@ -14,6 +14,7 @@ use Rattle.bgp_types.specs.Spelling.{spell}
 use Rattle.bgp_types.specs.Values.{is_no_host}
 use Rattle.bgp_types.specs.Writable.{IsWritable}
 use Rattle.graft_model.specs.Setups.{IsSetup}
+use Rattle.graft_laws.specs.Emptied.{EmptyAlone}
 use Rattle.lab_keys.specs.declared.flaw.Flaw.{Flaw}
 use Rattle.lab_keys.specs.declared.flaw.Flaw.TheVariants.{Shape, Limit}
 use Rattle.lab_keys.specs.declared.table_at.TableAt.{TableAt}
@@ -41,6 +42,7 @@ use Rattle.lab_setup.specs.Setups.{setup_of}
 use Rattle.lab_setup.proofs.Lists.{none_of, all_mapped, all_at, below_get}
 use Rattle.lab_setup.proofs.Names.{known, number_below, names_kept}
 use Rattle.lab_setup.proofs.Ready.{accepted_ready}
+use Rattle.lab_setup.proofs.Alone.{accepted_alone}
 use Rattle.node_configs.specs.Accepted.{IsAccepted}
 
 -- ---- how many there are
@@ -135,6 +137,9 @@ few input from = let a = accepted from.bytes input from.is in subst HasFew a.is 
 
 pub is_setup : (input : LabInput) → IsAccepted input → IsSetup (setup_of input)
 is_setup input from = accepted_ready from.bytes input from.is
+
+pub is_alone : (input : LabInput) → IsAccepted input → EmptyAlone (setup_of input)
+is_alone input from = accepted_alone from.bytes input from.is
 
 -- ---- what steps say
 

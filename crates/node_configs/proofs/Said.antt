@@ -6,7 +6,7 @@ use Rattle.std.proofs.lemmas.Bool.{eqb-true}
 use Rattle.std.proofs.lemmas.Bool.Decides.{nat_tests}
 use Rattle.bgp_types.specs.declared.message.Message.TheVariants.{UpdateMsg}
 use Rattle.bgp_types.specs.Spelling.{spell}
-use Rattle.graft_model.specs.Setups.{ScriptStep, SayStep, MoveStep, SettleStep}
+use Rattle.graft_model.specs.Setups.{ScriptStep, SayStep, MoveStep, EvacuateStep, SettleStep}
 use Rattle.lab_tables.specs.declared.input.PeeringInput.{PeeringInput}
 use Rattle.lab_tables.specs.declared.input.Step.{Step}
 use Rattle.lab_tables.specs.declared.input.Step.TheVariants.{Announce, Withdraw, Raw, Graft, Settle, Evacuate}
@@ -45,6 +45,8 @@ module _ (peerings : List PeeringInput) (p : ℕ) where
   end_says (Some (SayStep q bytes)) (suc n) = refl
   end_says (Some (MoveStep q target)) zero = refl
   end_says (Some (MoveStep q target)) (suc n) = refl
+  end_says (Some (EvacuateStep router)) zero = refl
+  end_says (Some (EvacuateStep router)) (suc n) = refl
   end_says (Some SettleStep) n = refl
 
   steps_said : (more : List ScriptStep) → ((n : ℕ) → say_by p (slice_get more n) ≡ None) → (steps : List Step) (n : ℕ)

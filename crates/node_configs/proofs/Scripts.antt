@@ -5,7 +5,7 @@ use Rattle.std.specs.List.{last_or}
 use Rattle.std.proofs.lemmas.List.{length-append, length-map}
 use Rattle.std.proofs.lemmas.Option.{slice_get-get_or}
 use Rattle.graft_edge.specs.declared.ids.RouterId.{RouterId}
-use Rattle.graft_model.specs.Setups.{Setup, RouterSetup, PeeringSetup, ScriptStep as StepOf, SayStep, MoveStep, SettleStep, IsSetup, IsStep, IsPeeringSetup, routers_in, peerings_in}
+use Rattle.graft_model.specs.Setups.{Setup, RouterSetup, PeeringSetup, ScriptStep as StepOf, SayStep, MoveStep, EvacuateStep, SettleStep, IsSetup, IsStep, IsPeeringSetup, routers_in, peerings_in}
 use Rattle.lab_tables.specs.declared.input.LabInput.{LabInput}
 use Rattle.lab_tables.specs.declared.input.PeeringInput.{PeeringInput}
 use Rattle.lab_tables.specs.declared.input.RouterInput.{RouterInput}
@@ -19,7 +19,7 @@ use Rattle.node_configs.specs.Accepted.{IsAccepted}
 use Rattle.node_configs.specs.Orders.{order_of, is_end, end_after, orders_of}
 use Rattle.node_configs.proofs.Accepted.{HasFew, few, is_setup}
 use Rattle.node_configs.proofs.Lists.{map_numbered, map_append, map_mapped, last_mapped, last_is}
-use Rattle.lab_setup.proofs.Ready.{as_many_routers}
+use Rattle.lab_setup.proofs.Ready.{as_many_routers, as_many_peerings}
 use Rattle.node_configs.proofs.Setups.{steps_are}
 
 -- ---- the script is that of the laboratory
@@ -36,6 +36,7 @@ end_is : (o : Option StepOf) → map step_for (ended_by o) ≡ cond (is_end (opt
 end_is None = refl
 end_is (Some (SayStep q bytes)) = refl
 end_is (Some (MoveStep q target)) = refl
+end_is (Some (EvacuateStep router)) = refl
 end_is (Some SettleStep) = refl
 
 -- what is added by the last step of the script is what is added by the last order
@@ -77,6 +78,7 @@ module _ (input : LabInput) where
 step_works : (setup : Setup) (script : Script) → length script.starts ≡ peerings_in setup → length script.rooms ≡ routers_in setup → (step : StepOf) → IsStep setup step → IsWorkableStep script (step_for step)
 step_works setup script starts rooms (SayStep p bytes) there = omega (arith, there)
 step_works setup script starts rooms (MoveStep p target) there = (omega (arith, there.0), omega (arith, there.1))
+step_works setup script starts rooms (EvacuateStep router) there = omega (arith, there)
 step_works setup script starts rooms SettleStep there = tt
 
 -- what is at a place of a list that was made of another one
@@ -105,6 +107,7 @@ module _ (input : LabInput) (accepted : IsAccepted input) (script : Script) (is 
   end_short None = omega arith
   end_short (Some (SayStep q bytes)) = omega arith
   end_short (Some (MoveStep q target)) = omega arith
+  end_short (Some (EvacuateStep router)) = omega arith
   end_short (Some SettleStep) = omega arith
 
   short : length setup.steps ≤ 4097
@@ -136,6 +139,7 @@ module _ (input : LabInput) (accepted : IsAccepted input) (script : Script) (is 
         (all_made (λ (peering : PeeringSetup). record { 0 = peering.start }) (λ (peering : PeeringSetup). peering.start < length script.rooms) (λ (start : RouterId). start.0 < length script.rooms) (λ x h. h) setup.peerings starts_below);
     steps = subst (All (IsWorkableStep script)) (sym is.steps) (all_made step_for (IsStep setup) (IsWorkableStep script) (step_works setup script starts_many rooms_many) setup.steps sound.steps);
     few = (let counts : HasFew input = few input accepted in let most = counts.routers in let rooms = rooms_many in let many = as_many_routers input in omega arith);
+    peerings = (let counts : HasFew input = few input accepted in let most = counts.peerings in let starts = starts_many in let many = as_many_peerings input in omega arith);
     some = (let all = steps_many in let some = some_last setup.steps sound.ended in omega arith);
     short = (let all = steps_many in let few = short in omega arith);
     ended =

@@ -3,21 +3,22 @@ use Rattle.std.specs.Prelude.{◌-◌, Bool, true, false, List, [], ◌∷◌, �
 use Rattle.lab_tables.specs.declared.input.Step.{Step}
 use Rattle.lab_tables.specs.declared.input.Step.TheVariants as steps
 use Rattle.operator_core.specs.declared.script.ScriptStep.{ScriptStep}
-use Rattle.operator_core.specs.declared.script.ScriptStep.TheVariants.{Say, Graft, Settle}
+use Rattle.operator_core.specs.declared.script.ScriptStep.TheVariants.{Say, Graft, Evacuate, Settle}
 
--- An evacuate step has no place in a script yet: the end of a group stands there.
+-- a step as the operator has it
 abbrev pub order_of : Step → ScriptStep
 order_of (steps.Announce peering prefixes a) = Say peering
 order_of (steps.Withdraw peering prefixes) = Say peering
 order_of (steps.Raw peering bytes) = Say peering
 order_of (steps.Graft peering target) = Graft peering target
 order_of (steps.Settle rounds least) = Settle
-order_of (steps.Evacuate router) = Settle
+order_of (steps.Evacuate router) = Evacuate router
 
 abbrev pub is_end : Option ScriptStep → Bool
 is_end None = false
 is_end (Some (Say peering)) = false
 is_end (Some (Graft peering target)) = false
+is_end (Some (Evacuate router)) = false
 is_end (Some Settle) = true
 
 -- where the last step doesn't end a group, one that does is added

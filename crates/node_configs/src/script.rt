@@ -45,7 +45,7 @@ fn order_of(step: &Step) -> ScriptStep
             target: *target,
         },
         Step::Settle { .. } => ScriptStep::Settle,
-        Step::Evacuate { .. } => ScriptStep::Settle,
+        Step::Evacuate { router } => ScriptStep::Evacuate { router: *router },
     }
 }
 
@@ -57,6 +57,7 @@ fn is_end(step: Option<ScriptStep>) -> bool
         Some(ScriptStep::Settle) => true,
         Some(ScriptStep::Say { .. }) => false,
         Some(ScriptStep::Graft { .. }) => false,
+        Some(ScriptStep::Evacuate { .. }) => false,
         None => false,
     }
 }

@@ -7,12 +7,12 @@ use Rattle.graft_steps.specs.declared.item.Item.{Item}
 use Rattle.graft_steps.specs.declared.item.Item.TheVariants.{GraftOrder, SayOrder, Report}
 use Rattle.graft_steps.specs.declared.refusal.Outcome.{Outcome}
 use Rattle.session_value.specs.Sessions.{SessionValue}
-use Rattle.graft_model.specs.Setups.{Setup, graft_number, routers_in, peerings_in}
+use Rattle.graft_model.specs.Setups.{Setup, routers_in, peerings_in}
 use Rattle.graft_model.specs.Parts.{OperatorPart}
 use Rattle.graft_model.specs.OperatorRows.{OrderTo, SayTo, ReportIn, OrdersSay, OrdersGraft, Notes, BeginsGroup}
 use Rattle.graft_model.specs.declared.event.OperatorEvent.TheVariants.{Order, Note, Go}
 use Rattle.graft_model.specs.Codes.{operator_code}
-use Rattle.graft_runs.specs.Actors.{OperatorIs, OrderItem, StepItem, Router, FarSide, Operator, actor_at}
+use Rattle.graft_runs.specs.Actors.{OperatorIs, StepItem, Router, FarSide, Operator, actor_at}
 use Rattle.graft_runs.specs.Laws.{ActorsHaveNumbers}
 use Rattle.graft_actors.specs.Acts.{OwnPart, ActsAs, IsWelcome}
 use Rattle.graft_actors.specs.Notes.{dropped}
@@ -26,15 +26,15 @@ abbrev entry_of : ℕ → ℕ → Code → JournalEntry
 entry_of clock actor code = record { clock = clock; actor = actor; kind = code.kind; a = code.a; b = code.b; c = code.c }
 
 module _ {C : Type 0} (session : C → SessionValue) (setup : Setup) (before after : OperatorPart) (clock actor : ℕ) where
-  pub says : ActorsHaveNumbers → (n p to : ℕ) → p < peerings_in setup → to ≡ routers_in setup + p → OrdersSay setup n before None (SayTo p n ∷ []) after
-      → ActsAs session (own setup before) (entry_of clock actor (operator_code (Order n))) None ((to, SayOrder n) ∷ []) (own setup after)
+  pub says : ActorsHaveNumbers → (n p to : ℕ) → p < peerings_in setup → to ≡ routers_in setup + p → OrdersSay setup n 0 before None (SayTo p n ∷ []) after
+      → ActsAs session (own setup before) (entry_of clock actor (operator_code (Order n 0))) None ((to, SayOrder n) ∷ []) (own setup after)
   says numbers n p to there is row = record {
     setup = refl;
     name = refl;
     does = inl (record {
       welcome = tt;
       row = record {
-        event = Order n;
+        event = Order n 0;
         coded = record { kind = refl; a = refl; b = refl; c = refl };
         took = None;
         gave = SayTo p n ∷ [];
@@ -47,22 +47,22 @@ module _ {C : Type 0} (session : C → SessionValue) (setup : Setup) (before aft
     });
   }
 
-  pub orders : ActorsHaveNumbers → (n k : ℕ) (peering : PeeringId) (target place : RouterId) → place.0 < routers_in setup → k ≡ graft_number setup n
-      → OrdersGraft setup n before None (OrderTo place.0 (record { graft = graft_number setup n; peering = peering.0; target = target.0 }) ∷ []) after
-      → ActsAs session (own setup before) (entry_of clock actor (operator_code (Order n))) None ((place.0, GraftOrder k peering target) ∷ []) (own setup after)
-  orders numbers n k peering target place there is row = record {
+  pub orders : ActorsHaveNumbers → (n number k : ℕ) (peering : PeeringId) (target place : RouterId) → place.0 < routers_in setup
+      → OrdersGraft setup n number before None (OrderTo place.0 (record { graft = k; peering = peering.0; target = target.0 }) ∷ []) after
+      → ActsAs session (own setup before) (entry_of clock actor (operator_code (Order n number))) None ((place.0, GraftOrder k peering target) ∷ []) (own setup after)
+  orders numbers n number k peering target place there row = record {
     setup = refl;
     name = refl;
     does = inl (record {
       welcome = tt;
       row = record {
-        event = Order n;
+        event = Order n number;
         coded = record { kind = refl; a = refl; b = refl; c = refl };
         took = None;
-        gave = OrderTo place.0 (record { graft = graft_number setup n; peering = peering.0; target = target.0 }) ∷ [];
+        gave = OrderTo place.0 (record { graft = k; peering = peering.0; target = target.0 }) ∷ [];
         holds = inr row;
         is_taken = refl;
-        is_sent = ap (λ j. (place.0, OrderItem (record { graft = j; peering = peering.0; target = target.0 })) ∷ []) is;
+        is_sent = refl;
         there = (there, tt);
       };
       fit = ((Router place.0, numbers setup (Router place.0) there, tt), tt);

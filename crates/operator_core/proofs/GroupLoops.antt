@@ -1,47 +1,41 @@
--- The loop that finds a group.
-use Rattle.std.proofs.Common.{◌≡◌, ℕ, suc, ◌+◌, ◌-◌, ◌<◌, ◌≤◌, List, [], ◌∷◌, ◌++◌, length, get_or, Some, sym, ap, ◌∙◌, inl, inr, arith}
-use Rattle.std.specs.Prelude.{◌≢◌, ◌⊎◌, slice_get}
+-- The loop that finds the tasks and the gifts of a group.
+use Rattle.std.proofs.Common.{◌≡◌, ℕ, zero, suc, ◌+◌, ◌-◌, ◌≤◌, List, ◌++◌, length, Some, sym, ap, ◌∙◌, append_assoc, arith}
+use Rattle.std.specs.Prelude.{slice_get, slice_index_or, flat_map}
 use Rattle.std.specs.List.{range_with_len}
-use Rattle.std.proofs.lemmas.Option.{slice_get-get_or}
-use Rattle.graft_edge.specs.declared.ids.PeeringId.{PeeringId}
-use Rattle.graft_edge.specs.declared.ids.RouterId.{RouterId}
+use Rattle.std.proofs.lemmas.List.{append-nil}
+use Rattle.std.proofs.lemmas.List.FromFn.{length-map-range_with_len}
+use Rattle.operator_core.specs.declared.evacuate.Gift.{Gift}
+use Rattle.operator_core.specs.declared.grafts.Seat.{Seat}
+use Rattle.operator_core.specs.declared.script.Script.{Script}
 use Rattle.operator_core.specs.declared.script.ScriptStep.{ScriptStep}
-use Rattle.operator_core.specs.declared.script.ScriptStep.TheVariants.{Say, Graft, Settle}
-use Rattle.operator_core.specs.Groups.{IsGroupFrom}
-use Rattle.operator_core.proofs.Lists.{compare, range_more, range_length}
+use Rattle.operator_core.specs.Evacuate.{load_of, loads_of, gifts_by}
+use Rattle.operator_core.specs.Tasks.{tasks_by}
+use Rattle.operator_core.specs.Groups.{gifts_of_step, tasks_of_step, gifts_at, tasks_at}
 
-pub stands : {A : Type 0} (xs : List A) (k : ℕ) (d x : A) → k < length xs → get_or xs k d ≡ x → slice_get xs k ≡ Some x
-stands xs k d x l e = slice_get-get_or xs k d l ∙ ap Some e
+pub length-loads_of : (seats : List Seat) (routers : ℕ) → length (loads_of seats routers) ≡ routers
+length-loads_of seats routers = length-map-range_with_len (load_of seats) 0 routers
 
--- the same of a list that is read under another name
-pub stands_in : {A : Type 0} (read xs : List A) (k : ℕ) (d x : A) → read ≡ xs → k < length xs → get_or read k d ≡ x → slice_get xs k ≡ Some x
-stands_in read xs k d x same l e = stands xs k d x l (ap (λ ys. get_or ys k d) (sym same) ∙ e)
+-- one more place of a range
+flat_more : {A : Type 0} (f : ℕ → List A) (from len : ℕ) → flat_map f (range_with_len from (suc len)) ≡ flat_map f (range_with_len from len) ++ f (from + len)
+flat_more f from zero = append-nil (f from) ∙ ap f (let e : from ≡ from + zero = omega arith in e)
+flat_more f from (suc len) =
+    ap (λ xs. f from ++ xs) (flat_more f (from + 1) len)
+    ∙ sym (append_assoc (f from) (flat_map f (range_with_len (from + 1) len)) (f (from + 1 + len)))
+    ∙ ap (λ n. (f from ++ flat_map f (range_with_len (from + 1) len)) ++ f n) (let e : from + 1 + len ≡ from + suc len = omega arith in e)
 
-pub group_ends : (steps : List ScriptStep) (from k : ℕ) (group : List ℕ) (d : ScriptStep) → k < length steps → from ≤ k → group ≡ range_with_len from (k - from)
-    → ((n : ℕ) → from ≤ n → n < k → slice_get steps n ≢ Some Settle) → get_or steps k d ≡ Settle → IsGroupFrom steps from (record { steps = group; next = k + 1 })
-group_ends steps from k group d l le places others e =
-    let len : length group ≡ k - from = ap length places ∙ range_length from (k - from) in
-    let end : from + length group ≡ k = omega arith in
-    record {
-      places = places ∙ ap (range_with_len from) (sym len);
-      others = λ n m m'. others n m (omega arith);
-      settle = ap (slice_get steps) end ∙ stands steps k d Settle l e;
-      next = omega arith;
-    }
+pub more_of : {A : Type 0} (f : ℕ → List A) (from place : ℕ) (xs more ys : List A) → from ≤ place → xs ≡ flat_map f (range_with_len from (place - from)) → more ≡ f place → ys ≡ xs ++ more
+    → ys ≡ flat_map f (range_with_len from (place + 1 - from))
+more_of f from place xs more ys behind before here is =
+    let next : suc (place - from) ≡ place + 1 - from = omega arith in
+    let at : from + (place - from) ≡ place = omega arith in
+    is ∙ ap (λ zs. zs ++ more) before ∙ ap (λ zs. flat_map f (range_with_len from (place - from)) ++ zs) (here ∙ ap f (sym at))
+    ∙ sym (flat_more f from (place - from)) ∙ ap (λ n. flat_map f (range_with_len from n)) next
 
-pub more_places : (from k : ℕ) (group more : List ℕ) → from ≤ k → group ≡ range_with_len from (k - from) → more ≡ group ++ k ∷ [] → more ≡ range_with_len from (k + 1 - from)
-more_places from k group more le places is =
-    let e : from + (k - from) ≡ k = omega arith in
-    let f : suc (k - from) ≡ k + 1 - from = omega arith in
-    is ∙ ap (λ ns. ns ++ k ∷ []) places ∙ ap (λ n. range_with_len from (k - from) ++ n ∷ []) (sym e) ∙ range_more from (k - from) ∙ ap (range_with_len from) f
+module _ (script : Script) (numbers : List ℕ) (seats : List Seat) (place : ℕ) (step : ScriptStep) (there : slice_get script.steps place ≡ Some step) where
+  pub gifts_here : (loads rooms : List ℕ) → loads ≡ loads_of seats (length script.rooms) → rooms ≡ script.rooms → gifts_by seats loads rooms (slice_index_or numbers place 0) step ≡ gifts_at script numbers seats place
+  gifts_here loads rooms loads_are rooms_are =
+      (λ i. gifts_by seats (loads_are i) (rooms_are i) (slice_index_or numbers place 0) step) ∙ sym (ap (gifts_of_step script numbers seats place) there)
 
-pub more_others : (steps : List ScriptStep) (from k : ℕ) (d : ScriptStep) → k < length steps → ((n : ℕ) → from ≤ n → n < k → slice_get steps n ≢ Some Settle)
-    → (((p : PeeringId) × (get_or steps k d ≡ Say p)) ⊎ ((p : PeeringId) × (target : RouterId) × (get_or steps k d ≡ Graft p target)))
-    → (n : ℕ) → from ≤ n → n < k + 1 → slice_get steps n ≢ Some Settle
-more_others steps from k d l others other n m m' e = elim (compare n k) [
-  | inl less ↦ others n m less e
-  | inr (inl same) ↦
-      let f : Some (get_or steps k d) ≡ Some Settle = sym (slice_get-get_or steps k d l) ∙ ap (slice_get steps) (sym same) ∙ e in
-      elim other [ inl (p, is) ↦ absurd (let g : Some (Say p) ≡ Some Settle = ap Some (sym is) ∙ f in cc) | inr (p, target, is) ↦ absurd (let g : Some (Graft p target) ≡ Some Settle = ap Some (sym is) ∙ f in cc) ]
-  | inr (inr more) ↦ absurd (omega arith)
-]
+  pub tasks_here : (given : List Gift) → given ≡ gifts_at script numbers seats place → tasks_by place (slice_index_or numbers place 0) step given ≡ tasks_at script numbers seats place
+  tasks_here given is =
+      ap (tasks_by place (slice_index_or numbers place 0) step) (is ∙ ap (gifts_of_step script numbers seats place) there) ∙ sym (ap (tasks_of_step script numbers seats place) there)

@@ -1,64 +1,107 @@
 -- What is left to do, as the state has it.
-use Rattle.std.proofs.Common.{◌≡◌, ℕ, zero, suc, ◌+◌, ◌<◌, ◌≤◌, ◌==◌, nat_lt, Bool, true, false, not, ◌&&◌, cond, List, [], ◌∷◌, length, Option, Some, None, refl, sym, ap, ◌∙◌, subst, inl, inr, arith}
-use Rattle.std.specs.Prelude.{◌≢◌, ◌⊎◌, ◌↔◌, slice_get}
-use Rattle.std.specs.Option.{option_map}
-use Rattle.std.specs.List.{list_any, find, AllByRecursion}
-use Rattle.std.proofs.lemmas.Bool.Decides.{nat_tests}
-use Rattle.std.proofs.lemmas.Option.{slice_get_within, slice_get-map, slice_get_past}
+use Rattle.std.proofs.Common.{◌≡◌, ℕ, zero, suc, ◌+◌, ◌<◌, ◌≤◌, Bool, true, false, ◌||◌, List, [], ◌∷◌, Option, Some, None, refl, sym, ap, ◌∙◌, subst, inl, inr, arith}
+use Rattle.std.specs.Prelude.{◌≢◌, ◌⊎◌, ◌↔◌, not, slice_get, if◌then◌else◌}
+use Rattle.std.specs.Option.{option_map, option_or}
+use Rattle.std.specs.List.{list_any, AllByRecursion}
+use Rattle.std.proofs.lemmas.Option.{same_Some}
 use Rattle.graft_edge.specs.declared.ids.RouterId.{RouterId}
 use Rattle.graft_steps.specs.declared.log.GraftEntry.{GraftEntry}
-use Rattle.graft_steps.specs.declared.log.GraftStage.{GraftStage}
-use Rattle.graft_steps.specs.declared.log.GraftStage.TheVariants.{Waiting, Issued, Ended}
-use Rattle.graft_model.specs.Setups.{ScriptStep, SayStep, MoveStep, SettleStep, group_of, grafts_in, graft_number}
+use Rattle.graft_model.specs.Setups.{ScriptStep, SayStep, MoveStep, EvacuateStep, SettleStep, ScriptGraft, group_of, grafts_in, graft_at}
 use Rattle.graft_model.specs.Parts.{OperatorPart}
-use Rattle.graft_model.specs.OperatorRows.{OperatorSent, OrdersGraft}
-use Rattle.graft_model.specs.declared.event.OperatorEvent.TheVariants.{Order}
-use Rattle.graft_model.specs.Steps.{operator_row}
+use Rattle.graft_model.specs.Placements.{target_in}
+use Rattle.graft_model.specs.OperatorRows.{OperatorSent, OrdersSay, OrdersGraft}
+use Rattle.graft_model.proofs.Numbers.{place_of_graft, number_is}
 use Rattle.settled_check.specs.Firsts.{IsLowestOf}
 use Rattle.settled_check.specs.Left.{HasUnissued, IsOpen}
-use Rattle.operator_core.specs.Grafts.{is_waiting, is_open, outcome_at, source_in, outcome_in, stage_of, entry_of, log_of}
-use Rattle.operator_core.specs.States.{State, is_issuable, issued_in, part_of}
-use Rattle.operator_core.specs.Keeps.{grafts_before, Waits, IsEntry, Keeps}
+use Rattle.operator_core.specs.declared.grafts.Slot.{Slot}
+use Rattle.operator_core.specs.declared.grafts.Slot.TheVariants.{Unmade, Stays, Made}
+use Rattle.operator_core.specs.declared.groups.Task.{Task}
+use Rattle.operator_core.specs.Grafts.{is_waiting, is_open, outcome_at}
+use Rattle.operator_core.specs.Slots.{slot_at, source_at, source_in, open_graft, first_open}
+use Rattle.operator_core.specs.Tasks.{unissued, is_task, has_task}
+use Rattle.operator_core.specs.States.{State, is_say, part_of}
+use Rattle.operator_core.specs.Keeps.{IsGraftTask, Waits, IsSlot, slot_waits, is_first, NoneIsOpen, Keeps}
 use Rattle.operator_core.specs.Issues.{IsHeld}
-use Rattle.operator_core.proofs.Lists.{by_test, compare, there_is, one_member, all_in, same_members}
-use Rattle.operator_core.proofs.Scripts.{group_least, before_least, step_of_graft}
-use Rattle.operator_core.proofs.Logs.{source_at, source_is, outcome_is, open_has_no_outcome, open_is_not_waiting, waiting_has_no_outcome, waiting_is_not_open, ended_is_not_open, ordered_has_ended}
-use Rattle.operator_core.proofs.Issues.{entry_there, entry_of_step, unissued_waits, waits_unissued}
+use Rattle.operator_core.specs.Turns.{NothingToOrder}
+use Rattle.operator_core.proofs.Lists.{by_test, compare, there_is, one_passes}
+use Rattle.operator_core.proofs.Tasks.{any_unissued, none_unissued}
+use Rattle.operator_core.proofs.TaskOrder.{task_names, is_that_task}
+use Rattle.operator_core.proofs.SlotLaws.{graft_there, target_at, number, own_slot, own_source, own_outcome, own_target, IsOwned, owner, slot_there, same_entry, open_is_not_waiting, open_has_no_outcome, waiting_has_no_outcome, ended_is_not_open, waiting_is_not_open, ordered_has_ended}
+use Rattle.operator_core.proofs.Scripts.{groups_rise}
+use Rattle.operator_core.proofs.Issues.{unissued_waits, waits_unissued, held_has_graft}
 
--- ---- the first that passes
+-- ---- the first slot that is open
 
-pub record IsFound {A : Type 0} (test : A → Bool) (xs : List A) (x : A) : Type 0 where
+-- a slot whose graft is open
+record IsOpenSlot (slot : Slot) (k : ℕ) : Type 0 where
+  entry : GraftEntry
+  is : slot ≡ Made entry
+  graft : entry.graft ≡ k
+  open_is : is_open entry.stage ≡ true
+
+open_slot : (slot : Slot) (k : ℕ) → open_graft slot ≡ Some k → IsOpenSlot slot k
+open_slot Unmade k e = absurd cc
+open_slot (Stays j p router) k e = absurd cc
+open_slot (Made entry) k e = by_open (is_open entry.stage) refl e where
+  by_open : (b : Bool) → is_open entry.stage ≡ b → (if b then Some entry.graft else None) ≡ Some k → IsOpenSlot (Made entry) k
+  by_open true is f = record { entry = entry; is = refl; graft = same_Some entry.graft k f; open_is = is }
+  by_open false is f = absurd cc
+
+not_open : (slot : Slot) → open_graft slot ≡ None → (entry : GraftEntry) → slot ≡ Made entry → is_open entry.stage ≡ false
+not_open slot e entry is = by_open (is_open entry.stage) refl (sym (ap open_graft is) ∙ e) where
+  by_open : (b : Bool) → is_open entry.stage ≡ b → (if b then Some entry.graft else None) ≡ None → is_open entry.stage ≡ false
+  by_open true is f = absurd cc
+  by_open false is f = is
+
+pub record IsFirstOpen (slots : List Slot) (k : ℕ) : Type 0 where
   pub place : ℕ
-  pub there : slice_get xs place ≡ Some x
-  pub passes : test x ≡ true
-  pub none_before : (j : ℕ) (y : A) → j < place → slice_get xs j ≡ Some y → test y ≡ false
+  pub entry : GraftEntry
+  pub there : slice_get slots place ≡ Some (Made entry)
+  pub graft : entry.graft ≡ k
+  pub open_is : is_open entry.stage ≡ true
+  pub none_before : (i : ℕ) (one : GraftEntry) → i < place → slice_get slots i ≡ Some (Made one) → is_open one.stage ≡ false
 
-pub found_first : {A : Type 0} (test : A → Bool) (xs : List A) (x : A) → find test xs ≡ Some x → IsFound test xs x
-found_first test [] x e = absurd cc
-found_first test (y ∷ xs) x e = elim (by_test (test y)) [
-  | inl f ↦
-      let g : Some y ≡ Some x = sym (ap (λ b. cond b (Some y) (find test xs)) f) ∙ e in
-      let h : y ≡ x = cc in
-      record { place = 0; there = g; passes = subst (λ z. test z ≡ true) h f; none_before = λ j z l there. absurd (omega arith) }
-  | inr f ↦
-      let r : IsFound test xs x = found_first test xs x (sym (ap (λ b. cond b (Some y) (find test xs)) f) ∙ e) in
-      record { place = suc r.place; there = r.there; passes = r.passes; none_before = before r f }
-]
+pub none_open : (slots : List Slot) → first_open slots ≡ None → (i : ℕ) (entry : GraftEntry) → slice_get slots i ≡ Some (Made entry) → is_open entry.stage ≡ false
+none_open [] e i entry there = absurd cc
+none_open (slot ∷ slots) e i entry there = by_first (open_graft slot) refl e (λ f j at. none_open slots f j entry at) i there where
+  by_first : (o : Option ℕ) → open_graft slot ≡ o → option_or o (first_open slots) ≡ None → (first_open slots ≡ None → (j : ℕ) → slice_get slots j ≡ Some (Made entry) → is_open entry.stage ≡ false)
+      → (j : ℕ) → slice_get (slot ∷ slots) j ≡ Some (Made entry) → is_open entry.stage ≡ false
+  by_first (Some k) is f rest j at = absurd cc
+  by_first None is f rest zero at = not_open slot is entry (same_Some slot (Made entry) at)
+  by_first None is f rest (suc j) at = rest f j at
+
+pub first_is_open : (slots : List Slot) (k : ℕ) → first_open slots ≡ Some k → IsFirstOpen slots k
+first_is_open [] k e = absurd cc
+first_is_open (slot ∷ slots) k e = by_first (open_graft slot) refl e (λ f. first_is_open slots k f) where
+  later : open_graft slot ≡ None → (r : IsFirstOpen slots k) → (i : ℕ) (one : GraftEntry) → i < suc r.place → slice_get (slot ∷ slots) i ≡ Some (Made one) → is_open one.stage ≡ false
+  later is r zero one l at = not_open slot is one (same_Some slot (Made one) at)
+  later is r (suc i) one l at = r.none_before i one (omega (arith, l)) at
+
+  by_first : (o : Option ℕ) → open_graft slot ≡ o → option_or o (first_open slots) ≡ Some k → (first_open slots ≡ Some k → IsFirstOpen slots k) → IsFirstOpen (slot ∷ slots) k
+  by_first (Some j) is f rest =
+      let o : IsOpenSlot slot j = open_slot slot j is in
+      record { place = 0; entry = o.entry; there = ap Some o.is; graft = o.graft ∙ same_Some j k f; open_is = o.open_is; none_before = λ i one l at. absurd (omega (arith, l)) }
+  by_first None is f rest =
+      let r : IsFirstOpen slots k = rest f in
+      record { place = suc r.place; entry = r.entry; there = r.there; graft = r.graft; open_is = r.open_is; none_before = later is r }
+
+-- ---- tasks
+
+-- what holds exactly where some task waits
+pub some_or_none : (tasks : List Task) (some : Bool) (P : Type 0) → some ≡ list_any (λ task. not task.issued) tasks → (P → unissued tasks ≢ []) → (unissued tasks ≢ [] → P) → (some ≡ true) ↔ P
+some_or_none tasks some P is has more = (λ e. more (any_unissued tasks (sym is ∙ e)), λ p. by_value some refl p)
   where
-    before : (r : IsFound test xs x) → test y ≡ false → (j : ℕ) (z : _) → j < suc r.place → slice_get (y ∷ xs) j ≡ Some z → test z ≡ false
-    before r f zero z l there = let h : y ≡ z = cc in subst (λ w. test w ≡ false) h f
-    before r f (suc j) z l there = r.none_before j z (omega arith) there
+    by_value : (b : Bool) → some ≡ b → P → b ≡ true
+    by_value true e p = refl
+    by_value false e p = absurd (has p (none_unissued tasks (sym is ∙ e)))
 
-pub found_none : {A : Type 0} (test : A → Bool) (xs : List A) → find test xs ≡ None → (j : ℕ) (y : A) → slice_get xs j ≡ Some y → test y ≡ false
-found_none test [] e j y there = absurd cc
-found_none test (x ∷ xs) e zero y there = elim (by_test (test x)) [
-  | inl f ↦ absurd (let g : Some x ≡ None = sym (ap (λ b. cond b (Some x) (find test xs)) f) ∙ e in cc)
-  | inr f ↦ let h : x ≡ y = cc in subst (λ w. test w ≡ false) h f
-]
-found_none test (x ∷ xs) e (suc j) y there = elim (by_test (test x)) [
-  | inl f ↦ absurd (let g : Some x ≡ None = sym (ap (λ b. cond b (Some x) (find test xs)) f) ∙ e in cc)
-  | inr f ↦ found_none test xs (sym (ap (λ b. cond b (Some x) (find test xs)) f) ∙ e) j y there
-]
+-- ---- sources
+
+no_source : (entry : GraftEntry) → source_at entry ≡ None → entry.source ≡ None
+no_source entry e = by_source entry.source refl e where
+  by_source : (o : Option RouterId) → entry.source ≡ o → option_map (λ r. r.0) o ≡ None → entry.source ≡ None
+  by_source None is f = is
+  by_source (Some r) is f = absurd cc
 
 module _ (s : State) (keeps : Keeps s) where
   -- a step of the group at work stands before the next group
@@ -66,184 +109,246 @@ module _ (s : State) (keeps : Keeps s) where
   in_group_before n e = elim (compare n s.next) [
     | inl l ↦ l
     | inr rest ↦
-        let le : s.next ≤ n = elim rest [ inl same ↦ omega arith | inr more ↦ omega arith ] in
-        let h : group_of s.setup s.next ≤ group_of s.setup n = group_least s.setup s.next n le in
-        let b : group_of s.setup s.next ≡ s.group + 1 = keeps.ends.begins in
-        absurd (omega arith)
+        let le : s.next ≤ n = elim rest [ inl same ↦ omega (arith, same) | inr more ↦ omega (arith, more) ] in
+        let rise = groups_rise s.setup s.next n le in
+        let begins = keeps.ends.begins in
+        absurd (omega (arith, rise, begins, e))
   ]
 
-  issued_before_next : (n : ℕ) → issued_in s n ≡ true → n < s.next
-  issued_before_next n e = elim (by_test (nat_lt n s.next)) [
-    | inl f ↦ grind (arith, nat_tests)
-    | inr f ↦ absurd (let g : false ≡ true = sym (none (is_issuable (slice_get s.setup.steps n)) (not (list_any (λ m. m == n) s.waiting))) ∙ sym (ap (λ b. is_issuable (slice_get s.setup.steps n) && b && not (list_any (λ m. m == n) s.waiting)) f) ∙ e in cc)
-  ]
-    where
-      none : (a c : Bool) → (a && false && c) ≡ false
-      none true c = refl
-      none false c = refl
+  -- ---- the slot of a graft
 
-  -- ---- a step that isn't issued
+  -- the slot of a graft that is made has its entry
+  record HasEntry (g : ScriptGraft) : Type 0 where
+    place : ℕ
+    at_place : slice_get (grafts_in s.setup) place ≡ Some g
+    entry : GraftEntry
+    there : slice_get s.slots place ≡ Some (Made entry)
+    is : IsSlot s.setup s.group s.waiting g (Made entry)
+
+  has_entry : (g : ScriptGraft) → graft_at s.setup g.graft ≡ Some g → target_in s.setup (part_of s) g ≢ None → HasEntry g
+  has_entry g known made = by_slot found.0 found.1 found.2 where
+    place : (i : ℕ) × (g.graft ≡ i + 1) × (slice_get (grafts_in s.setup) i ≡ Some g)
+    place = place_of_graft s.setup g.graft g known
+
+    found : (slot : Slot) × (slice_get s.slots place.0 ≡ Some slot) × IsSlot s.setup s.group s.waiting g slot
+    found = slot_there s.setup s.group s.waiting s.slots keeps.slots place.0 g place.2
+
+    no_target : (slot : Slot) → slice_get s.slots place.0 ≡ Some slot → IsSlot s.setup s.group s.waiting g slot → target_at slot ≡ None → HasEntry g
+    no_target slot at is none = absurd (made (own_target s.setup s.slots place.0 g place.2 slot at is.fits ∙ none))
+
+    by_slot : (slot : Slot) → slice_get s.slots place.0 ≡ Some slot → IsSlot s.setup s.group s.waiting g slot → HasEntry g
+    by_slot Unmade at is = no_target Unmade at is refl
+    by_slot (Stays k p router) at is = no_target (Stays k p router) at is refl
+    by_slot (Made entry) at is = record { place = place.0; at_place = place.2; entry = entry; there = at; is = is }
+
+  -- the graft of an entry is made
+  entry_made : (i : ℕ) (g : ScriptGraft) (entry : GraftEntry) → slice_get (grafts_in s.setup) i ≡ Some g → slice_get s.slots i ≡ Some (Made entry) → IsSlot s.setup s.group s.waiting g (Made entry) → target_in s.setup (part_of s) g ≢ None
+  entry_made i g entry at there is none = let e : Some entry.target.0 ≡ None = sym (own_target s.setup s.slots i g at (Made entry) there is.fits) ∙ none in cc
+
+  -- an entry that wasn't ordered waits
+  unordered_waits : (g : ScriptGraft) → (h : HasEntry g) → source_in s.slots g.graft ≡ None → is_waiting h.entry.stage ≡ true
+  unordered_waits g h none = (h.is.fits.made h.entry refl).source.0 (no_source h.entry (sym (own_source s.setup s.slots h.place g h.at_place h.entry h.there) ∙ none))
+
+  -- a graft of the group at work that wasn't ordered has a task
+  has_its_task : (g : ScriptGraft) → group_of s.setup g.step ≡ s.group → (h : HasEntry g) → source_in s.slots g.graft ≡ None → has_task s.waiting g.step g.graft ≡ true
+  has_its_task g group h none = sym (h.is.now group) ∙ unordered_waits g h none
+
+  -- ---- what isn't issued
+
+  no_tasks : (n k : ℕ) → has_task s.waiting n k ≡ true → s.waiting ≢ []
+  no_tasks n k w none = let e : false ≡ true = sym (ap (λ tasks. has_task tasks n k) none) ∙ w in cc
 
   pub some_unissued : HasUnissued s.setup (part_of s) → s.waiting ≢ []
-  some_unissued (n, u) none =
-      let issuable : is_issuable (slice_get s.setup.steps n) ≡ true = ap is_issuable u.is ∙ is_issued u.step u.ordered in
-      let w : list_any (λ m. m == n) s.waiting ≡ true = unissued_waits s n issuable (in_group_before n u.group) u.unissued in
-      absurd (let e : false ≡ true = sym (ap (λ ns. list_any (λ m. m == n) ns) none) ∙ w in cc)
-    where
-      is_issued : (step : ScriptStep) → step ≢ SettleStep → is_issuable (Some step) ≡ true
-      is_issued (SayStep p bytes) ne = refl
-      is_issued (MoveStep p target) ne = refl
-      is_issued SettleStep ne = absurd (ne refl)
+  some_unissued (inl (n, u)) = no_tasks n 0 (unissued_waits s n (ap is_say u.is) (in_group_before n u.group) u.unissued)
+  some_unissued (inr (g, (u, unordered))) = no_tasks g.step g.graft (has_its_task g u.group (has_entry g u.known u.made) unordered)
+
+  -- a task that waits
+  module _ (task : Task) (w : Waits s.setup s.group s.next task) (has : has_task s.waiting task.step task.graft ≡ true) where
+    -- its graft, if it has one, is made and wasn't ordered
+    graft_waits : IsGraftTask s.setup task → HasUnissued s.setup (part_of s)
+    graft_waits of_step = by_graft (graft_at s.setup task.graft) refl of_step where
+      by_slot : (g : ScriptGraft) (i : ℕ) → graft_at s.setup g.graft ≡ Some g → group_of s.setup g.step ≡ s.group → slice_get (grafts_in s.setup) i ≡ Some g → (slot : Slot) → slice_get s.slots i ≡ Some slot
+          → IsSlot s.setup s.group s.waiting g slot → slot_waits slot ≡ true → HasUnissued s.setup (part_of s)
+      by_slot g i known group at Unmade there is e = absurd cc
+      by_slot g i known group at (Stays k p router) there is e = absurd cc
+      by_slot g i known group at (Made entry) there is e =
+          let none : entry.source ≡ None = (is.fits.made entry refl).source.1 e in (
+          inr (
+            g,
+            (
+              record { known = known; group = group; made = entry_made i g entry at there is; unended = own_outcome s.setup s.slots i g at entry there ∙ waiting_has_no_outcome entry.stage e },
+              own_source s.setup s.slots i g at entry there ∙ ap (option_map (λ (r : RouterId). r.0)) none,
+            ),
+          ))
+
+      by_graft : (o : Option ScriptGraft) → graft_at s.setup task.graft ≡ o → option_map (λ (g : ScriptGraft). g.step) o ≡ Some task.step → HasUnissued s.setup (part_of s)
+      by_graft None at e = absurd cc
+      by_graft (Some g) at e =
+          let step : g.step ≡ task.step = same_Some g.step task.step e in
+          let graft : g.graft ≡ task.graft = number_is s.setup task.graft g at in
+          let known : graft_at s.setup g.graft ≡ Some g = ap (graft_at s.setup) graft ∙ at in
+          let group : group_of s.setup g.step ≡ s.group = ap (group_of s.setup) step ∙ w.group_is in
+          let place = place_of_graft s.setup g.graft g known in
+          let found = slot_there s.setup s.group s.waiting s.slots keeps.slots place.0 g place.2 in
+          by_slot g place.0 known group place.2 found.0 found.1 found.2 (found.2.now group ∙ ap (λ n. has_task s.waiting n g.graft) step ∙ ap (has_task s.waiting task.step) graft ∙ has)
+
+    task_unissued : HasUnissued s.setup (part_of s)
+    task_unissued =
+        let found = there_is s.setup.steps task.step (let l = w.before in let m = keeps.ends.within in omega (arith, l, m)) in
+        by_step found.0 found.1
+      where
+        by_step : (step : ScriptStep) → slice_get s.setup.steps task.step ≡ Some step → HasUnissued s.setup (part_of s)
+        by_step (SayStep p bytes) is = inl (task.step, record { peering = p; bytes = bytes; is = is; group = w.group_is; unissued = waits_unissued s task.step (sym (ap (has_task s.waiting task.step) (w.says p bytes is)) ∙ has) })
+        by_step (MoveStep p target) is = graft_waits (w.moves p target is)
+        by_step (EvacuateStep router) is = graft_waits (w.evacuates router is)
+        by_step SettleStep is = absurd (w.issuable is)
 
   pub unissued_there : s.waiting ≢ [] → HasUnissued s.setup (part_of s)
   unissued_there ne = by_list s.waiting refl
     where
-      by_list : (ns : List ℕ) → s.waiting ≡ ns → HasUnissued s.setup (part_of s)
+      by_list : (tasks : List Task) → s.waiting ≡ tasks → HasUnissued s.setup (part_of s)
       by_list [] e = absurd (ne e)
-      by_list (n ∷ ns) e =
-          let all : AllByRecursion (Waits s.setup s.group s.next) (n ∷ ns) = subst (λ xs. AllByRecursion (Waits s.setup s.group s.next) xs) e keeps.waiting in
-          let w : Waits s.setup s.group s.next n = all.0 in
-          let found = there_is s.setup.steps n (let l : n < s.next = w.before in let m : s.next ≤ length s.setup.steps = keeps.ends.within in omega arith) in
-          let there : list_any (λ m. m == n) s.waiting ≡ true = ap (λ xs. list_any (λ m. m == n) xs) e ∙ (let f : (n == n) ≡ true = grind (arith, nat_tests) in rw f refl) in
-          (n, record { step = found.0; is = found.1; ordered = λ is. w.issuable (found.1 ∙ ap Some is); group = w.group_is; unissued = waits_unissued s n there })
+      by_list (task ∷ tasks) e =
+          let all : AllByRecursion (Waits s.setup s.group s.next) (task ∷ tasks) = subst (λ xs. AllByRecursion (Waits s.setup s.group s.next) xs) e keeps.waiting in
+          let here : is_task task.step task.graft task ≡ true = is_that_task task.step task.graft task refl refl in
+          task_unissued task all.0 (ap (λ xs. has_task xs task.step task.graft) e ∙ ap (λ b. b || has_task tasks task.step task.graft) here)
 
   -- ---- a graft that is open
 
   -- an open entry is that of a graft of the group at work
-  pub open_there : (i : ℕ) (entry : GraftEntry) → slice_get s.log i ≡ Some entry → is_open entry.stage ≡ true → IsOpen s.setup (part_of s) entry.graft
-  open_there i entry e open_is =
-      let names : IsEntry s.setup i entry = keeps.log.entries i entry e in
-      let r = step_of_graft s.setup i (slice_get_within (grafts_in s.setup) i _ names.graft) in
-      let at_step : slice_get s.log (grafts_before s.setup r.step) ≡ Some entry = ap (slice_get s.log) r.before ∙ e in
-      let issued : issued_in s r.step ≡ true = not_false (issued_in s r.step) (sym (keeps.agree.issued r.step r.peering r.target entry r.is at_step) ∙ open_is_not_waiting entry.stage open_is) in
-      let before : r.step < s.next = issued_before_next r.step issued in
-      let number : graft_number s.setup r.step ≡ entry.graft = ap (λ n. n + 1) r.before ∙ sym names.number in
-      record {
-        step = r.step;
-        peering = r.peering;
-        target = r.target;
-        is = r.is;
-        group = elim (compare (group_of s.setup r.step) s.group) [
-          | inl l ↦ absurd (keeps.agree.past r.step r.peering r.target entry r.is at_step l (open_has_no_outcome entry.stage open_is))
-          | inr (inl same) ↦ same
-          | inr (inr l) ↦ absurd (let h : group_of s.setup r.step ≤ s.group = keeps.ends.before r.step before in omega arith)
-        ];
-        issued = issued;
-        number = number;
-        unended = ap (outcome_in s.log) names.number ∙ outcome_is s.log i entry e ∙ open_has_no_outcome entry.stage open_is;
-      }
+  pub open_there : (i : ℕ) (entry : GraftEntry) → slice_get s.slots i ≡ Some (Made entry) → is_open entry.stage ≡ true → IsOpen s.setup (part_of s) (i + 1)
+  open_there i entry there open_is = (
+    g,
+    its_number,
+    record {
+      known = graft_there s.setup i g own.place;
+      group = by_group (compare (group_of s.setup g.step) s.group);
+      made = entry_made i g entry own.place there own.is;
+      unended = own_outcome s.setup s.slots i g own.place entry there ∙ open_has_no_outcome entry.stage open_is;
+    },
+    λ none. (
+        let unsourced : entry.source ≡ None = no_source entry (sym (own_source s.setup s.slots i g own.place entry there) ∙ ap (source_in s.slots) its_number ∙ none) in
+        let waits : is_waiting entry.stage ≡ true = (own.is.fits.made entry refl).source.0 unsourced in
+        let e : true ≡ false = sym waits ∙ open_is_not_waiting entry.stage open_is in
+        cc),
+  )
     where
-      not_false : (b : Bool) → not b ≡ false → b ≡ true
-      not_false true e' = refl
-      not_false false e' = absurd cc
+      own : IsOwned s.setup s.group s.waiting i (Made entry)
+      own = owner s.setup s.group s.waiting s.slots keeps.slots i (Made entry) there
+
+      g : ScriptGraft
+      g = own.graft
+
+      its_number : g.graft ≡ i + 1
+      its_number = number s.setup s.slots i g own.place
+
+      no_later : (o : Option ScriptStep) → is_first o (Made entry) ≡ true → is_waiting entry.stage ≡ true
+      no_later None e = absurd cc
+      no_later (Some (SayStep p bytes)) e = absurd cc
+      no_later (Some (MoveStep p target)) e = e
+      no_later (Some (EvacuateStep router)) e = absurd cc
+      no_later (Some SettleStep) e = absurd cc
+
+      by_group : (group_of s.setup g.step < s.group) ⊎ ((group_of s.setup g.step ≡ s.group) ⊎ (s.group < group_of s.setup g.step)) → group_of s.setup g.step ≡ s.group
+      by_group (inl past) = absurd (own.is.past past entry refl (open_has_no_outcome entry.stage open_is))
+      by_group (inr (inl now)) = now
+      by_group (inr (inr later)) =
+          let waits : is_waiting entry.stage ≡ true = no_later (slice_get s.setup.steps g.step) (own.is.later later) in
+          let e : true ≡ false = sym waits ∙ open_is_not_waiting entry.stage open_is in
+          absurd cc
 
   -- the entry of an open graft is open
-  pub open_entry : (k : ℕ) → IsOpen s.setup (part_of s) k → (i : ℕ) × (entry : GraftEntry) × (slice_get s.log i ≡ Some entry) × (is_open entry.stage ≡ true) × (i + 1 ≡ k)
-  open_entry k o =
-      let found = entry_there s keeps o.step o.peering o.target o.is in
-      let ordered : is_waiting found.0.stage ≡ false = keeps.agree.issued o.step o.peering o.target found.0 o.is found.1 ∙ ap not o.issued in
-      let none : outcome_at found.0.stage ≡ None = sym (outcome_is s.log (grafts_before s.setup o.step) found.0 found.1) ∙ ap (outcome_in s.log) o.number ∙ o.unended in
-      (grafts_before s.setup o.step, found.0, found.1, elim (by_test (is_open found.0.stage)) [ inl f ↦ f | inr f ↦ absurd (ordered_has_ended found.0.stage ordered f none) ], o.number)
-
-  pub lowest_open : IsLowestOf (IsOpen s.setup (part_of s)) (option_map (λ entry. entry.graft) (find (λ entry. is_open entry.stage) s.log))
-  lowest_open = by_found (find (λ entry. is_open entry.stage) s.log) refl
+  pub open_entry : (k : ℕ) → IsOpen s.setup (part_of s) k → (i : ℕ) × (entry : GraftEntry) × (slice_get s.slots i ≡ Some (Made entry)) × (is_open entry.stage ≡ true) × (i + 1 ≡ k)
+  open_entry k (g, same, u, ordered) =
+      let h : HasEntry g = has_entry g u.known u.made in
+      let none : outcome_at h.entry.stage ≡ None = sym (own_outcome s.setup s.slots h.place g h.at_place h.entry h.there) ∙ u.unended in
+      let its_number : h.place + 1 ≡ k = sym (number s.setup s.slots h.place g h.at_place) ∙ same in
+      (h.place, h.entry, h.there, by_stage h none (by_test (is_open h.entry.stage)) (by_test (is_waiting h.entry.stage)), its_number)
     where
-      by_found : (o : Option GraftEntry) → find (λ (entry : GraftEntry). is_open entry.stage) s.log ≡ o → IsLowestOf (IsOpen s.setup (part_of s)) (option_map (λ entry. entry.graft) o)
-      by_found None e = λ k o. (let r = open_entry k o in let h : is_open r.1.stage ≡ false = found_none (λ (entry : GraftEntry). is_open entry.stage) s.log e r.0 r.1 r.2 in let g : is_open r.1.stage ≡ true = r.3 in absurd cc)
-      by_found (Some entry) e =
-          let r = found_first (λ (x : GraftEntry). is_open x.stage) s.log entry e in (
-            open_there r.place entry r.there r.passes,
-            λ k o. (
-                let q = open_entry k o in
-                let number : entry.graft ≡ r.place + 1 = (keeps.log.entries r.place entry r.there).number in
+      by_stage : (h : HasEntry g) → outcome_at h.entry.stage ≡ None → (is_open h.entry.stage ≡ true) ⊎ (is_open h.entry.stage ≡ false) → (is_waiting h.entry.stage ≡ true) ⊎ (is_waiting h.entry.stage ≡ false) → is_open h.entry.stage ≡ true
+      by_stage h none (inl f) waits = f
+      by_stage h none (inr f) (inr over) = absurd (ordered_has_ended h.entry.stage over f none)
+      by_stage h none (inr f) (inl waits) =
+          let unsourced : h.entry.source ≡ None = (h.is.fits.made h.entry refl).source.1 waits in
+          absurd (ordered (sym (ap (source_in s.slots) same) ∙ own_source s.setup s.slots h.place g h.at_place h.entry h.there ∙ ap (option_map (λ (r : RouterId). r.0)) unsourced))
+
+  pub lowest_open : IsLowestOf (IsOpen s.setup (part_of s)) (first_open s.slots)
+  lowest_open = by_found (first_open s.slots) refl
+    where
+      by_found : (o : Option ℕ) → first_open s.slots ≡ o → IsLowestOf (IsOpen s.setup (part_of s)) o
+      by_found None e = λ k o. (
+          let r = open_entry k o in
+          let f : true ≡ false = sym r.3 ∙ none_open s.slots e r.0 r.1 r.2 in
+          cc)
+      by_found (Some k) e =
+          let r : IsFirstOpen s.slots k = first_is_open s.slots k e in
+          let own = owner s.setup s.group s.waiting s.slots keeps.slots r.place (Made r.entry) r.there in
+          let at_number : r.place + 1 ≡ k = sym (number s.setup s.slots r.place own.graft own.place) ∙ sym (own.is.fits.made r.entry refl).graft ∙ r.graft in (
+            subst (IsOpen s.setup (part_of s)) at_number (open_there r.place r.entry r.there r.open_is),
+            λ j o. (
+                let q = open_entry j o in
                 elim (compare q.0 r.place) [
-                  | inl l ↦ let h : is_open q.1.stage ≡ false = r.none_before q.0 q.1 l q.2 in let g : is_open q.1.stage ≡ true = q.3 in absurd cc
-                  | inr (inl same) ↦ let k_is : q.0 + 1 ≡ k = q.4 in omega arith
-                  | inr (inr l) ↦ let k_is : q.0 + 1 ≡ k = q.4 in omega arith
+                  | inl l ↦ let f : true ≡ false = sym q.3 ∙ r.none_before q.0 q.1 l q.2 in absurd cc
+                  | inr (inl same) ↦ let j_is = q.4 in omega (arith, same, at_number, j_is)
+                  | inr (inr more) ↦ let j_is = q.4 in omega (arith, more, at_number, j_is)
                 ]),
           )
 
-  pub none_is_open : find (λ (entry : GraftEntry). is_open entry.stage) s.log ≡ None → (i : ℕ) (entry : GraftEntry) → slice_get s.log i ≡ Some entry → is_open entry.stage ≡ false
-  none_is_open e i entry there = found_none (λ (x : GraftEntry). is_open x.stage) s.log e i entry there
+  -- ---- nothing may be ordered
 
-  -- ---- no step may be issued
+  module _ (held : AllByRecursion (IsHeld s) s.waiting) where
+    no_say : (step named : ℕ) (sent : List OperatorSent) (after : OperatorPart) → OrdersSay s.setup step named (part_of s) None sent after → ⊥
+    no_say step named sent after row =
+        let found = one_passes (is_task step 0) (IsHeld s) s.waiting held (unissued_waits s step (ap is_say row.is) (in_group_before step row.group) row.unissued) in
+        held_has_graft s found.0 found.2 (task_names step 0 found.0 found.1).1
 
-  pub nothing_to_order : AllByRecursion (IsHeld s) s.waiting → (step : ℕ) (sent : List OperatorSent) (after : OperatorPart) → operator_row s.setup (Order step) (part_of s) None sent after → ⊥
-  nothing_to_order held step sent after row = elim row [
-    | inl say ↦
-        let h : IsHeld s step = held_at step say.next.group say.next.unissued (ap is_issuable say.is) in
-        absurd (let e : Some (MoveStep h.peering h.target) ≡ Some (SayStep say.peering say.bytes) = sym h.is ∙ say.is in cc)
-    | inr graft ↦ no_graft graft (held_at step graft.next.group graft.next.unissued (ap is_issuable graft.is))
-  ]
-    where
-      held_at : (n : ℕ) → group_of s.setup n ≡ s.group → issued_in s n ≡ false → is_issuable (slice_get s.setup.steps n) ≡ true → IsHeld s n
-      held_at n group un issuable = all_in (IsHeld s) s.waiting n held (unissued_waits s n issuable (in_group_before n group) un)
+    module _ (step named : ℕ) (sent : List OperatorSent) (after : OperatorPart) (row : OrdersGraft s.setup step named (part_of s) None sent after) where
+      abbrev g : ScriptGraft
+      g = row.graft
 
-      no_graft : OrdersGraft s.setup step (part_of s) None sent after → IsHeld s step → ⊥
-      no_graft row' h =
-          let same : MoveStep h.peering h.target ≡ MoveStep row'.peering row'.target = one_member (slice_get s.setup.steps step) _ _ h.is row'.is in
-          let p_is : h.peering ≡ row'.peering = cc in
-          let found = entry_there s keeps step row'.peering row'.target row'.is in
-          let waits : is_waiting found.0.stage ≡ true = keeps.agree.issued step row'.peering row'.target found.0 row'.is found.1 ∙ ap not row'.next.unissued in
-          let of_p = (entry_of_step s keeps step row'.peering row'.target found.0 row'.is found.1).0 in
-          let still : h.seat.moving ≡ false = (keeps.seats.each h.peering h.seat h.seated).still.1 (λ i entry e of_h. elim (compare i (grafts_before s.setup step)) [
-            | inl l ↦
-                let names : IsEntry s.setup i entry = keeps.log.entries i entry e in
-                let r = step_of_graft s.setup i (slice_get_within (grafts_in s.setup) i _ names.graft) in
-                let at_step : slice_get s.log (grafts_before s.setup r.step) ≡ Some entry = ap (slice_get s.log) r.before ∙ e in
-                let q : r.peering ≡ row'.peering = sym (entry_of_step s keeps r.step r.peering r.target entry r.is at_step).0 ∙ of_h ∙ p_is in
-                let before : r.step < step = elim (compare r.step step) [
-                  | inl less ↦ less
-                  | inr rest ↦
-                      let le : step ≤ r.step = elim rest [ inl same' ↦ omega arith | inr more ↦ omega arith ] in
-                      absurd (let g : grafts_before s.setup step ≤ grafts_before s.setup r.step = before_least s.setup step r.step le in let f : grafts_before s.setup r.step ≡ i = r.before in omega arith)
-                ] in
-                ended_is_not_open entry.stage (λ none. row'.earlier r.step r.target before (r.is ∙ ap (λ x. Some (MoveStep x r.target)) q) (outcome_is s.log (grafts_before s.setup r.step) entry at_step ∙ none))
-            | inr (inl at_step) ↦
-                let is_same : entry ≡ found.0 = one_member (slice_get s.log (grafts_before s.setup step)) _ _ (sym (ap (slice_get s.log) at_step) ∙ e) found.1 in
-                waiting_is_not_open entry.stage (ap (λ (x : GraftEntry). is_waiting x.stage) is_same ∙ waits)
-            | inr (inr l) ↦ elim (by_test (is_open entry.stage)) [
-              | inr f ↦ f
-              | inl f ↦ absurd (keeps.log.in_turn (grafts_before s.setup step) i found.0 entry l found.1 e (of_p ∙ sym p_is ∙ sym of_h) (open_is_not_waiting entry.stage f) (waiting_has_no_outcome found.0.stage waits))
-            ]
-          ]) in
-          (let g : true ≡ false = sym h.moving ∙ still in absurd cc)
+      has_own : HasEntry g
+      has_own = has_entry g row.known (λ none. let e : Some row.target ≡ None = sym row.is ∙ none in cc)
 
-  -- ---- the log
+      abbrev entry : GraftEntry
+      entry = has_own.entry
 
-  pub log_is : s.log ≡ log_of s.setup (part_of s)
-  log_is = same_members s.log (log_of s.setup (part_of s)) (λ i. by_place i (compare i (length s.log)))
-    where
-      stage_is : (entry : GraftEntry) → (entry.source ≡ None) ↔ (is_waiting entry.stage ≡ true) → entry.stage ≡ stage_of (source_at entry) (outcome_at entry.stage)
-      stage_is entry source = by_stage entry.stage entry.source refl refl
-        where
-          by_stage : (stage : GraftStage) (o : Option RouterId) → entry.stage ≡ stage → entry.source ≡ o → entry.stage ≡ stage_of (source_at entry) (outcome_at entry.stage)
-          by_stage Waiting o e f = let none : entry.source ≡ None = source.1 (ap is_waiting e) in e ∙ sym (ap (λ x. stage_of (option_map (λ r. r.0) x) (outcome_at entry.stage)) none ∙ ap (λ x. stage_of None (outcome_at x)) e)
-          by_stage Issued None e f = absurd (let g : true ≡ is_waiting Issued = sym (source.0 f) ∙ ap is_waiting e in cc)
-          by_stage Issued (Some r) e f = e ∙ sym (ap (λ x. stage_of (option_map (λ q. q.0) x) (outcome_at entry.stage)) f ∙ ap (λ x. stage_of (Some r.0) (outcome_at x)) e)
-          by_stage (Ended outcome) o e f = e ∙ sym (ap (λ x. stage_of (source_at entry) (outcome_at x)) e)
+      waits : is_waiting entry.stage ≡ true
+      waits = unordered_waits g has_own row.unordered
 
-      source_back : (o : Option RouterId) → o ≡ option_map (λ (r : ℕ). let id : RouterId = record { 0 = r } in id) (option_map (λ r. r.0) o)
-      source_back None = refl
-      source_back (Some r) = refl
+      of_peering : entry.peering.0 ≡ g.peering
+      of_peering = (has_own.is.fits.made entry refl).peering
 
-      entry_is : (i : ℕ) (entry : GraftEntry) → slice_get s.log i ≡ Some entry → IsEntry s.setup i entry
-          → entry ≡ entry_of (part_of s) (record { graft = entry.graft; peering = entry.peering.0; target = entry.target.0 })
-      entry_is i entry e names =
-          let source : source_in s.log entry.graft ≡ source_at entry = ap (source_in s.log) names.number ∙ source_is s.log i entry e in
-          let outcome : outcome_in s.log entry.graft ≡ outcome_at entry.stage = ap (outcome_in s.log) names.number ∙ outcome_is s.log i entry e in
-          let source_too : entry.source ≡ option_map (λ (r : ℕ). let id : RouterId = record { 0 = r } in id) (source_in s.log entry.graft)
-          = source_back entry.source ∙ sym (ap (option_map (λ (r : ℕ). let id : RouterId = record { 0 = r } in id)) source) in
-          let stage : entry.stage ≡ stage_of (source_in s.log entry.graft) (outcome_in s.log entry.graft)
-          = stage_is entry names.source ∙ sym (ap (λ x. stage_of x (outcome_in s.log entry.graft)) source ∙ ap (λ x. stage_of (source_at entry) x) outcome) in
-          λ j. record { graft = entry.graft; peering = entry.peering; source = source_too j; target = entry.target; stage = stage j }
+      -- no graft of its peering is open: those before it have ended, and those behind it wait
+      none_is_open : NoneIsOpen s.slots entry.peering.0
+      none_is_open i one there same = by_place (compare i has_own.place) where
+        own : IsOwned s.setup s.group s.waiting i (Made one)
+        own = owner s.setup s.group s.waiting s.slots keeps.slots i (Made one) there
 
-      by_place : (i : ℕ) → (i < length s.log) ⊎ ((i ≡ length s.log) ⊎ (length s.log < i)) → slice_get s.log i ≡ slice_get (log_of s.setup (part_of s)) i
-      by_place i (inl l) =
-          let found = there_is s.log i l in
-          let names = keeps.log.entries i found.0 found.1 in
-          found.1 ∙ ap Some (entry_is i found.0 found.1 names) ∙ sym (slice_get-map (entry_of (part_of s)) (grafts_in s.setup) i ∙ ap (option_map (entry_of (part_of s))) names.graft)
-      by_place i (inr rest) =
-          let le : length s.log ≤ i = elim rest [ inl same ↦ omega arith | inr more ↦ omega arith ] in
-          let all : length s.log ≡ length (grafts_in s.setup) = keeps.log.all in
-          slice_get_past s.log i le ∙ sym (slice_get-map (entry_of (part_of s)) (grafts_in s.setup) i ∙ ap (option_map (entry_of (part_of s))) (slice_get_past (grafts_in s.setup) i (omega arith)))
+        by_place : (i < has_own.place) ⊎ ((i ≡ has_own.place) ⊎ (has_own.place < i)) → is_open one.stage ≡ false
+        by_place (inl l) =
+            let before : own.graft.graft < g.graft = omega (arith, l, number s.setup s.slots i own.graft own.place, number s.setup s.slots has_own.place g has_own.at_place) in
+            let peering : own.graft.peering ≡ g.peering = sym (own.is.fits.made one refl).peering ∙ same ∙ of_peering in
+            ended_is_not_open one.stage (λ none.
+            row.earlier own.graft (graft_there s.setup i own.graft own.place) peering before (entry_made i own.graft one own.place there own.is) (own_outcome s.setup s.slots i own.graft own.place one there ∙ none))
+        by_place (inr (inl here)) =
+            let same_one : one ≡ entry = same_entry one entry (sym there ∙ (ap (slice_get s.slots) here ∙ has_own.there)) in
+            waiting_is_not_open one.stage (ap (λ (x : GraftEntry). is_waiting x.stage) same_one ∙ waits)
+        by_place (inr (inr l)) = elim (by_test (is_open one.stage)) [
+          | inr f ↦ f
+          | inl f ↦ absurd (keeps.slots.in_turn has_own.place i entry one l has_own.there there (sym same) (open_is_not_waiting one.stage f) (waiting_has_no_outcome entry.stage waits))
+        ]
+
+      no_graft : ⊥
+      no_graft =
+          let group : group_of s.setup g.step ≡ s.group = ap (group_of s.setup) row.by_step ∙ row.group in
+          let found = one_passes (is_task g.step g.graft) (IsHeld s) s.waiting held (has_its_task g group has_own row.unordered) in
+          let h : IsHeld s found.0 = found.2 in
+          let graft : found.0.graft ≡ g.graft = (task_names g.step g.graft found.0 found.1).1 in
+          let same : h.entry ≡ entry = same_entry h.entry entry (sym h.is ∙ (ap (slot_at s.slots) graft ∙ (own_slot s.setup s.slots has_own.place g has_own.at_place ∙ has_own.there))) in
+          let still : h.seat.moving ≡ false = (keeps.seats.each h.entry.peering.0 h.seat h.seated).still.1 (subst (λ (x : GraftEntry). NoneIsOpen s.slots x.peering.0) (sym same) none_is_open) in
+          let e : true ≡ false = sym h.moving ∙ still in
+          cc
+
+    pub nothing_to_order : NothingToOrder s.setup (part_of s)
+    nothing_to_order step named sent after (inl say) = no_say step named sent after say
+    nothing_to_order step named sent after (inr graft) = no_graft step named sent after graft

@@ -1,56 +1,78 @@
--- A step that waits is visited: it waits still, or was issued.
-use Rattle.std.proofs.Common.{◌≡◌, ℕ, suc, ◌+◌, ◌-◌, true, false, List, [], ◌∷◌, ◌++◌, length, take, drop, Option, Some, None, refl, sym, ap, ◌∙◌, subst, arith}
-use Rattle.std.specs.Prelude.{slice_get, slice_set, slice_index_or}
+-- A task is visited: it waits still, or was issued.
+use Rattle.std.proofs.Common.{◌≡◌, ℕ, suc, ◌+◌, true, false, List, [], ◌∷◌, ◌++◌, length, take, drop, Option, Some, None, refl, sym, ap, ◌∙◌, subst, arith}
+use Rattle.std.specs.Prelude.{slice_get, slice_set}
 use Rattle.std.specs.List.{AllByRecursion}
-use Rattle.std.proofs.lemmas.Option.{slice_get_within}
 use Rattle.ring_net.specs.declared.post.Post.{Post}
 use Rattle.ring_net.specs.Posts.{actor_of, clock_of, Wrote}
 use Rattle.ring_net.proofs.PostLaws.{wrote_none}
 use Rattle.graft_edge.specs.declared.ids.PeeringId.{PeeringId}
-use Rattle.graft_edge.specs.declared.ids.RouterId.{RouterId}
 use Rattle.graft_steps.specs.declared.item.Item.{Item}
 use Rattle.graft_steps.specs.declared.item.Item.TheVariants.{SayOrder, GraftOrder}
+use Rattle.graft_steps.specs.declared.log.GraftEntry.{GraftEntry}
+use Rattle.graft_model.specs.declared.event.OperatorEvent.TheVariants.{Go, Order}
 use Rattle.graft_model.specs.Codes.{operator_code}
-use Rattle.graft_model.specs.Setups.{MoveStep, graft_number}
 use Rattle.graft_runs.specs.Laws.{ActorsHaveNumbers}
+use Rattle.graft_actors.specs.Notes.{deed_of}
+use Rattle.operator_core.specs.declared.grafts.Move.{Move}
 use Rattle.operator_core.specs.declared.grafts.Seat.{Seat}
+use Rattle.operator_core.specs.declared.grafts.Slot.{Slot}
+use Rattle.operator_core.specs.declared.grafts.Slot.TheVariants.{Unmade, Stays, Made}
 use Rattle.operator_core.specs.declared.groups.Task.{Task}
 use Rattle.operator_core.specs.declared.progress.Progress.{Progress}
-use Rattle.operator_core.specs.declared.script.ScriptStep.TheVariants.{Say, Graft, Settle}
+use Rattle.operator_core.specs.declared.script.ScriptStep.TheVariants.{Say, Settle}
+use Rattle.operator_core.specs.Slots.{slot_at, move_of}
+use Rattle.operator_core.specs.Tasks.{done, unissued}
 use Rattle.operator_core.specs.States.{State, part_of}
-use Rattle.operator_core.specs.Keeps.{grafts_before, Waits, Keeps}
+use Rattle.operator_core.specs.Keeps.{IsGraftTask, Waits, Keeps}
 use Rattle.operator_core.specs.Issues.{IsHeld, waiting_are, graft_issued}
-use Rattle.graft_actors.specs.Notes.{deed_of}
-use Rattle.operator_core.specs.Tasks.{unissued}
-use Rattle.operator_core.specs.Progresses.{state, own_part_of, IsKnown, SameScript, HeldUpTo, IssuesGraft, Visits}
-use Rattle.operator_core.proofs.Lists.{all_append, all_append_right, all_map, length_set}
-use Rattle.operator_core.proofs.Tasks.{done, split_at, split_done, before_done, before_more, before_same}
-use Rattle.operator_core.proofs.Steps.{say_there, move_there, settle_there, as_many_routers, number_at}
-use Rattle.operator_core.proofs.Issues.{waits, say_keeps, say_row, graft_keeps, graft_row, held_still}
+use Rattle.operator_core.specs.Progresses.{state, own_part_of, IsKnown, SameScript, HeldUpTo, IsOrderOf, IssuesGraft, Visits}
+use Rattle.operator_core.proofs.Lists.{all_append, all_map, length_set, one_member}
+use Rattle.operator_core.proofs.SlotLaws.{slot_next}
+use Rattle.operator_core.proofs.Tasks.{split_at, split_done, before_done, before_more, before_same}
+use Rattle.operator_core.proofs.Steps.{say_there, settle_there, number_there, graft_task, as_many_routers}
+use Rattle.operator_core.proofs.Issues.{waits, say_keeps, say_row, made_there, graft_keeps, graft_row, held_others}
 use Rattle.operator_core.proofs.Acts.{says, orders}
-use Rattle.graft_model.specs.declared.event.OperatorEvent.TheVariants.{Go, Order}
 
 pub same_script : (p : Progress) → SameScript p p
 same_script p = record { known = refl; script = refl; numbers = refl; group = refl; next = refl }
 
+pub same_then : (a b c : Progress) → SameScript a b → SameScript b c → SameScript a c
+same_then a b c h k = record { known = k.known ∙ h.known; script = k.script ∙ h.script; numbers = k.numbers ∙ h.numbers; group = k.group ∙ h.group; next = k.next ∙ h.next }
+
 -- an order is an event of another kind than the beginning of a group
-no_go : (step : ℕ) → (operator_code (Order step)).kind ≡ (operator_code Go).kind → ⊥
-no_go step e = omega (arith, e)
+no_go : (step number : ℕ) → (operator_code (Order step number)).kind ≡ (operator_code Go).kind → ⊥
+no_go step number e = omega (arith, e)
 
 next_place : (n : ℕ) → n + 1 ≡ suc n
 next_place n = omega arith
 
-module _ (old : Progress) (place : ℕ) (task : Task) (there : slice_get old.waiting.items place ≡ Some task) where
-  held_too : task.issued ≡ false → IsHeld (state old) task.step → HeldUpTo old place → HeldUpTo old (place + 1)
-  held_too waits held helds = subst (λ (ns : List ℕ). AllByRecursion (IsHeld (state old)) ns)
-      (sym (ap (λ n. unissued (take n old.waiting.items)) (next_place place) ∙ before_more old.waiting.items place task there waits))
-      (all_append (IsHeld (state old)) (unissued (take place old.waiting.items)) (task.step ∷ []) helds (held, tt))
+module _ (old : Progress) (place : ℕ) where
+  -- the tasks before a place that wait, and those behind it
+  abbrev kept : List Task
+  kept = unissued (take place old.tasks.items)
 
-  -- the steps that wait, about this one
-  split : task.issued ≡ false → (state old).waiting ≡ unissued (take place old.waiting.items) ++ task.step ∷ unissued (drop (suc place) old.waiting.items)
-  split waits = split_at old.waiting.items place task there waits
+  abbrev rest : List Task
+  rest = unissued (drop (suc place) old.tasks.items)
 
-module _ {C : Type 0} (old : Progress) (place : ℕ) (task : Task) (there : slice_get old.waiting.items place ≡ Some task) where
+  -- the state once the task there has a remote say something, or its graft is ordered
+  abbrev said : State
+  said = waiting_are (state old) (kept ++ rest)
+
+  abbrev ordered : ℕ → GraftEntry → Seat → State
+  ordered at_place entry seat = waiting_are (graft_issued (state old) at_place entry seat) (kept ++ rest)
+
+  module _ (task : Task) (there : slice_get old.tasks.items place ≡ Some task) (unissued_is : task.issued ≡ false) where
+    -- the tasks that wait, about this one
+    split : (state old).waiting ≡ kept ++ task ∷ rest
+    split = split_at old.tasks.items place task there unissued_is
+
+    it_waits : Keeps (state old) → HeldUpTo old place → Waits old.known.setup old.group old.next task
+    it_waits keeps helds = waits (state old) keeps kept rest task split helds
+
+    it_is_of_step : IsKnown old → Keeps (state old) → HeldUpTo old place → (number : ℕ) → IsOrderOf old task number → IsGraftTask old.known.setup task
+    it_is_of_step known keeps helds number is = graft_task old.known.setup old.script known.script old.group old.next task number (it_waits keeps helds) is
+
+module _ {C : Type 0} (old : Progress) (place : ℕ) (task : Task) (there : slice_get old.tasks.items place ≡ Some task) where
   -- ---- nothing happens
 
   stays : (post : Post (Item C)) → (IsKnown old → Keeps (state old) → HeldUpTo old place → HeldUpTo old (place + 1)) → Visits old place post old post
@@ -67,109 +89,112 @@ module _ {C : Type 0} (old : Progress) (place : ℕ) (task : Task) (there : slic
   }
 
   pub visit_done : (post : Post (Item C)) → task.issued ≡ true → Visits old place post old post
-  visit_done post is_done = stays post (λ known keeps helds. subst (λ (ns : List ℕ). AllByRecursion (IsHeld (state old)) ns)
-      (sym (ap (λ n. unissued (take n old.waiting.items)) (next_place place) ∙ before_same old.waiting.items place task there is_done)) helds)
+  visit_done post is_done = stays post (λ known keeps helds. subst (λ (ts : List Task). AllByRecursion (IsHeld (state old)) ts)
+      (sym (ap (λ n. unissued (take n old.tasks.items)) (next_place place) ∙ before_same old.tasks.items place task there is_done)) helds)
 
-  pub visit_held : (post : Post (Item C)) → task.issued ≡ false → (p : PeeringId) (target : RouterId) → slice_get old.script.steps task.step ≡ Some (Graft p target) → (seat : Seat) → slice_get old.seats.items p.0 ≡ Some seat
-      → seat.moving ≡ true → Visits old place post old post
-  visit_held post waits p target is seat seated moving = stays post (λ known keeps helds. held_too old place task there waits
-      (record { peering = p.0; target = target.0; is = move_there old.known.setup old.script known.script task.step p target is; seat = seat; seated = seated; moving = moving }) helds)
+  module _ (unissued_is : task.issued ≡ false) where
+    -- ---- it waits still
 
-  pub visit_settle : (post : Post (Item C)) → task.issued ≡ false → slice_get old.script.steps task.step ≡ Some Settle → Visits old place post old post
-  visit_settle post waits is = stays post (λ known keeps helds. absurd (
-      let all : AllByRecursion (Waits old.known.setup old.group old.next) (unissued (take place old.waiting.items) ++ task.step ∷ unissued (drop (suc place) old.waiting.items))
-      = subst (λ (ns : List ℕ). AllByRecursion (Waits old.known.setup old.group old.next) ns) (split old place task there waits) keeps.waiting in
-      let w : Waits old.known.setup old.group old.next task.step = (all_append_right (Waits old.known.setup old.group old.next) (unissued (take place old.waiting.items)) (task.step ∷ unissued (drop (suc place) old.waiting.items)) all).0 in
-      w.issuable (settle_there old.known.setup old.script known.script task.step is)))
-
-  -- ---- it is issued
-
-  module _ (numbers : ActorsHaveNumbers) (waits : task.issued ≡ false) (mid new : Progress) (mid_new : SameScript mid new) (mid_state : state new ≡ waiting_are (state mid) (unissued new.waiting.items))
-      (done_is : new.waiting.items ≡ slice_set mid.waiting.items place (done task)) (before after : Post (Item C)) where
-    -- what waits then
-    left_is : mid.waiting.items ≡ old.waiting.items → unissued new.waiting.items ≡ unissued (take place old.waiting.items) ++ unissued (drop (suc place) old.waiting.items)
-    left_is same = ap unissued (done_is ∙ ap (λ tasks. slice_set tasks place (done task)) same) ∙ split_done old.waiting.items place task there
-
-    before_is : mid.waiting.items ≡ old.waiting.items → unissued (take (place + 1) new.waiting.items) ≡ unissued (take place old.waiting.items)
-    before_is same = ap (λ n. unissued (take n new.waiting.items)) (next_place place) ∙ ap (λ tasks. unissued (take (suc place) tasks)) (done_is ∙ ap (λ tasks. slice_set tasks place (done task)) same)
-        ∙ before_done old.waiting.items place task there
-
-    as_many_tasks : mid.waiting.items ≡ old.waiting.items → length new.waiting.items ≡ length old.waiting.items
-    as_many_tasks same = ap length done_is ∙ length_set mid.waiting.items place (done task) ∙ ap length same
-
-    then : (a b c : Progress) → SameScript a b → SameScript b c → SameScript a c
-    then a b c h k = record { known = k.known ∙ h.known; script = k.script ∙ h.script; numbers = k.numbers ∙ h.numbers; group = k.group ∙ h.group; next = k.next ∙ h.next }
-
-    pub visit_says : (p : PeeringId) → slice_get old.script.steps task.step ≡ Some (Say p) → SameScript old mid → mid.waiting.items ≡ old.waiting.items → state mid ≡ state old
-        → Wrote before (deed_of before (operator_code (Order task.step)) None ((length old.script.rooms + p.0, SayOrder task.step) ∷ []) ∷ []) after → Visits old place before new after
-    visit_says p is same waiting state_is wrote = record {
-      deeds = deed_of before (operator_code (Order task.step)) None ((length old.script.rooms + p.0, SayOrder task.step) ∷ []) ∷ [];
-      wrote = wrote;
-      none = (refl, tt);
-      no_go = (no_go task.step, tt);
-      same = then old mid new same mid_new;
-      as_many = as_many_tasks waiting;
-      keeps = λ known keeps helds. subst Keeps (sym whole) (
-          let found = say_there old.known.setup old.script known.script task.step p is in
-          say_keeps (state old) keeps (unissued (take place old.waiting.items)) (unissued (drop (suc place) old.waiting.items)) task.step (split old place task there waits) helds p.0 found.0 found.1);
-      held = λ known keeps helds. subst (λ (ns : List ℕ). AllByRecursion (IsHeld (state new)) ns) (sym (before_is waiting))
-          (subst (λ (s : State). AllByRecursion (IsHeld s) (unissued (take place old.waiting.items))) (sym whole)
-          (all_map (IsHeld (state old)) (IsHeld (waiting_are (state old) (unissued (take place old.waiting.items) ++ unissued (drop (suc place) old.waiting.items)))) (unissued (take place old.waiting.items))
-          (λ m h. record { peering = h.peering; target = h.target; is = h.is; seat = h.seat; seated = h.seated; moving = h.moving }) helds));
-      replay = λ known keeps helds session. (
-          let found = say_there old.known.setup old.script known.script task.step p is in (
-            own_part_of (waiting_are (state old) (unissued (take place old.waiting.items) ++ unissued (drop (suc place) old.waiting.items))),
-            says session old.known.setup (part_of (state old)) (part_of (waiting_are (state old) (unissued (take place old.waiting.items) ++ unissued (drop (suc place) old.waiting.items)))) (clock_of before + 1) (actor_of before)
-                numbers task.step p.0 (length old.script.rooms + p.0) (keeps.sound.says task.step p.0 found.0 found.1) (ap (λ k. k + p.0) (as_many_routers old.known.setup old.script known.script))
-                (say_row (state old) keeps (unissued (take place old.waiting.items)) (unissued (drop (suc place) old.waiting.items)) task.step (split old place task there waits) helds p.0 found.0 found.1),
-            ap own_part_of whole,
-          ));
-    }
+    pub visit_held : (post : Post (Item C)) (moves : Move) → move_of (slot_at old.slots.items task.graft) ≡ Some moves → (seat : Seat) → slice_get old.seats.items moves.peering.0 ≡ Some seat
+        → seat.moving ≡ true → Visits old place post old post
+    visit_held post moves made seat seated moving = stays post (λ known keeps helds. subst (λ (ts : List Task). AllByRecursion (IsHeld (state old)) ts)
+        (sym (ap (λ n. unissued (take n old.tasks.items)) (next_place place) ∙ before_more old.tasks.items place task there unissued_is))
+        (all_append (IsHeld (state old)) (kept old place) (task ∷ []) helds (held (slot_at old.slots.items task.graft) refl made, tt)))
       where
-        whole : state new ≡ waiting_are (state old) (unissued (take place old.waiting.items) ++ unissued (drop (suc place) old.waiting.items))
-        whole = mid_state ∙ ap (λ (s : State). waiting_are s (unissued new.waiting.items)) state_is ∙ ap (waiting_are (state old)) (left_is waiting)
+        held : (o : Option Slot) → slot_at old.slots.items task.graft ≡ o → move_of o ≡ Some moves → IsHeld (state old) task
+        held None e made' = absurd cc
+        held (Some Unmade) e made' = absurd cc
+        held (Some (Stays k p router)) e made' = absurd cc
+        held (Some (Made entry)) e made' =
+            let same : record { peering = entry.peering; target = entry.target } ≡ moves = cc in
+            record { entry = entry; is = e; seat = seat; seated = ap (λ (m : Move). slice_get old.seats.items m.peering.0) same ∙ seated; moving = moving }
 
-    pub visit_orders : (p : PeeringId) (target : RouterId) → slice_get old.script.steps task.step ≡ Some (Graft p target) → (seat : Seat) → slice_get old.seats.items p.0 ≡ Some seat → seat.moving ≡ false
-        → IssuesGraft old task.step p target before mid after → Visits old place before new after
-    visit_orders p target is seat seated still issued = record {
-      deeds = deed_of before (operator_code (Order task.step)) None ((issued.seat.place.0, GraftOrder (slice_index_or old.numbers task.step 0) p target) ∷ []) ∷ [];
-      wrote = issued.wrote;
-      none = (refl, tt);
-      no_go = (no_go task.step, tt);
-      same = then old mid new issued.same mid_new;
-      as_many = as_many_tasks issued.waiting;
-      keeps = λ known keeps helds. subst Keeps (sym (whole known))
-          (graft_keeps (state old) keeps (unissued (take place old.waiting.items)) (unissued (drop (suc place) old.waiting.items)) task.step (split old place task there waits) helds p.0 target.0 (move known) issued.seat issued.seated still_too);
-      held = λ known keeps helds. subst (λ (ns : List ℕ). AllByRecursion (IsHeld (state new)) ns) (sym (before_is issued.waiting))
-          (subst (λ (s : State). AllByRecursion (IsHeld s) (unissued (take place old.waiting.items))) (sym (whole known))
-          (all_map (IsHeld (state old))
-          (IsHeld (waiting_are (graft_issued (state old) (grafts_before old.known.setup task.step) p.0 target.0 issued.seat) (unissued (take place old.waiting.items) ++ unissued (drop (suc place) old.waiting.items)))) (unissued (take place old.waiting.items))
-          (held_still (state old) keeps (unissued (take place old.waiting.items)) (unissued (drop (suc place) old.waiting.items)) task.step (split old place task there waits) helds p.0 target.0 (move known) issued.seat issued.seated still_too) helds));
-      replay = λ known keeps helds session. ((
-        own_part_of (waiting_are (graft_issued (state old) (grafts_before old.known.setup task.step) p.0 target.0 issued.seat) (unissued (take place old.waiting.items) ++ unissued (drop (suc place) old.waiting.items))),
-        orders session old.known.setup (part_of (state old))
-            (part_of (waiting_are (graft_issued (state old) (grafts_before old.known.setup task.step) p.0 target.0 issued.seat) (unissued (take place old.waiting.items) ++ unissued (drop (suc place) old.waiting.items))))
-            (clock_of before + 1) (actor_of before) numbers task.step (slice_index_or old.numbers task.step 0) p target issued.seat.place (keeps.seats.each p.0 issued.seat issued.seated).there (number_is known)
-            (graft_row (state old) keeps (unissued (take place old.waiting.items)) (unissued (drop (suc place) old.waiting.items)) task.step (split old place task there waits) helds p.0 target.0 (move known) issued.seat issued.seated still_too),
-        ap own_part_of (whole known),
-      ));
-    }
-      where
-        move : IsKnown old → slice_get old.known.setup.steps task.step ≡ Some (MoveStep p.0 target.0)
-        move known = move_there old.known.setup old.script known.script task.step p target is
+    pub visit_settle : (post : Post (Item C)) → slice_get old.script.steps task.step ≡ Some Settle → Visits old place post old post
+    visit_settle post is = stays post (λ known keeps helds. absurd ((it_waits old place task there unissued_is keeps helds).issuable (settle_there old.known.setup old.script known.script task.step is)))
 
-        one : (o : Option Seat) (x y : Seat) → o ≡ Some x → o ≡ Some y → x ≡ y
-        one o x y e f = cc
+    -- a graft's task whose graft isn't made isn't there
+    pub visit_unmade : (post : Post (Item C)) (number : ℕ) → IsOrderOf old task number → move_of (slot_at old.slots.items task.graft) ≡ None → Visits old place post old post
+    visit_unmade post number is unmade = stays post (λ known keeps helds. absurd (
+        let made = made_there (state old) keeps (kept old place) (rest old place) task (split old place task there unissued_is) helds (it_is_of_step old place task there unissued_is known keeps helds number is) in
+        let e : Some made.0 ≡ None = sym made.1 ∙ unmade in cc))
 
-        still_too : issued.seat.moving ≡ false
-        still_too = ap (λ (x : Seat). x.moving) (one (slice_get old.seats.items p.0) issued.seat seat issued.seated seated) ∙ still
+    -- ---- it is issued
 
-        number_is : IsKnown old → slice_index_or old.numbers task.step 0 ≡ graft_number old.known.setup task.step
-        number_is known = number_at old.known.setup old.script known.script old.numbers known.numbers task.step (slice_get_within old.script.steps task.step (Graft p target) is)
+    module _ (numbers : ActorsHaveNumbers) (mid new : Progress) (mid_new : SameScript mid new) (mid_state : state new ≡ waiting_are (state mid) (unissued new.tasks.items))
+        (done_is : new.tasks.items ≡ slice_set mid.tasks.items place (done task)) (before after : Post (Item C)) where
+      -- what waits then
+      left_is : mid.tasks.items ≡ old.tasks.items → unissued new.tasks.items ≡ kept old place ++ rest old place
+      left_is same = ap unissued (done_is ∙ ap (λ tasks. slice_set tasks place (done task)) same) ∙ split_done old.tasks.items place task there
 
-        place_is : IsKnown old → slice_index_or old.numbers task.step 0 - 1 ≡ grafts_before old.known.setup task.step
-        place_is known = let h : slice_index_or old.numbers task.step 0 ≡ grafts_before old.known.setup task.step + 1 = number_is known in omega arith
+      before_is : mid.tasks.items ≡ old.tasks.items → unissued (take (place + 1) new.tasks.items) ≡ kept old place
+      before_is same = ap (λ n. unissued (take n new.tasks.items)) (next_place place) ∙ ap (λ tasks. unissued (take (suc place) tasks)) (done_is ∙ ap (λ tasks. slice_set tasks place (done task)) same)
+          ∙ before_done old.tasks.items place task there
 
-        whole : IsKnown old → state new ≡ waiting_are (graft_issued (state old) (grafts_before old.known.setup task.step) p.0 target.0 issued.seat) (unissued (take place old.waiting.items) ++ unissued (drop (suc place) old.waiting.items))
-        whole known = mid_state ∙ ap (λ (s : State). waiting_are s (unissued new.waiting.items)) (issued.changes ∙ ap (λ k. graft_issued (state old) k p.0 target.0 issued.seat) (place_is known))
-            ∙ ap (waiting_are (graft_issued (state old) (grafts_before old.known.setup task.step) p.0 target.0 issued.seat)) (left_is issued.waiting)
+      as_many_tasks : mid.tasks.items ≡ old.tasks.items → length new.tasks.items ≡ length old.tasks.items
+      as_many_tasks same = ap length done_is ∙ length_set mid.tasks.items place (done task) ∙ ap length same
+
+      pub visit_says : (p : PeeringId) → slice_get old.script.steps task.step ≡ Some (Say p) → SameScript old mid → mid.tasks.items ≡ old.tasks.items → state mid ≡ state old
+          → Wrote before (deed_of before (operator_code (Order task.step 0)) None ((length old.script.rooms + p.0, SayOrder task.step) ∷ []) ∷ []) after → Visits old place before new after
+      visit_says p is same tasks state_is wrote = record {
+        deeds = deed_of before (operator_code (Order task.step 0)) None ((length old.script.rooms + p.0, SayOrder task.step) ∷ []) ∷ [];
+        wrote = wrote;
+        none = (refl, tt);
+        no_go = (no_go task.step 0, tt);
+        same = same_then old mid new same mid_new;
+        as_many = as_many_tasks tasks;
+        keeps = λ known keeps helds. subst Keeps (sym whole) (
+            let found = say_there old.known.setup old.script known.script task.step p is in
+            say_keeps (state old) keeps (kept old place) (rest old place) task (split old place task there unissued_is) helds p.0 found.0 found.1);
+        held = λ known keeps helds. subst (λ (ts : List Task). AllByRecursion (IsHeld (state new)) ts) (sym (before_is tasks))
+            (subst (λ (s : State). AllByRecursion (IsHeld s) (kept old place)) (sym whole)
+            (all_map (IsHeld (state old)) (IsHeld (said old place)) (kept old place) (λ m h. record { entry = h.entry; is = h.is; seat = h.seat; seated = h.seated; moving = h.moving }) helds));
+        replay = λ known keeps helds session. (
+            let found = say_there old.known.setup old.script known.script task.step p is in (
+              own_part_of (said old place),
+              says session old.known.setup (part_of (state old)) (part_of (said old place)) (clock_of before + 1) (actor_of before)
+                  numbers task.step p.0 (length old.script.rooms + p.0) (keeps.sound.says task.step p.0 found.0 found.1) (ap (λ k. k + p.0) (as_many_routers old.known.setup old.script known.script))
+                  (say_row (state old) keeps (kept old place) (rest old place) task (split old place task there unissued_is) helds p.0 found.0 found.1),
+              ap own_part_of whole,
+            ));
+      }
+        where
+          whole : state new ≡ (said old place)
+          whole = mid_state ∙ ap (λ (s : State). waiting_are s (unissued new.tasks.items)) state_is ∙ ap (waiting_are (state old)) (left_is tasks)
+
+      pub visit_orders : (moves : Move) (number : ℕ) → IsOrderOf old task number → move_of (slot_at old.slots.items task.graft) ≡ Some moves
+          → (seat : Seat) → slice_get old.seats.items moves.peering.0 ≡ Some seat → seat.moving ≡ false
+          → IssuesGraft old task moves number before mid after → Visits old place before new after
+      visit_orders moves number is made seat seated still issued = record {
+        deeds = deed_of before (operator_code (Order task.step number)) None ((issued.seat.place.0, GraftOrder task.graft issued.entry.peering issued.entry.target) ∷ []) ∷ [];
+        wrote = issued.wrote;
+        none = (refl, tt);
+        no_go = (no_go task.step number, tt);
+        same = same_then old mid new issued.same mid_new;
+        as_many = as_many_tasks issued.tasks;
+        keeps = λ known keeps helds. subst Keeps (sym whole)
+            (graft_keeps (state old) keeps (kept old place) (rest old place) task (split old place task there unissued_is) helds (it_is_of_step old place task there unissued_is known keeps helds number is) issued.place issued.is_place issued.entry issued.there issued.seat issued.seated still_too);
+        held = λ known keeps helds. subst (λ (ts : List Task). AllByRecursion (IsHeld (state new)) ts) (sym (before_is issued.tasks))
+            (subst (λ (s : State). AllByRecursion (IsHeld s) (kept old place)) (sym whole)
+            (held_others (state old) keeps (kept old place) (rest old place) task (split old place task there unissued_is) helds (it_is_of_step old place task there unissued_is known keeps helds number is) issued.place issued.is_place issued.entry issued.there issued.seat issued.seated still_too));
+        replay = λ known keeps helds session. (
+          own_part_of (ordered old place issued.place issued.entry issued.seat),
+          orders session old.known.setup (part_of (state old)) (part_of (ordered old place issued.place issued.entry issued.seat)) (clock_of before + 1) (actor_of before) numbers task.step number task.graft issued.entry.peering issued.entry.target
+              issued.seat.place (keeps.seats.each issued.entry.peering.0 issued.seat issued.seated).there
+              (graft_row (state old) keeps (kept old place) (rest old place) task (split old place task there unissued_is) helds (it_is_of_step old place task there unissued_is known keeps helds number is) issued.place issued.is_place issued.entry issued.there issued.seat issued.seated still_too number
+              (number_there old.known.setup old.script known.script task number is)),
+          ap own_part_of whole,
+        );
+      }
+        where
+          -- the entry is the one whose peering has the seat
+          names : record { peering = issued.entry.peering; target = issued.entry.target } ≡ moves
+          names = one (slot_at old.slots.items task.graft) (ap (slot_at old.slots.items) (sym issued.is_place) ∙ slot_next old.slots.items issued.place ∙ issued.there) made
+            where
+              one : (o : Option Slot) → o ≡ Some (Made issued.entry) → move_of o ≡ Some moves → record { peering = issued.entry.peering; target = issued.entry.target } ≡ moves
+              one o e f = let g : Some (record { peering = issued.entry.peering; target = issued.entry.target }) ≡ Some moves = sym (ap move_of e) ∙ f in cc
+
+          still_too : issued.seat.moving ≡ false
+          still_too = ap (λ (x : Seat). x.moving) (one_member (slice_get old.seats.items moves.peering.0) issued.seat seat (sym (ap (λ (m : Move). slice_get old.seats.items m.peering.0) names) ∙ issued.seated) seated) ∙ still
+
+          whole : state new ≡ ordered old place issued.place issued.entry issued.seat
+          whole = mid_state ∙ ap (λ (s : State). waiting_are s (unissued new.tasks.items)) issued.changes ∙ ap (waiting_are (graft_issued (state old) issued.place issued.entry issued.seat)) (left_is issued.tasks)

@@ -1,16 +1,16 @@
 -- The log of grafts, and what it says of sources and outcomes.
-use Rattle.std.specs.Prelude.{ℕ, zero, suc, ◌+◌, List, [], ◌∷◌, map, Bool, true, false, Option, Some, None, slice_get}
-use Rattle.std.specs.Option.{option_map, option_and_then}
+use Rattle.std.specs.Prelude.{ℕ, List, [], ◌∷◌, flat_map, Bool, true, false, Option, Some, None, slice_get}
+use Rattle.std.specs.Option.{option_map}
 use Rattle.graft_edge.specs.declared.ids.RouterId.{RouterId}
 use Rattle.graft_steps.specs.declared.log.GraftEntry.{GraftEntry}
 use Rattle.graft_steps.specs.declared.log.GraftStage.{GraftStage}
 use Rattle.graft_steps.specs.declared.log.GraftStage.TheVariants.{Waiting, Issued, Ended}
 use Rattle.graft_steps.specs.declared.refusal.Outcome.{Outcome}
-use Rattle.graft_model.specs.Setups.{Setup, ScriptGraft, grafts_in}
-use Rattle.graft_model.specs.Parts.{OperatorPart}
+use Rattle.graft_steps.specs.declared.refusal.Outcome.TheVariants.{Refused}
+use Rattle.graft_steps.specs.declared.refusal.Refusal.TheVariants.{NoTarget}
+use Rattle.graft_model.specs.Setups.{Setup, ScriptGraft, ScriptStep as StepOf, MoveStep, EvacuateStep, grafts_in}
+use Rattle.graft_model.specs.Parts.{Gift, Unmade, To, Stays, OperatorPart}
 use Rattle.operator_core.specs.declared.grafts.Seat.{Seat}
-use Rattle.operator_core.specs.declared.script.ScriptStep.{ScriptStep}
-use Rattle.operator_core.specs.declared.script.ScriptStep.TheVariants.{Say, Graft, Settle}
 
 -- ---- the log, as the operator's part of the world has it
 
@@ -20,20 +20,42 @@ stage_of source (Some outcome) = Ended outcome
 stage_of None None = Waiting
 stage_of (Some r) None = Issued
 
-abbrev pub entry_of : OperatorPart → ScriptGraft → GraftEntry
-entry_of part g = record {
+-- a graft that is made, with its target
+abbrev pub entry_of : OperatorPart → ScriptGraft → ℕ → GraftEntry
+entry_of part g target = record {
   graft = g.graft;
   peering = record { 0 = g.peering };
   source = option_map (λ r. record { 0 = r }) (part.source g.graft);
-  target = record { 0 = g.target };
+  target = record { 0 = target };
   stage = stage_of (part.source g.graft) (part.outcome g.graft);
 }
 
--- each graft of the script, in the order of their numbers
-abbrev pub log_of : Setup → OperatorPart → List GraftEntry
-log_of setup part = map (entry_of part) (grafts_in setup)
+-- a session of the router r, which is emptied, has no target: it stays there
+abbrev pub staying_entry : ScriptGraft → ℕ → GraftEntry
+staying_entry g r = record {
+  graft = g.graft;
+  peering = record { 0 = g.peering };
+  source = Some (record { 0 = r });
+  target = record { 0 = r };
+  stage = Ended (Refused NoTarget);
+}
 
--- ---- sources and outcomes, as the log has them
+abbrev pub given_entries : OperatorPart → ScriptGraft → Gift → List GraftEntry
+given_entries part g Unmade = []
+given_entries part g (To target) = entry_of part g target ∷ []
+given_entries part g (Stays router) = staying_entry g router ∷ []
+
+-- the entry of a graft of this step, if the log has one
+abbrev pub entries_by : OperatorPart → Option StepOf → ScriptGraft → List GraftEntry
+entries_by part (Some (MoveStep peering target)) g = entry_of part g target ∷ []
+entries_by part (Some (EvacuateStep router)) g = given_entries part g (part.given g.graft)
+entries_by part _ g = []
+
+-- the grafts of the script's graft steps, and those that its evacuate steps made as their groups began, in the order of their numbers
+abbrev pub log_of : Setup → OperatorPart → List GraftEntry
+log_of setup part = flat_map (λ g. entries_by part (slice_get setup.steps g.step) g) (grafts_in setup)
+
+-- ---- how far a graft is
 
 abbrev pub is_waiting : GraftStage → Bool
 is_waiting Waiting = true
@@ -50,25 +72,7 @@ outcome_at Waiting = None
 outcome_at Issued = None
 outcome_at (Ended outcome) = Some outcome
 
--- the entry of a graft: they are numbered from 1
-abbrev pub entry_at : List GraftEntry → ℕ → Option GraftEntry
-entry_at log zero = None
-entry_at log (suc k) = slice_get log k
-
-abbrev pub source_in : List GraftEntry → ℕ → Option ℕ
-source_in log k = option_and_then (λ entry. option_map (λ r. r.0) entry.source) (entry_at log k)
-
-abbrev pub outcome_in : List GraftEntry → ℕ → Option Outcome
-outcome_in log k = option_and_then (λ entry. outcome_at entry.stage) (entry_at log k)
-
 -- ---- before anything is ordered
-
--- the grafts of steps, numbered from one above this number on
-abbrev pub first_log : ℕ → List ScriptStep → List GraftEntry
-first_log k [] = []
-first_log k (Say p ∷ steps) = first_log k steps
-first_log k (Graft p target ∷ steps) = record { graft = k + 1; peering = p; source = None; target = target; stage = Waiting } ∷ first_log (k + 1) steps
-first_log k (Settle ∷ steps) = first_log k steps
 
 abbrev pub seat_at : RouterId → Seat
 seat_at place = record { place = place; moving = false }

@@ -1,23 +1,63 @@
 -- The steps of a group, and the numbers of grafts, over the steps of a script.
-use Rattle.std.specs.Prelude.{ℕ, ◌≡◌, ◌≢◌, ◌≤◌, ◌<◌, ◌+◌, List, length, filter, take, Bool, true, false, Some, slice_get, slice_index_or}
+use Rattle.std.specs.Prelude.{ℕ, ◌≡◌, ◌≢◌, ◌≤◌, ◌<◌, ◌+◌, ◌^◌, List, [], length, take, sum_by, flat_map, Option, Some, None, slice_get, slice_index_or}
 use Rattle.std.specs.List.{range_with_len}
+use Rattle.operator_core.specs.declared.evacuate.Gift.{Gift}
+use Rattle.operator_core.specs.declared.grafts.Seat.{Seat}
 use Rattle.operator_core.specs.declared.groups.Group.{Group}
+use Rattle.operator_core.specs.declared.groups.Task.{Task}
+use Rattle.operator_core.specs.declared.script.Script.{Script}
 use Rattle.operator_core.specs.declared.script.ScriptStep.{ScriptStep}
-use Rattle.operator_core.specs.declared.script.ScriptStep.TheVariants.{Say, Graft, Settle}
+use Rattle.operator_core.specs.declared.script.ScriptStep.TheVariants.{Say, Graft, Evacuate, Settle}
+use Rattle.operator_core.specs.Evacuate.{loads_of, gifts_by}
+use Rattle.operator_core.specs.Tasks.{tasks_by}
 
--- The places from this one on, up to the first step that ends a group, behind which the next group begins.
-pub record IsGroupFrom (steps : List ScriptStep) (from : ℕ) (group : Group) : Type 0 where
-  pub places : group.steps ≡ range_with_len from (length group.steps)
-  pub others : (n : ℕ) → from ≤ n → n < from + length group.steps → slice_get steps n ≢ Some Settle
-  pub settle : slice_get steps (from + length group.steps) ≡ Some Settle
-  pub next : group.next ≡ from + length group.steps + 1
+-- ---- numbers
 
-abbrev pub is_graft : ScriptStep → Bool
-is_graft (Say p) = false
-is_graft (Graft p target) = true
-is_graft Settle = false
+-- how many grafts a step has, in a laboratory of so many peerings
+abbrev pub grafts_by : ℕ → ScriptStep → ℕ
+grafts_by peerings (Say p) = 0
+grafts_by peerings (Graft p target) = 1
+grafts_by peerings (Evacuate router) = peerings
+grafts_by peerings Settle = 0
 
 -- at each place one more than grafts stand before it
-pub record AreNumbers (steps : List ScriptStep) (numbers : List ℕ) : Type 0 where
+pub record AreNumbers (peerings : ℕ) (steps : List ScriptStep) (numbers : List ℕ) : Type 0 where
   pub all : length numbers ≡ length steps
-  pub each : (n : ℕ) → n < length steps → slice_index_or numbers n 0 ≡ length (filter is_graft (take n steps)) + 1
+  pub each : (n : ℕ) → n < length steps → slice_index_or numbers n 0 ≡ sum_by (grafts_by peerings) (take n steps) + 1
+
+-- each place has a number, which is far from the greatest one
+pub record NumbersFit (steps : List ScriptStep) (numbers : List ℕ) : Type 0 where
+  pub all : length numbers ≡ length steps
+  pub each : (n : ℕ) → n < length steps → slice_index_or numbers n 0 + 256 < 2 ^ 32
+
+-- ---- a group
+
+-- The first step from this place on that ends a group.
+pub record EndsAfter (steps : List ScriptStep) (from end : ℕ) : Type 0 where
+  pub behind : from ≤ end
+  pub others : (n : ℕ) → from ≤ n → n < end → slice_get steps n ≢ Some Settle
+  pub settle : slice_get steps end ≡ Some Settle
+
+module _ (script : Script) (numbers : List ℕ) (seats : List Seat) where
+  -- what the step at a place gives
+  abbrev pub gifts_of_step : ℕ → Option ScriptStep → List Gift
+  gifts_of_step n None = []
+  gifts_of_step n (Some step) = gifts_by seats (loads_of seats (length script.rooms)) script.rooms (slice_index_or numbers n 0) step
+
+  abbrev pub tasks_of_step : ℕ → Option ScriptStep → List Task
+  tasks_of_step n None = []
+  tasks_of_step n (Some step) = tasks_by n (slice_index_or numbers n 0) step (gifts_of_step n (Some step))
+
+  abbrev pub gifts_at : ℕ → List Gift
+  gifts_at n = gifts_of_step n (slice_get script.steps n)
+
+  abbrev pub tasks_at : ℕ → List Task
+  tasks_at n = tasks_of_step n (slice_get script.steps n)
+
+  -- The group that begins at this place: the tasks of its steps in their order, and what they give. The next group begins behind the step that ends it.
+  pub record IsGroupFrom (from : ℕ) (group : Group) : Type 0 where
+    pub len : ℕ
+    pub ends : EndsAfter script.steps from (from + len)
+    pub tasks : group.tasks.items ≡ flat_map tasks_at (range_with_len from len)
+    pub gifts : group.gifts ≡ flat_map gifts_at (range_with_len from len)
+    pub next : group.next ≡ from + len + 1

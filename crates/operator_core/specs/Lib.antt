@@ -1,7 +1,9 @@
 pub mod Scripts
-pub mod Groups
-pub mod Tasks
 pub mod Grafts
+pub mod Slots
+pub mod Evacuate
+pub mod Tasks
+pub mod Groups
 pub mod States
 pub mod Keeps
 pub mod Issues

@@ -6,6 +6,7 @@ use Rattle.graft_steps.specs.declared.log.GraftStage.TheVariants.{Ended}
 use Rattle.graft_steps.specs.declared.refusal.Outcome.{Outcome}
 use Rattle.graft_steps.specs.declared.refusal.Outcome.TheVariants.{Accepted, Refused}
 use Rattle.operator_core.specs.declared.grafts.Seat.{Seat}
+use Rattle.operator_core.specs.declared.grafts.Slot.TheVariants.{Made}
 use Rattle.operator_core.specs.States.{State}
 
 abbrev pub ended_entry : GraftEntry → Outcome → GraftEntry
@@ -19,6 +20,7 @@ place_after (Refused refusal) place target = place
 abbrev pub still_seat : Outcome → RouterId → Seat → Seat
 still_seat outcome target seat = record { place = place_after outcome seat.place target; moving = false }
 
--- The graft at place k of the log has ended.
+-- The graft at a place has ended.
 abbrev pub graft_noted : State → ℕ → GraftEntry → Outcome → Seat → State
-graft_noted s k entry outcome seat = record s { log = slice_set s.log k (ended_entry entry outcome); seats = slice_set s.seats entry.peering.0 (still_seat outcome entry.target seat) }
+graft_noted s place entry outcome seat =
+    record s { slots = slice_set s.slots place (Made (ended_entry entry outcome)); seats = slice_set s.seats entry.peering.0 (still_seat outcome entry.target seat) }

@@ -1,8 +1,6 @@
 -- How far the operator is, as the program has it.
-use Rattle.std.specs.Prelude.{ℕ, ◌≡◌, ◌≤◌, ◌<◌, ◌+◌, ◌-◌, ◌↔◌, Bool, true, false, List, [], ◌∷◌, length, take, Option, Some, None, slice_get, slice_index_or}
+use Rattle.std.specs.Prelude.{ℕ, ◌≡◌, ◌≤◌, ◌<◌, ◌+◌, ◌-◌, ◌↔◌, Bool, true, false, List, [], ◌∷◌, length, take, Option, Some, None, slice_get}
 use Rattle.std.specs.List.{AllByRecursion}
-use Rattle.graft_edge.specs.declared.ids.PeeringId.{PeeringId}
-use Rattle.graft_edge.specs.declared.ids.RouterId.{RouterId}
 use Rattle.session_value.specs.Sessions.{SessionValue}
 use Rattle.ring_net.specs.declared.post.Post.{Post}
 use Rattle.ring_net.specs.Deeds.{Deed, Replay, TakesNone}
@@ -11,28 +9,37 @@ use Rattle.graft_steps.specs.declared.log.GraftEntry.{GraftEntry}
 use Rattle.graft_steps.specs.declared.refusal.Outcome.{Outcome}
 use Rattle.graft_steps.specs.declared.item.Item.{Item}
 use Rattle.graft_steps.specs.declared.item.Item.TheVariants.{GraftOrder}
+use Rattle.graft_model.specs.declared.event.OperatorEvent.TheVariants.{Order}
 use Rattle.graft_model.specs.Codes.{operator_code}
 use Rattle.graft_model.specs.First.{first_world}
-use Rattle.graft_actors.specs.declared.known.Known.{Known}
+use Rattle.graft_model.specs.Setups.{Setup, EvacuateStep, ScriptGraft, group_of, graft_at}
+use Rattle.graft_model.specs.Parts.{OperatorPart}
+use Rattle.graft_model.specs.Placements.{placement}
+use Rattle.graft_model.specs.Evacuations.{gift_to}
 use Rattle.graft_runs.specs.Actors.{OperatorIs, Operator as TheOperator}
+use Rattle.graft_actors.specs.declared.known.Known.{Known}
 use Rattle.graft_actors.specs.Acts.{OwnPart, acts}
+use Rattle.graft_actors.specs.Notes.{deed_of}
+use Rattle.operator_core.specs.declared.grafts.Move.{Move}
 use Rattle.operator_core.specs.declared.grafts.Seat.{Seat}
-use Rattle.operator_core.specs.declared.script.ScriptStep.TheVariants.{Graft, Settle}
+use Rattle.operator_core.specs.declared.grafts.Slot.{Slot}
+use Rattle.operator_core.specs.declared.grafts.Slot.TheVariants.{Made}
+use Rattle.operator_core.specs.declared.groups.Task.{Task}
 use Rattle.operator_core.specs.declared.progress.Progress.{Progress}
+use Rattle.operator_core.specs.declared.script.ScriptStep.{ScriptStep}
+use Rattle.operator_core.specs.declared.script.ScriptStep.TheVariants.{Graft, Evacuate, Settle}
+use Rattle.operator_core.specs.Grafts.{is_open}
 use Rattle.operator_core.specs.Scripts.{IsScriptOf}
 use Rattle.operator_core.specs.Tasks.{unissued}
-use Rattle.operator_core.specs.Grafts.{is_open}
-use Rattle.operator_core.specs.Notes.{graft_noted}
-use Rattle.operator_core.specs.Turns.{BeginNoGroup, NothingToOrder, IsHeldUp}
 use Rattle.operator_core.specs.Groups.{AreNumbers}
 use Rattle.operator_core.specs.States.{State, part_of}
 use Rattle.operator_core.specs.Keeps.{Keeps}
 use Rattle.operator_core.specs.Issues.{IsHeld, graft_issued}
-use Rattle.graft_actors.specs.Notes.{deed_of}
-use Rattle.graft_model.specs.declared.event.OperatorEvent.TheVariants.{Order}
+use Rattle.operator_core.specs.Notes.{graft_noted}
+use Rattle.operator_core.specs.Turns.{BeginNoGroup, NothingToOrder, IsHeldUp}
 
 abbrev pub state : Progress → State
-state p = record { setup = p.known.setup; group = p.group; next = p.next; waiting = unissued p.waiting.items; log = p.log; seats = p.seats.items }
+state p = record { setup = p.known.setup; group = p.group; next = p.next; waiting = unissued p.tasks.items; slots = p.slots.items; seats = p.seats.items }
 
 abbrev pub own_part_of : State → OwnPart
 own_part_of s = record { setup = s.setup; name = TheOperator; part = OperatorIs (part_of s) }
@@ -40,8 +47,9 @@ own_part_of s = record { setup = s.setup; name = TheOperator; part = OperatorIs 
 -- The script is that of the laboratory, with the numbers of its grafts, and its last step ends a group.
 pub record IsKnown (p : Progress) : Type 0 where
   pub script : IsScriptOf p.known.setup p.script
-  pub numbers : AreNumbers p.script.steps p.numbers
+  pub numbers : AreNumbers (length p.script.starts) p.script.steps p.numbers
   pub few : length p.script.rooms ≤ 256
+  pub peerings : length p.script.starts ≤ 256
   pub short : length p.script.steps ≤ 4097
   pub ended : slice_get p.script.steps (length p.script.steps - 1) ≡ Some Settle
 
@@ -55,18 +63,27 @@ pub record Begins (known : Known) (p : Progress) : Type 0 where
   pub sound : IsSound p
   pub part : part_of (state p) ≡ (first_world known.setup).operator
 
--- the peerings of grafts have seats
-abbrev pub HasSeats : Progress → Type 0
-HasSeats p = (n : ℕ) (peering : PeeringId) (target : RouterId) → slice_get p.script.steps n ≡ Some (Graft peering target) → peering.0 < length p.seats.items
+-- the peerings of grafts that are made have seats
+abbrev pub HaveSeats : Progress → Type 0
+HaveSeats p = (place : ℕ) (entry : GraftEntry) → slice_get p.slots.items place ≡ Some (Made entry) → entry.peering.0 < length p.seats.items
 
--- and entries in the log
-abbrev pub HasEntries : Progress → Type 0
-HasEntries p = (n : ℕ) (peering : PeeringId) (target : RouterId) → slice_get p.script.steps n ≡ Some (Graft peering target) → slice_index_or p.numbers n 0 - 1 < length p.log
+-- a graft is made at this place
+abbrev pub IsMadeAt : Progress → ℕ → Type 0
+IsMadeAt p place = (entry : GraftEntry) × (slice_get p.slots.items place ≡ Some (Made entry))
 
--- the place in the log of a graft of this number that is open
-abbrev pub IsOpenPlace : List GraftEntry → ℕ → Option ℕ → Type 0
-IsOpenPlace log graft None = (place : ℕ) (entry : GraftEntry) → slice_get log place ≡ Some entry → place + 1 ≡ graft → is_open entry.stage ≡ false
-IsOpenPlace log graft (Some place) = (entry : GraftEntry) × (slice_get log place ≡ Some entry) × (place + 1 ≡ graft) × (is_open entry.stage ≡ true)
+-- the place of a graft of this number that is open
+abbrev pub IsOpenPlace : List Slot → ℕ → Option ℕ → Type 0
+IsOpenPlace slots graft None = (place : ℕ) (entry : GraftEntry) → slice_get slots place ≡ Some (Made entry) → place + 1 ≡ graft → is_open entry.stage ≡ false
+IsOpenPlace slots graft (Some place) = (entry : GraftEntry) × (slice_get slots place ≡ Some (Made entry)) × (place + 1 ≡ graft) × (is_open entry.stage ≡ true)
+
+-- the number with which the order of a step's graft is noted
+abbrev pub IsNumberOf : Option ScriptStep → Task → ℕ → Type 0
+IsNumberOf (Some (Graft peering target)) task number = number ≡ 0
+IsNumberOf (Some (Evacuate router)) task number = number ≡ task.graft
+IsNumberOf _ task number = ⊥
+
+abbrev pub IsOrderOf : Progress → Task → ℕ → Type 0
+IsOrderOf p task number = IsNumberOf (slice_get p.script.steps task.step) task number
 
 -- what the script gives stays
 pub record SameScript (old new : Progress) : Type 0 where
@@ -76,33 +93,42 @@ pub record SameScript (old new : Progress) : Type 0 where
   pub group : new.group ≡ old.group
   pub next : new.next ≡ old.next
 
--- The graft at this place of the log ends.
+-- The graft at this place ends.
 pub record Ends (old : Progress) (place : ℕ) (outcome : Outcome) (new : Progress) : Type 0 where
   pub entry : GraftEntry
-  pub there : slice_get old.log place ≡ Some entry
+  pub there : slice_get old.slots.items place ≡ Some (Made entry)
   pub seat : Seat
   pub seated : slice_get old.seats.items entry.peering.0 ≡ Some seat
   pub same : SameScript old new
-  pub waiting : new.waiting.items ≡ old.waiting.items
+  pub tasks : new.tasks.items ≡ old.tasks.items
   pub changes : state new ≡ graft_noted (state old) place entry outcome seat
 
 -- of the tasks before this place, those that weren't issued are held up
 abbrev pub HeldUpTo : Progress → ℕ → Type 0
-HeldUpTo p place = AllByRecursion (IsHeld (state p)) (unissued (take place p.waiting.items))
+HeldUpTo p place = AllByRecursion (IsHeld (state p)) (unissued (take place p.tasks.items))
 
 pub record IsUnchanged (old new : Progress) : Type 0 where
   pub same : SameScript old new
   pub state_is : state new ≡ state old
 
+-- the group that begins has given the sessions of the routers that it empties to others, by where they belonged before
+abbrev pub AreEmptied : Setup → OperatorPart → OperatorPart → Type 0
+AreEmptied setup before after = (g : ScriptGraft) (router : ℕ) → graft_at setup g.graft ≡ Some g → slice_get setup.steps g.step ≡ Some (EvacuateStep router) → group_of setup g.step ≡ after.group
+    → after.given g.graft ≡ gift_to setup (placement setup before) router g.peering
+
 module _ {C : Type 0} where
-  -- The order of a graft goes to the place of its peering's seat, and the log has it.
-  pub record IssuesGraft (old : Progress) (step : ℕ) (peering : PeeringId) (target : RouterId) (before : Post (Item C)) (new : Progress) (after : Post (Item C)) : Type 0 where
+  -- The order of a task's graft goes to the place of its peering's seat, and the graft's slot has it.
+  pub record IssuesGraft (old : Progress) (task : Task) (moves : Move) (number : ℕ) (before : Post (Item C)) (new : Progress) (after : Post (Item C)) : Type 0 where
+    pub place : ℕ
+    pub is_place : place + 1 ≡ task.graft
+    pub entry : GraftEntry
+    pub there : slice_get old.slots.items place ≡ Some (Made entry)
     pub seat : Seat
-    pub seated : slice_get old.seats.items peering.0 ≡ Some seat
+    pub seated : slice_get old.seats.items entry.peering.0 ≡ Some seat
     pub same : SameScript old new
-    pub waiting : new.waiting.items ≡ old.waiting.items
-    pub changes : state new ≡ graft_issued (state old) (slice_index_or old.numbers step 0 - 1) peering.0 target.0 seat
-    pub wrote : Wrote before (deed_of before (operator_code (Order step)) None ((seat.place.0, GraftOrder (slice_index_or old.numbers step 0) peering target) ∷ []) ∷ []) after
+    pub tasks : new.tasks.items ≡ old.tasks.items
+    pub changes : state new ≡ graft_issued (state old) place entry seat
+    pub wrote : Wrote before (deed_of before (operator_code (Order task.step number)) None ((seat.place.0, GraftOrder task.graft entry.peering entry.target) ∷ []) ∷ []) after
 
   -- A task is visited, where those before it are issued or held up: it was issued, or is held up.
   pub record Visits (old : Progress) (place : ℕ) (before : Post (Item C)) (new : Progress) (after : Post (Item C)) : Type 0 where
@@ -111,7 +137,7 @@ module _ {C : Type 0} where
     pub none : AllByRecursion TakesNone deeds
     pub no_go : BeginNoGroup deeds
     pub same : SameScript old new
-    pub as_many : length new.waiting.items ≡ length old.waiting.items
+    pub as_many : length new.tasks.items ≡ length old.tasks.items
     pub keeps : IsKnown old → Keeps (state old) → HeldUpTo old place → Keeps (state new)
     pub held : IsKnown old → Keeps (state old) → HeldUpTo old place → HeldUpTo new (place + 1)
     pub replay : IsKnown old → Keeps (state old) → HeldUpTo old place → (session : C → SessionValue) → Replay (acts session) (actor_of before) (own_part_of (state old)) deeds (own_part_of (state new))
@@ -135,6 +161,7 @@ module _ {C : Type 0} where
     pub does : Does old before (deed ∷ []) new after
     pub takes : deed.taken ≡ Some (from, item)
 
+  -- The next group begins, unless it is held up: its evacuate steps give what they should.
   pub record Goes (old : Progress) (before : Post (Item C)) (new : Progress) (after : Post (Item C)) (answer : Bool) : Type 0 where
     pub deeds : List (Deed (Item C))
     pub does : Does old before deeds new after
@@ -142,3 +169,4 @@ module _ {C : Type 0} where
     pub made : (answer ≡ false) ↔ (deeds ≡ [])
     pub held : (answer ≡ false) ↔ IsHeldUp old.known.setup (part_of (state old))
     pub few : length deeds ≤ 1
+    pub emptied : answer ≡ true → AreEmptied old.known.setup (part_of (state old)) (part_of (state new))

@@ -1,31 +1,30 @@
 -- How far the operator is, as its part of the world.
-use Rattle.std.specs.Prelude.{ℕ, ◌==◌, ◌&&◌, nat_lt, not, List, Bool, true, false, Option, Some, None, slice_get}
-use Rattle.std.specs.List.{list_any}
-use Rattle.graft_steps.specs.declared.log.GraftEntry.{GraftEntry}
-use Rattle.graft_model.specs.Setups.{Setup, ScriptStep, SayStep, MoveStep, SettleStep}
+use Rattle.std.specs.Prelude.{ℕ, ◌&&◌, nat_lt, not, List, Bool, true, false, Option, Some, slice_get}
+use Rattle.graft_model.specs.Setups.{Setup, ScriptStep, SayStep}
 use Rattle.graft_model.specs.Parts.{OperatorPart}
 use Rattle.operator_core.specs.declared.grafts.Seat.{Seat}
-use Rattle.operator_core.specs.Grafts.{source_in, outcome_in}
+use Rattle.operator_core.specs.declared.grafts.Slot.{Slot}
+use Rattle.operator_core.specs.declared.groups.Task.{Task}
+use Rattle.operator_core.specs.Slots.{source_in, outcome_in, given_in}
+use Rattle.operator_core.specs.Tasks.{has_task}
 
--- the laboratory; the group at work, where the steps after it begin, and which of its steps wait; the log; and the seats
+-- the laboratory; the group at work, where the steps after it begin, and its tasks that weren't issued; the slots of grafts; and the seats
 pub record State : Type 0 where
   pub setup : Setup
   pub group : ℕ
   pub next : ℕ
-  pub waiting : List ℕ
-  pub log : List GraftEntry
+  pub waiting : List Task
+  pub slots : List Slot
   pub seats : List Seat
 
--- whether a step is one that is issued
-abbrev pub is_issuable : Option ScriptStep → Bool
-is_issuable None = false
-is_issuable (Some (SayStep p bytes)) = true
-is_issuable (Some (MoveStep p target)) = true
-is_issuable (Some SettleStep) = false
+-- whether a step has a remote say something
+abbrev pub is_say : Option ScriptStep → Bool
+is_say (Some (SayStep p bytes)) = true
+is_say _ = false
 
--- the steps of this group and of those before it were issued, but for those that wait
+-- the says of this group and of those before it were issued, but for those that wait
 abbrev pub issued_in : State → ℕ → Bool
-issued_in s n = is_issuable (slice_get s.setup.steps n) && nat_lt n s.next && not (list_any (λ m. m == n) s.waiting)
+issued_in s n = is_say (slice_get s.setup.steps n) && nat_lt n s.next && not (has_task s.waiting n 0)
 
 abbrev pub part_of : State → OperatorPart
-part_of s = record { group = s.group; issued = issued_in s; source = source_in s.log; outcome = outcome_in s.log }
+part_of s = record { group = s.group; issued = issued_in s; given = given_in s.setup s.slots; source = source_in s.slots; outcome = outcome_in s.slots }

@@ -1,11 +1,39 @@
--- The steps of a group that weren't issued.
-use Rattle.std.specs.Prelude.{ℕ, List, [], ◌∷◌, false, if◌then◌else◌}
+-- The tasks of a group.
+use Rattle.std.specs.Prelude.{ℕ, ◌==◌, ◌&&◌, Bool, true, false, List, [], ◌∷◌, if◌then◌else◌, is_some}
+use Rattle.std.specs.List.{list_any}
+use Rattle.operator_core.specs.declared.evacuate.Gift.{Gift}
 use Rattle.operator_core.specs.declared.groups.Task.{Task}
+use Rattle.operator_core.specs.declared.script.ScriptStep.{ScriptStep}
+use Rattle.operator_core.specs.declared.script.ScriptStep.TheVariants.{Say, Graft, Evacuate, Settle}
 
-abbrev pub task_for : ℕ → Task
-task_for step = record { step = step; issued = false }
+abbrev pub task_of : ℕ → ℕ → Task
+task_of step graft = record { step = step; graft = graft; issued = false }
 
--- the steps of tasks that weren't issued
-abbrev pub unissued : List Task → List ℕ
+abbrev pub done : Task → Task
+done task = record task { issued = true }
+
+-- those of some tasks that weren't issued
+abbrev pub unissued : List Task → List Task
 unissued [] = []
-unissued (task ∷ tasks) = if task.issued then unissued tasks else task.step ∷ unissued tasks
+unissued (task ∷ tasks) = if task.issued then unissued tasks else task ∷ unissued tasks
+
+-- whether a task is that of a step, and of the graft of this number, 0 where it has none
+abbrev pub is_task : ℕ → ℕ → Task → Bool
+is_task step graft task = (task.step == step) && (task.graft == graft)
+
+abbrev pub has_task : List Task → ℕ → ℕ → Bool
+has_task tasks step graft = list_any (is_task step graft) tasks
+
+-- ---- as a group begins
+
+-- a task for each graft that an evacuate step makes
+abbrev pub given_tasks : ℕ → List Gift → List Task
+given_tasks step [] = []
+given_tasks step (gift ∷ gifts) = if is_some gift.target then task_of step gift.graft ∷ given_tasks step gifts else given_tasks step gifts
+
+-- the tasks of the step at a place, whose first graft has this number, and which gives this
+abbrev pub tasks_by : ℕ → ℕ → ScriptStep → List Gift → List Task
+tasks_by place number (Say p) gifts = task_of place 0 ∷ []
+tasks_by place number (Graft p target) gifts = task_of place number ∷ []
+tasks_by place number (Evacuate router) gifts = given_tasks place gifts
+tasks_by place number Settle gifts = []

@@ -1,15 +1,14 @@
-//! The log of grafts, and where sessions belong by it.
+//! What the operator has for each graft of the script, and where sessions belong by it.
 
-ghost use Rattle.std.specs.Prelude.{◌≡◌, ◌≤◌, ◌<◌, length, map, IfOk, slice_set};
-ghost use Rattle.std.specs.List.{find};
-ghost use Rattle.std.specs.Option.{option_map};
-ghost use Rattle.operator_core.specs.Grafts.{first_log, is_open, seat_at};
+ghost use Rattle.std.specs.Prelude.{◌≡◌, ◌≤◌, ◌++◌, Some, length, map, IfOk, OnOk};
+ghost use Rattle.std.specs.List.{flat_map};
+ghost use Rattle.operator_core.specs.Grafts.{is_open, seat_at};
+ghost use Rattle.operator_core.specs.Slots.{move_of, open_graft as open_graft_lem, first_open as first_open_lem, entries_of, issued_slot, ended_slot, waiting_entry as waiting_entry_lem, unmade_slots, first_slots as first_slots_lem};
 
 use crate::script::ScriptStep;
-use graft_edge::{Items, NoMemory, RouterId};
-use graft_steps::{GraftEntry, GraftLog, GraftStage};
+use graft_edge::{Items, NoMemory, PeeringId, RouterId, TryCopy};
+use graft_steps::{GraftEntry, GraftLog, GraftStage, Outcome, Refusal};
 use std::alloc::Global;
-use std::mem;
 
 /// Where the session of a peering belongs by the log, and whether a graft of it was ordered that hasn't
 /// ended.
@@ -19,29 +18,75 @@ pub(crate) struct Seat {
     pub(crate) moving: bool,
 }
 
-/// The log of a script's grafts, of which none is ordered.
-pub(crate) fn waiting_log(alloc: Global, steps: &[ScriptStep]) -> Result<GraftLog, NoMemory>
-    requires short { length steps.now ≤ 4097 }
-    ensures { IfOk result (λ log. log ≡ first_log 0 steps.now) }
+/// What the operator has for the number of a graft.
+#[derive(Debug, Drop)]
+pub(crate) enum Slot {
+    /// The evacuate step has no graft of this number: its group hasn't begun, or the session belonged
+    /// elsewhere.
+    Unmade,
+    /// The router is emptied, and no other router had a free place for the session.
+    Stays {
+        graft: u32,
+        peering: PeeringId,
+        router: RouterId,
+    },
+    /// The graft is made.
+    Made(GraftEntry),
+}
+
+/// Which session a graft moves, and where to.
+#[derive(Clone, Copy, Debug, PartialEq, Eq, Hash)]
+pub(crate) struct Move {
+    pub(crate) peering: PeeringId,
+    pub(crate) target: RouterId,
+}
+
+/// The entry of a graft that wasn't ordered yet.
+pub(crate) fn waiting_entry(graft: u32, moves: Move) -> GraftEntry
+    ensures { result ≡ waiting_entry_lem graft moves }
 {
-    let mut log = Items::new(alloc);
-    let mut graft = 0u32;
+    GraftEntry {
+        graft,
+        peering: moves.peering,
+        source: None,
+        target: moves.target,
+        stage: GraftStage::Waiting,
+    }
+}
+
+/// Adds so many slots without a graft.
+fn add_unmade(slots: &mut Vec<Slot>, count: usize) -> Result<(), NoMemory>
+    ensures { OnOk result (slots.new.items ≡ slots.old.items ++ unmade_slots count) }
+{
+    for _ in 0..count {
+        slots.push(Slot::Unmade)?;
+    }
+    Ok(())
+}
+
+/// The slots of a script before any of its groups begins: the graft of a graft step waits, and an evacuate
+/// step has a slot for each of so many peerings.
+pub(crate) fn first_slots(
+    alloc: Global,
+    steps: &[ScriptStep],
+    peerings: usize,
+) -> Result<Vec<Slot>, NoMemory>
+    requires short { length steps.now ≤ 4097 }
+    requires few { peerings ≤ 256 }
+    ensures { IfOk result (λ slots. slots.items ≡ first_slots_lem peerings 0 steps.now) }
+{
+    let mut slots = Vec::new(alloc);
     for step in steps {
         match *step {
             ScriptStep::Graft { peering, target } => {
-                graft += 1;
-                log.push(GraftEntry {
-                    graft,
-                    peering,
-                    source: None,
-                    target,
-                    stage: GraftStage::Waiting,
-                })?;
+                let graft = slots.len() as u32 + 1;
+                slots.push(Slot::Made(waiting_entry(graft, Move { peering, target })))?;
             }
+            ScriptStep::Evacuate { .. } => add_unmade(&mut slots, peerings)?,
             ScriptStep::Say { .. } | ScriptStep::Settle => {}
         }
     }
-    Ok(log)
+    Ok(slots)
 }
 
 /// The seats of sessions that are where they start.
@@ -55,31 +100,95 @@ pub(crate) fn first_seats(alloc: Global, starts: &[RouterId]) -> Result<Vec<Seat
     Ok(starts.iter().map(seat).collect(alloc)?)
 }
 
-/// Replaces an entry of the log.
-pub(crate) fn set_entry(alloc: Global, log: &mut GraftLog, index: usize, entry: GraftEntry)
-    requires { index < length log.old }
-    ensures { log.new ≡ slice_set log.old index entry }
+/// What a graft moves, if it is made.
+pub(crate) fn moved(slot: &Slot) -> Option<Move>
+    ensures { result ≡ move_of (Some slot.now) }
 {
-    let mut entries = mem::replace(log, Items::new(alloc)).into_vec();
-    entries[index] = entry;
-    *log = Items::from_vec(entries);
+    match slot {
+        Slot::Made(entry) => Some(Move {
+            peering: entry.peering,
+            target: entry.target,
+        }),
+        Slot::Unmade | Slot::Stays { .. } => None,
+    }
+}
+
+/// Notes that a graft was ordered at this router.
+pub(crate) fn issue(slot: &mut Slot, source: RouterId)
+    ensures { slot.new ≡ issued_slot slot.old source }
+{
+    if let Slot::Made(entry) = slot {
+        entry.source = Some(source);
+        entry.stage = GraftStage::Issued;
+    }
+}
+
+/// Notes how a graft ended.
+pub(crate) fn end(slot: &mut Slot, outcome: Outcome)
+    ensures { slot.new ≡ ended_slot slot.old outcome }
+{
+    if let Slot::Made(entry) = slot {
+        entry.stage = GraftStage::Ended(outcome);
+    }
 }
 
 /// Whether a graft was ordered and hasn't ended.
-pub(crate) fn is_issued(stage: &GraftStage) -> bool
+fn is_issued(stage: &GraftStage) -> bool
     ensures { result ≡ is_open stage.now }
 {
     matches!(stage, GraftStage::Issued)
 }
 
-/// The number of the first graft in the log that was ordered and hasn't ended.
-pub(crate) fn first_open(log: &[GraftEntry]) -> Option<u32>
-    ensures { result ≡ option_map (λ entry. entry.graft) (find (λ entry. is_open entry.stage) log.now) }
+/// The number of a graft that was ordered and hasn't ended.
+pub(crate) fn open_graft(slot: &Slot) -> Option<u32>
+    ensures { result ≡ open_graft_lem slot.now }
 {
-    for entry in log {
-        if is_issued(&entry.stage) {
-            return Some(entry.graft);
+    match slot {
+        Slot::Made(entry) => is_issued(&entry.stage).then_some(entry.graft),
+        Slot::Unmade | Slot::Stays { .. } => None,
+    }
+}
+
+/// The number of the first graft that was ordered and hasn't ended.
+pub(crate) fn first_open(slots: &[Slot]) -> Option<u32>
+    ensures { result ≡ first_open_lem slots.now }
+{
+    for slot in slots {
+        if let Some(graft) = open_graft(slot) {
+            return Some(graft);
         }
     }
     None
+}
+
+/// Adds what the log has for a slot.
+fn add_entry(log: &mut GraftLog, slot: &Slot) -> Result<(), NoMemory>
+    ensures { OnOk result (log.new ≡ log.old ++ entries_of slot.now) }
+{
+    match slot {
+        Slot::Made(entry) => log.push(entry.copy()?),
+        Slot::Stays {
+            graft,
+            peering,
+            router,
+        } => log.push(GraftEntry {
+            graft: *graft,
+            peering: *peering,
+            source: Some(*router),
+            target: *router,
+            stage: GraftStage::Ended(Outcome::Refused(Refusal::NoTarget)),
+        }),
+        Slot::Unmade => Ok(()),
+    }
+}
+
+/// The log of what is in the slots.
+pub(crate) fn logged(alloc: Global, slots: &[Slot]) -> Result<GraftLog, NoMemory>
+    ensures { IfOk result (λ log. log ≡ flat_map entries_of slots.now) }
+{
+    let mut log = Items::new(alloc);
+    for slot in slots {
+        add_entry(&mut log, slot)?;
+    }
+    Ok(log)
 }

@@ -1,38 +1,43 @@
 //! The groups of a script, and the numbers of its grafts.
 
-ghost use Rattle.std.specs.Prelude.{◌≡◌, ◌≤◌, ◌<◌, ◌-◌, length, IfOk, slice_get, map, not, filter};
+ghost use Rattle.std.specs.Prelude.{◌≡◌, ◌≤◌, ◌<◌, ◌-◌, ◌+◌, ◌^◌, ◌++◌, length, OnOk, IfOk, slice_get, not, filter};
 ghost use Rattle.std.specs.List.{list_any};
-ghost use Rattle.operator_core.specs.Tasks.{task_for};
-ghost use Rattle.operator_core.specs.Groups.{IsGroupFrom, AreNumbers};
+ghost use Rattle.operator_core.specs.Tasks.{task_of, tasks_by, given_tasks};
+ghost use Rattle.operator_core.specs.Evacuate.{gifts_by};
+ghost use Rattle.operator_core.specs.Groups.{grafts_by as grafts_by_lem, AreNumbers, EndsAfter, IsGroupFrom, NumbersFit};
 
-use crate::script::ScriptStep;
+use crate::evacuate::{Gift, Gifts, gifts_from, loads_of};
+use crate::grafts::Seat;
+use crate::script::{Script, ScriptStep};
 use graft_edge::{Items, NoMemory};
 use std::alloc::Global;
 
-/// The steps of a group that are to be issued, by their places in the script, and where the steps after
-/// the group begin.
-#[derive(Drop)]
-pub(crate) struct Group {
-    pub(crate) steps: Items<u32>,
-    pub(crate) next: usize,
-}
-
-/// A step of the group at work, by its place in the script, and whether it was issued.
+/// What is to be ordered in the group at work: the place of the step in the script, the number of the
+/// graft, 0 where a remote is to say something, and whether it was ordered.
 #[derive(Clone, Copy, Debug, PartialEq, Eq, Hash)]
 pub(crate) struct Task {
     pub(crate) step: u32,
+    pub(crate) graft: u32,
     pub(crate) issued: bool,
 }
 
-/// The tasks of these steps, of which none was issued.
-pub(crate) fn new_tasks(alloc: Global, steps: &[u32]) -> Result<Vec<Task>, NoMemory>
-    ensures { IfOk result (λ tasks. tasks.items ≡ map task_for steps.now) }
+/// A group as it begins: its tasks, what its evacuate steps give, and where the steps after it begin.
+#[derive(Drop)]
+pub(crate) struct Group {
+    pub(crate) tasks: Vec<Task>,
+    pub(crate) gifts: Gifts,
+    pub(crate) next: usize,
+}
+
+fn new_task(step: usize, graft: u32) -> Task
+    requires { step < 4097 }
+    ensures { result ≡ task_of step graft }
 {
-    let task = |step: &u32| Task {
-        step: *step,
+    Task {
+        step: step as u32,
+        graft,
         issued: false,
-    };
-    Ok(steps.iter().map(task).collect(alloc)?)
+    }
 }
 
 /// Whether some task wasn't issued.
@@ -49,49 +54,141 @@ pub(crate) fn drop_issued(tasks: &mut Vec<Task>)
     tasks.retain(|task| !task.issued);
 }
 
-/// The group that begins at the place `from`. The last step ends a group.
-pub(crate) fn group_from(
-    alloc: Global,
-    steps: &[ScriptStep],
-    from: usize,
-) -> Result<Group, NoMemory>
-    requires short { length steps.now ≤ 4097 }
-    requires within { from < length steps.now }
-    requires ended { slice_get steps.now (length steps.now - 1) ≡ Some ScriptStep.Settle }
-    ensures { IfOk result (IsGroupFrom steps.now from) }
+/// Adds a task for each graft that an evacuate step makes.
+fn add_given(tasks: &mut Vec<Task>, step: usize, gifts: &[Gift]) -> Result<(), NoMemory>
+    requires { step < 4097 }
+    ensures { OnOk result (tasks.new.items ≡ tasks.old.items ++ given_tasks step gifts.now) }
 {
-    let mut group = Items::new(alloc);
-    for k in from..steps.len() {
-        match steps[k] {
-            ScriptStep::Settle => {
-                return Ok(Group {
-                    steps: group,
-                    next: k + 1,
-                });
-            }
-            ScriptStep::Say { .. } | ScriptStep::Graft { .. } => group.push(k as u32)?,
+    for gift in gifts {
+        if gift.target.is_some() {
+            tasks.push(new_task(step, gift.graft))?;
         }
     }
+    Ok(())
+}
+
+/// Adds the tasks of the step at a place of the script, whose first graft has this number, and which gives
+/// this.
+fn add_tasks(
+    tasks: &mut Vec<Task>,
+    place: usize,
+    step: ScriptStep,
+    number: u32,
+    gifts: &[Gift],
+) -> Result<(), NoMemory>
+    requires { place < 4097 }
+    ensures { OnOk result (tasks.new.items ≡ tasks.old.items ++ tasks_by place number step gifts.now) }
+{
+    match step {
+        ScriptStep::Say { .. } => Ok(tasks.push(new_task(place, 0))?),
+        ScriptStep::Graft { .. } => Ok(tasks.push(new_task(place, number))?),
+        ScriptStep::Evacuate { .. } => add_given(tasks, place, gifts),
+        ScriptStep::Settle => Ok(()),
+    }
+}
+
+/// What a step gives, whose first graft has this number.
+fn step_gifts(
+    alloc: Global,
+    step: ScriptStep,
+    number: u32,
+    seats: &[Seat],
+    loads: &[u32],
+    rooms: &[u32],
+) -> Result<Gifts, NoMemory>
+    requires few { length seats.now ≤ 256 }
+    requires numbered { number + 256 < 2 ^ 32 }
+    requires same_length { length rooms.now ≡ length loads.now }
+    requires routers { length loads.now ≤ 256 }
+    ensures { IfOk result (λ gifts. gifts ≡ gifts_by seats.now loads.now rooms.now number step) }
+{
+    match step {
+        ScriptStep::Evacuate { router } => {
+            gifts_from(alloc, number, router, seats, loads, rooms)
+        }
+        ScriptStep::Say { .. } | ScriptStep::Graft { .. } | ScriptStep::Settle => {
+            Ok(Items::new(alloc))
+        }
+    }
+}
+
+/// The place of the first step from `from` on that ends a group. The last step does.
+fn group_end(steps: &[ScriptStep], from: usize) -> usize
+    requires within { from < length steps.now }
+    requires ended { slice_get steps.now (length steps.now - 1) ≡ Some ScriptStep.Settle }
+    ensures { EndsAfter steps.now from result }
+{
+    for place in from..steps.len() {
+        if let ScriptStep::Settle = steps[place] {
+            return place;
+        }
+    }
+    steps.len()
+}
+
+/// The group that begins at the place `from` of the script, where sessions belong at these seats.
+pub(crate) fn group_from(
+    alloc: Global,
+    script: &Script,
+    numbers: &[u32],
+    seats: &[Seat],
+    from: usize,
+) -> Result<Group, NoMemory>
+    requires few { length seats.now ≤ 256 }
+    requires routers { length script.now.rooms ≤ 256 }
+    requires short { length script.now.steps ≤ 4097 }
+    requires numbered { NumbersFit script.now.steps numbers.now }
+    requires within { from < length script.now.steps }
+    requires ended { slice_get script.now.steps (length script.now.steps - 1) ≡ Some ScriptStep.Settle }
+    ensures { IfOk result (IsGroupFrom script.now numbers.now seats.now from) }
+{
+    let rooms = script.rooms.as_slice();
+    let steps = script.steps.as_slice();
+    let counts = loads_of(alloc, seats, rooms.len())?;
+    let loads = counts.as_slice();
+    let end = group_end(steps, from);
+    let mut tasks = Vec::new(alloc);
+    let mut gifts = Items::new(alloc);
+    for place in from..end {
+        let (step, number) = (steps[place], numbers[place]);
+        let given = step_gifts(alloc, step, number, seats, loads, rooms)?;
+        add_tasks(&mut tasks, place, step, number, given.as_slice())?;
+        gifts.extend(given.as_slice())?;
+    }
     Ok(Group {
-        steps: group,
-        next: steps.len(),
+        tasks,
+        gifts,
+        next: end + 1,
     })
 }
 
-/// For each place of the script, the number that a graft there has or would have: one more than grafts
-/// stand before it.
-pub(crate) fn graft_numbers(alloc: Global, steps: &[ScriptStep]) -> Result<Items<u32>, NoMemory>
+/// How many grafts a step has, in a laboratory of so many peerings.
+fn grafts_by(step: ScriptStep, peerings: u32) -> u32
+    ensures { result ≡ grafts_by_lem peerings step }
+{
+    match step {
+        ScriptStep::Graft { .. } => 1,
+        ScriptStep::Evacuate { .. } => peerings,
+        ScriptStep::Say { .. } | ScriptStep::Settle => 0,
+    }
+}
+
+/// For each place of the script, the number that the first graft there has or would have: one more than
+/// grafts stand before it.
+pub(crate) fn graft_numbers(
+    alloc: Global,
+    steps: &[ScriptStep],
+    peerings: u32,
+) -> Result<Items<u32>, NoMemory>
     requires short { length steps.now ≤ 4097 }
-    ensures { IfOk result (AreNumbers steps.now) }
+    requires few { peerings ≤ 256 }
+    ensures { IfOk result (AreNumbers peerings steps.now) }
 {
     let mut numbers = Items::new(alloc);
     let mut next = 1u32;
     for step in steps {
         numbers.push(next)?;
-        match *step {
-            ScriptStep::Graft { .. } => next += 1,
-            ScriptStep::Say { .. } | ScriptStep::Settle => {}
-        }
+        next += grafts_by(*step, peerings);
     }
     Ok(numbers)
 }

@@ -2,6 +2,7 @@
 //! sessions are to move, and keeps the log of grafts.
 #![tactic(auto)]
 
+mod evacuate;
 mod grafts;
 mod groups;
 mod operator;

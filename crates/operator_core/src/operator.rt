@@ -1,6 +1,6 @@
 //! The operator.
 
-ghost use Rattle.std.specs.Prelude.{◌≡◌, ◌↔◌, false, OnOk, IfOk};
+ghost use Rattle.std.specs.Prelude.{◌≡◌, ◌↔◌, ℕ, true, false, Some, OnOk, IfOk, slice_get};
 ghost use Rattle.std.specs.List.{AllByRecursion-prop};
 ghost use Rattle.std.proofs.Props.{props};
 ghost use Rattle.ring_net.specs.Posts.{TookItem, Moved, Pauses, SameEdges};
@@ -13,11 +13,12 @@ use crate::progress::Progress;
 use crate::script::Script;
 use graft_actors::Known;
 use graft_edge::NoMemory;
+use graft_model::emptied_routers_give_by_plan;
 use graft_steps::{GraftLog, Item, OperatorRest};
 use ring_net::Post;
 use std::alloc::Global;
 
-/// The operator: it issues the steps of a script, a group at a time, and keeps the log of grafts.
+/// The operator: it works through the steps of a script, a group at a time, and keeps the log of grafts.
 #[derive(Drop)]
 pub struct Operator {
     progress: Progress,
@@ -26,6 +27,8 @@ pub struct Operator {
 
 impl Operator {
     ghost use Rattle.graft_model.specs.First.{first_world};
+    ghost use Rattle.graft_model.specs.Setups.{EvacuateStep, group_of};
+    ghost use Rattle.graft_model.specs.Evacuations.{GivesByPlan};
     ghost use Rattle.graft_runs.specs.Actors.{OperatorIs, Operator as TheOperator};
     ghost use Rattle.settled_check.specs.Rests.{IsOperatorRest};
     ghost use Rattle.operator_core.specs.Scripts.{IsScriptOf, IsWorkable};
@@ -57,7 +60,7 @@ impl Operator {
         self.progress.take(from, item, post)
     }
 
-    /// Issues each step of the group at work that may be issued, in their order.
+    /// Orders what may be ordered of the group at work, in the order of its steps.
     pub fn turn<C: Drop>(&mut self, post: &mut Post<Item<C>>) -> Result<(), NoMemory>
         ensures turned { OnOk result ((session : C → SessionValue) → Moved own_part (acts session) Turned self.old post.old self.new post.new) }
         ensures edges { SameEdges post.old post.new }
@@ -65,13 +68,18 @@ impl Operator {
         self.progress.turn(post)
     }
 
-    /// Begins the next group. The world has to be quiet. It answers false, and nothing changes, exactly where a step of the group at work wasn't
-    /// issued, or a graft of it has no outcome, or there is no further group.
+    /// Begins the next group: its evacuate steps give the sessions of their routers to the others. The world has to be quiet. It answers
+    /// false, and nothing changes, exactly where something of the group at work wasn't ordered, or a graft of it has no outcome, or there
+    /// is no further group.
     pub fn go<C: Drop>(&mut self, post: &mut Post<Item<C>>) -> Result<bool, NoMemory>
         ensures paused { IfOk result (λ answer. (session : C → SessionValue) → Pauses own_part (acts session) Paused self.old post.old self.new post.new answer) }
         ensures held { IfOk result (λ answer. (answer ≡ false) ↔ IsHeldUp (setup_of self.old) (operator_part self.old)) }
+        // Each evacuate step of the new group has given the sessions of its router to the others by plan.
+        ensures emptied { IfOk result (λ answer. answer ≡ true → (step router : ℕ) → slice_get (setup_of self.old).steps step ≡ Some (EvacuateStep router)
+            → group_of (setup_of self.old) step ≡ (operator_part self.new).group → GivesByPlan (setup_of self.old) (operator_part self.old) (operator_part self.new) step router) }
         ensures edges { SameEdges post.old post.new }
     {
+        emptied_routers_give_by_plan();
         self.progress.go(post)
     }
 
@@ -83,9 +91,14 @@ impl Operator {
         self.go(post)
     }
 
-    /// The grafts of the script, with the routers that they were ordered at and how far they are.
-    pub fn log(&self) -> &GraftLog
-        ensures { result.now ≡ log_of (setup_of self.now) (operator_part self.now) }
+    /// The grafts of the script's graft steps, and those that its evacuate steps made as their groups began, in the order of their
+    /// numbers: the routers that they were ordered at, their targets, and how far they are.
+    ///
+    /// # Errors
+    ///
+    /// `NoMemory` if memory runs out.
+    pub fn log(&self) -> Result<GraftLog, NoMemory>
+        ensures { IfOk result (λ log. log ≡ log_of (setup_of self.now) (operator_part self.now)) }
     {
         self.progress.log()
     }

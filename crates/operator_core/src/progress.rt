@@ -1,22 +1,27 @@
 //! How far the operator is.
 
-ghost use Rattle.std.specs.Prelude.{◌≡◌, ◌≤◌, ◌<◌, ◌+◌, ◌-◌, ◌∷◌, [], ℕ, None, Some, length, OnOk, OnErr, IfOk, IsTrue, ◌↔◌, slice_get, slice_set, slice_index_or, Option, false, true, filter, not};
+ghost use Rattle.std.specs.Prelude.{◌≡◌, ◌≤◌, ◌<◌, ◌+◌, ◌-◌, ◌∷◌, [], ℕ, None, Some, length, OnOk, OnErr, IfOk, IsTrue, ◌↔◌, slice_get, slice_set, Option, false, true, filter, not};
 ghost use Rattle.ring_net.specs.Posts.{Wrote, SameEdges};
 ghost use Rattle.graft_steps.specs.declared.item.Item.{Item};
 ghost use Rattle.graft_model.specs.declared.event.OperatorEvent.TheVariants as events;
 ghost use Rattle.graft_model.specs.Codes.{operator_code};
 ghost use Rattle.graft_actors.specs.Notes.{deed_of};
+ghost use Rattle.operator_core.specs.Tasks.{done};
+ghost use Rattle.operator_core.specs.Slots.{slot_at, move_of};
 
-use crate::grafts::{Seat, first_open, first_seats, is_issued, set_entry, waiting_log};
-use crate::groups::{Task, drop_issued, graft_numbers, group_from, has_unissued, new_tasks};
+use crate::evacuate::give;
+use crate::grafts::{
+    Move, Seat, Slot, end, first_open, first_seats, first_slots, issue, logged, moved, open_graft,
+};
+use crate::groups::{Task, drop_issued, graft_numbers, group_from, has_unissued};
 use crate::script::{Script, ScriptStep};
 use graft_actors::{
     Known, note_dropped, note_operator, note_operator_sent, the_operator_takes_what_comes,
 };
-use graft_edge::{Items, NoMemory, PeeringId, RouterId};
+use graft_edge::{Items, NoMemory, PeeringId};
 use graft_model::OperatorEvent;
 use graft_runs::actors_have_their_numbers;
-use graft_steps::{GraftEntry, GraftLog, GraftStage, Item, OperatorRest, Outcome};
+use graft_steps::{GraftLog, Item, OperatorRest, Outcome};
 use ring_net::Post;
 use std::alloc::Global;
 
@@ -26,35 +31,39 @@ pub(crate) struct Progress {
     pub(crate) alloc: Global,
     pub(crate) known: Known,
     pub(crate) script: Script,
-    /// By the places of the script: the number that a graft there has or would have.
+    /// By the places of the script: the number that the first graft there has or would have.
     pub(crate) numbers: Items<u32>,
     /// The number of the group at work, from 0, and where the steps after it begin.
     pub(crate) group: usize,
     pub(crate) next: usize,
-    /// The steps of the group, rising, of which those that were issued may be left out.
-    pub(crate) waiting: Vec<Task>,
-    pub(crate) log: GraftLog,
+    /// What is to be ordered in the group, in its order, of which what was ordered may be left out.
+    pub(crate) tasks: Vec<Task>,
+    /// By the numbers of the script's grafts, from 1.
+    pub(crate) slots: Vec<Slot>,
     /// By peering.
     pub(crate) seats: Vec<Seat>,
 }
 
-/// Notes the order of a step, and sends it.
+/// Notes the order of a step, or of this graft of it, and sends it.
 fn note_order<C: Drop>(
     post: &mut Post<Item<C>>,
     step: u32,
+    graft: u32,
     to: usize,
     item: Item<C>,
 ) -> Result<(), NoMemory>
-    ensures ok { OnOk result (Wrote post.old (deed_of post.old (operator_code (events.Order step)) None ((to, item) ∷ []) ∷ []) post.new) }
+    ensures ok { OnOk result (Wrote post.old (deed_of post.old (operator_code (events.Order step graft)) None ((to, item) ∷ []) ∷ []) post.new) }
     ensures edges { SameEdges post.old post.new }
 {
-    note_operator_sent(post, OperatorEvent::Order { step }, to, item)
+    note_operator_sent(post, OperatorEvent::Order { step, graft }, to, item)
 }
 
 impl Progress {
     ghost use Rattle.operator_core.specs.declared.groups.Task.{Task};
-    ghost use Rattle.operator_core.specs.Progresses.{state, IsKnown, IsSound, HasSeats, HasEntries, IsOpenPlace, Ends, SameScript, IssuesGraft, IsUnchanged, Visits, Turns, Takes, Goes, Begins};
+    ghost use Rattle.operator_core.specs.declared.grafts.Move.{Move};
+    ghost use Rattle.operator_core.specs.Progresses.{state, IsKnown, IsSound, HaveSeats, IsMadeAt, IsOpenPlace, Ends, SameScript, IssuesGraft, IsUnchanged, Visits, Turns, Takes, Goes, Begins, IsOrderOf};
     ghost use Rattle.settled_check.specs.Rests.{IsOperatorRest};
+    ghost use Rattle.operator_core.specs.Grafts.{log_of};
     ghost use Rattle.operator_core.specs.States.{part_of};
     ghost use Rattle.operator_core.specs.Turns.{IsHeldUp};
     ghost use Rattle.operator_core.specs.Scripts.{IsScriptOf, IsWorkable};
@@ -65,11 +74,13 @@ impl Progress {
         requires sound { IsWorkable script }
         ensures { IfOk result (Begins known) }
     {
-        let numbers = graft_numbers(alloc, script.steps.as_slice())?;
-        let log = waiting_log(alloc, script.steps.as_slice())?;
+        let steps = script.steps.as_slice();
+        let peerings = script.starts.len();
+        let numbers = graft_numbers(alloc, steps, peerings as u32)?;
+        let mut slots = first_slots(alloc, steps, peerings)?;
         let seats = first_seats(alloc, script.starts.as_slice())?;
-        let first = group_from(alloc, script.steps.as_slice(), 0)?;
-        let waiting = new_tasks(alloc, first.steps.as_slice())?;
+        let first = group_from(alloc, &script, numbers.as_slice(), &seats, 0)?;
+        give(&mut slots, first.gifts.as_slice());
         Ok(Progress {
             alloc,
             known,
@@ -77,8 +88,8 @@ impl Progress {
             numbers,
             group: 0,
             next: first.next,
-            waiting,
-            log,
+            tasks: first.tasks,
+            slots,
             seats,
         })
     }
@@ -91,45 +102,37 @@ impl Progress {
         post: &mut Post<Item<C>>,
     ) -> Result<(), NoMemory>
         requires few { length self.now.script.rooms ≤ 256 }
-        ensures ok { OnOk result (Wrote post.old (deed_of post.old (operator_code (events.Order step)) None ((length self.now.script.rooms + peering.0, Item.SayOrder step) ∷ []) ∷ []) post.new) }
+        ensures ok { OnOk result (Wrote post.old (deed_of post.old (operator_code (events.Order step 0)) None ((length self.now.script.rooms + peering.0, Item.SayOrder step) ∷ []) ∷ []) post.new) }
         ensures edges { SameEdges post.old post.new }
     {
         let far_side = self.script.rooms.len() + usize::from(peering.0);
-        note_order(post, step, far_side, Item::SayOrder { step })
+        note_order(post, step, 0, far_side, Item::SayOrder { step })
     }
 
-    /// Orders the graft at the router where the session belongs.
+    /// Orders the graft of a task at the router where the session belongs. The order is noted with this
+    /// number.
     fn issue_graft<C: Drop>(
         &mut self,
-        step: usize,
-        peering: PeeringId,
-        target: RouterId,
+        task: Task,
+        moves: Move,
+        number: u32,
         post: &mut Post<Item<C>>,
     ) -> Result<(), NoMemory>
-        requires known { IsKnown self.old }
-        requires within { step < length self.old.script.steps }
-        requires seated { peering.0 < length self.old.seats.items }
-        requires logged { slice_index_or self.old.numbers step 0 - 1 < length self.old.log }
-        ensures ok { OnOk result (IssuesGraft self.old step peering target post.old self.new post.new) }
+        requires seated { moves.peering.0 < length self.old.seats.items }
+        requires made { move_of (slot_at self.old.slots.items task.graft) ≡ Some moves }
+        ensures ok { OnOk result (IssuesGraft self.old task moves number post.old self.new post.new) }
         ensures err { OnErr result (IsUnchanged self.old self.new) }
         ensures edges { SameEdges post.old post.new }
     {
-        let graft = self.numbers[step];
+        let Move { peering, target } = moves;
         let seat = self.seats[usize::from(peering.0)];
         let order = Item::GraftOrder {
-            graft,
+            graft: task.graft,
             peering,
             target,
         };
-        note_order(post, step as u32, usize::from(seat.place.0), order)?;
-        let entry = GraftEntry {
-            graft,
-            peering,
-            source: Some(seat.place),
-            target,
-            stage: GraftStage::Issued,
-        };
-        set_entry(self.alloc, &mut self.log, graft as usize - 1, entry);
+        note_order(post, task.step, number, usize::from(seat.place.0), order)?;
+        issue(&mut self.slots[task.graft as usize - 1], seat.place);
         self.seats[usize::from(peering.0)] = Seat {
             place: seat.place,
             moving: true,
@@ -138,74 +141,55 @@ impl Progress {
     }
 
     fn task(&self, place: usize) -> Task
-        requires { place < length self.now.waiting.items }
-        ensures { slice_get self.now.waiting.items place ≡ Some result }
+        requires { place < length self.now.tasks.items }
+        ensures { slice_get self.now.tasks.items place ≡ Some result }
     {
-        self.waiting[place]
+        self.tasks[place]
     }
 
     /// Marks the task at this place as issued.
-    fn mark(&mut self, place: usize, step: u32)
-        requires { place < length self.old.waiting.items }
+    fn mark(&mut self, place: usize, task: Task)
+        requires { place < length self.old.tasks.items }
         ensures same { SameScript self.old self.new }
-        ensures log { self.new.log ≡ self.old.log }
+        ensures slots { self.new.slots.items ≡ self.old.slots.items }
         ensures seats { self.new.seats.items ≡ self.old.seats.items }
-        ensures waiting { self.new.waiting.items ≡ slice_set self.old.waiting.items place (record { step = step; issued = true }) }
+        ensures tasks { self.new.tasks.items ≡ slice_set self.old.tasks.items place (done task) }
     {
-        self.waiting[place] = Task { step, issued: true };
+        self.tasks[place] = Task {
+            issued: true,
+            ..task
+        };
     }
 
-    /// Issues the step of the task at this place, where a remote is to say something.
+    /// Issues the task at this place, where a remote is to say something.
     fn visit_say<C: Drop>(
         &mut self,
         place: usize,
-        step: u32,
+        task: Task,
         peering: PeeringId,
         post: &mut Post<Item<C>>,
     ) -> Result<(), NoMemory>
         requires known { IsKnown self.old }
-        requires task { slice_get self.old.waiting.items place ≡ Some (record { step = step; issued = false }) }
-        requires counted { place < length self.old.waiting.items }
-        requires is { slice_get self.old.script.steps step ≡ Some (ScriptStep.Say peering) }
+        requires task { slice_get self.old.tasks.items place ≡ Some task }
+        requires waits { task.issued ≡ false }
+        requires counted { place < length self.old.tasks.items }
+        requires is { slice_get self.old.script.steps task.step ≡ Some (ScriptStep.Say peering) }
         ensures ok { OnOk result (Visits self.old place post.old self.new post.new) }
         ensures err { OnErr result (IsUnchanged self.old self.new) }
         ensures edges { SameEdges post.old post.new }
     {
         actors_have_their_numbers();
-        self.issue_say(step, peering, post)?;
-        self.mark(place, step);
+        self.issue_say(task.step, peering, post)?;
+        self.mark(place, task);
         Ok(())
     }
 
-    /// Issues the step of the task at this place, where a graft is ordered, unless it is held up.
-    fn visit_graft<C: Drop>(
-        &mut self,
-        place: usize,
-        step: u32,
-        peering: PeeringId,
-        target: RouterId,
-        post: &mut Post<Item<C>>,
-    ) -> Result<(), NoMemory>
-        requires known { IsKnown self.old }
-        requires task { slice_get self.old.waiting.items place ≡ Some (record { step = step; issued = false }) }
-        requires counted { place < length self.old.waiting.items }
-        requires within { step < length self.old.script.steps }
-        requires seated { HasSeats self.old }
-        requires logged { HasEntries self.old }
-        requires is { slice_get self.old.script.steps step ≡ Some (ScriptStep.Graft peering target) }
-        requires seat { peering.0 < length self.old.seats.items }
-        ensures ok { OnOk result (Visits self.old place post.old self.new post.new) }
-        ensures err { OnErr result (IsUnchanged self.old self.new) }
-        ensures edges { SameEdges post.old post.new }
+    /// What the graft of this number moves, if it is made.
+    fn moved(&self, graft: u32) -> Option<Move>
+        ensures { result ≡ move_of (slot_at self.now.slots.items graft) }
     {
-        actors_have_their_numbers();
-        let seat = self.seat(peering);
-        if seat.moving {
-            return Ok(());
-        }
-        self.issue_graft(step as usize, peering, target, post)?;
-        self.mark(place, step);
-        Ok(())
+        let place = (graft as usize).checked_sub(1)?;
+        moved(self.slots.get(place)?)
     }
 
     fn seat(&self, peering: PeeringId) -> Seat
@@ -215,43 +199,74 @@ impl Progress {
         self.seats[usize::from(peering.0)]
     }
 
-    /// Issues the step of the task at this place, unless it is held up.
-    fn visit<C: Drop>(
+    /// Issues the task at this place, where a graft is ordered, unless it is held up. The order is noted
+    /// with this number.
+    fn visit_graft<C: Drop>(
         &mut self,
         place: usize,
-        step: u32,
+        task: Task,
+        number: u32,
         post: &mut Post<Item<C>>,
     ) -> Result<(), NoMemory>
         requires known { IsKnown self.old }
-        requires task { slice_get self.old.waiting.items place ≡ Some (record { step = step; issued = false }) }
-        requires counted { place < length self.old.waiting.items }
-        requires within { step < length self.old.script.steps }
-        requires seated { HasSeats self.old }
-        requires logged { HasEntries self.old }
+        requires task { slice_get self.old.tasks.items place ≡ Some task }
+        requires waits { task.issued ≡ false }
+        requires counted { place < length self.old.tasks.items }
+        requires seated { HaveSeats self.old }
+        requires is { IsOrderOf self.old task number }
         ensures ok { OnOk result (Visits self.old place post.old self.new post.new) }
         ensures err { OnErr result (IsUnchanged self.old self.new) }
         ensures edges { SameEdges post.old post.new }
     {
-        match self.script.steps[step as usize] {
-            ScriptStep::Say { peering } => self.visit_say(place, step, peering, post),
-            ScriptStep::Graft { peering, target } => {
-                self.visit_graft(place, step, peering, target, post)
-            }
+        actors_have_their_numbers();
+        let Some(moves) = self.moved(task.graft) else {
+            return Ok(());
+        };
+        let seat = self.seat(moves.peering);
+        if seat.moving {
+            return Ok(());
+        }
+        self.issue_graft(task, moves, number, post)?;
+        self.mark(place, task);
+        Ok(())
+    }
+
+    /// Issues the task at this place, unless it is held up.
+    fn visit<C: Drop>(
+        &mut self,
+        place: usize,
+        task: Task,
+        post: &mut Post<Item<C>>,
+    ) -> Result<(), NoMemory>
+        requires known { IsKnown self.old }
+        requires task { slice_get self.old.tasks.items place ≡ Some task }
+        requires waits { task.issued ≡ false }
+        requires counted { place < length self.old.tasks.items }
+        requires within { task.step < length self.old.script.steps }
+        requires seated { HaveSeats self.old }
+        ensures ok { OnOk result (Visits self.old place post.old self.new post.new) }
+        ensures err { OnErr result (IsUnchanged self.old self.new) }
+        ensures edges { SameEdges post.old post.new }
+    {
+        match self.script.steps[task.step as usize] {
+            ScriptStep::Say { peering } => self.visit_say(place, task, peering, post),
+            ScriptStep::Graft { .. } => self.visit_graft(place, task, 0, post),
+            ScriptStep::Evacuate { .. } => self.visit_graft(place, task, task.graft, post),
             ScriptStep::Settle => Ok(()),
         }
     }
 
-    /// Issues each step of the group that may be issued, in their order.
+    /// Issues each task of the group that may be issued, in their order.
     pub(crate) fn turn<C: Drop>(&mut self, post: &mut Post<Item<C>>) -> Result<(), NoMemory>
         requires { IsSound self.old }
         ensures ok { OnOk result (Turns self.old post.old self.new post.new) }
         ensures err { OnErr result (IsSound self.new) }
         ensures edges { SameEdges post.old post.new }
     {
-        for place in 0..self.waiting.len() {
+        for place in 0..self.tasks.len() {
             let task = self.task(place);
             if !task.issued {
-                self.visit(place, task.step, post)?;
+                self.visit(place, task, post)?;
             }
         }
         self.forget_issued();
@@ -261,35 +276,31 @@ impl Progress {
     /// Drops the tasks that were issued.
     fn forget_issued(&mut self)
         ensures same { SameScript self.old self.new }
-        ensures log { self.new.log ≡ self.old.log }
+        ensures slots { self.new.slots.items ≡ self.old.slots.items }
         ensures seats { self.new.seats.items ≡ self.old.seats.items }
-        ensures waiting { self.new.waiting.items ≡ filter (λ task. not task.issued) self.old.waiting.items }
+        ensures tasks { self.new.tasks.items ≡ filter (λ task. not task.issued) self.old.tasks.items }
     {
-        drop_issued(&mut self.waiting);
+        drop_issued(&mut self.tasks);
     }
 
-    /// The place in the log of a graft of this number that was ordered and hasn't ended.
+    /// The place of a graft of this number that was ordered and hasn't ended.
     fn open_place(&self, graft: u32) -> Option<usize>
-        ensures { IsOpenPlace self.now.log graft result }
+        ensures { IsOpenPlace self.now.slots.items graft result }
     {
         let place = (graft as usize).checked_sub(1)?;
-        let entry = self.log.get(place)?;
-        is_issued(&entry.stage).then_some(place)
+        let slot = self.slots.get(place)?;
+        open_graft(slot).is_some().then_some(place)
     }
 
-    /// Notes how a graft ended.
+    /// Notes how the graft at this place ended.
     fn end(&mut self, place: usize, outcome: Outcome)
-        requires logged { place < length self.old.log }
-        requires seated { (entry : GraftEntry) → slice_get self.old.log place ≡ Some entry → entry.peering.0 < length self.old.seats.items }
+        requires made { IsMadeAt self.old place }
+        requires seated { HaveSeats self.old }
         ensures { Ends self.old place outcome self.new }
     {
-        let entry = &self.log[place];
-        let (graft, peering, source, target) = (
-            entry.graft,
-            entry.peering,
-            entry.source,
-            entry.target,
-        );
+        let Some(Move { peering, target }) = moved(&self.slots[place]) else {
+            return;
+        };
         let seat = usize::from(peering.0);
         let place_after = if let Outcome::Accepted = outcome {
             target
@@ -300,14 +311,7 @@ impl Progress {
             place: place_after,
             moving: false,
         };
-        let ended = GraftEntry {
-            graft,
-            peering,
-            source,
-            target,
-            stage: GraftStage::Ended(outcome),
-        };
-        set_entry(self.alloc, &mut self.log, place, ended);
+        end(&mut self.slots[place], outcome);
     }
 
     /// Notes the report of a graft that is open, from a router. Any other item is dropped.
@@ -339,22 +343,22 @@ impl Progress {
         Ok(())
     }
 
-    /// Whether a step of the group wasn't issued, or a graft of it hasn't ended, or there is no further
+    /// Whether a task of the group wasn't issued, or a graft of it hasn't ended, or there is no further
     /// group.
     fn is_held_up(&self) -> bool
         requires { IsSound self.now }
         ensures { IsTrue result ↔ IsHeldUp self.now.known.setup (part_of (state self.now)) }
     {
-        if has_unissued(self.waiting.as_slice()) {
+        if has_unissued(self.tasks.as_slice()) {
             return true;
         }
-        if first_open(self.log.as_slice()).is_some() {
+        if first_open(self.slots.as_slice()).is_some() {
             return true;
         }
         self.next == self.script.steps.len()
     }
 
-    /// Begins the next group, where each step of this one was issued, each of its grafts has ended, and
+    /// Begins the next group, where each task of this one was issued, each of its grafts has ended, and
     /// there is a further one.
     pub(crate) fn go<C: Drop>(&mut self, post: &mut Post<Item<C>>) -> Result<bool, NoMemory>
         requires { IsSound self.old }
@@ -365,19 +369,27 @@ impl Progress {
         if self.is_held_up() {
             return Ok(false);
         }
-        let group = group_from(self.alloc, self.script.steps.as_slice(), self.next)?;
-        let waiting = new_tasks(self.alloc, group.steps.as_slice())?;
+        let group = group_from(
+            self.alloc,
+            &self.script,
+            self.numbers.as_slice(),
+            &self.seats,
+            self.next,
+        )?;
         note_operator(post, OperatorEvent::Go)?;
+        give(&mut self.slots, group.gifts.as_slice());
         self.group += 1;
         self.next = group.next;
-        self.waiting = waiting;
+        self.tasks = group.tasks;
         Ok(true)
     }
 
-    pub(crate) fn log(&self) -> &GraftLog
-        ensures { result.now ≡ self.now.log }
+    /// The log of grafts.
+    pub(crate) fn log(&self) -> Result<GraftLog, NoMemory>
+        requires { IsSound self.now }
+        ensures { IfOk result (λ log. log ≡ log_of self.now.known.setup (part_of (state self.now))) }
     {
-        &self.log
+        logged(self.alloc, self.slots.as_slice())
     }
 
     /// What is left to do.
@@ -386,8 +398,8 @@ impl Progress {
         ensures { IsOperatorRest self.now.known.setup (part_of (state self.now)) result }
     {
         OperatorRest {
-            unissued: has_unissued(self.waiting.as_slice()),
-            graft: first_open(self.log.as_slice()),
+            unissued: has_unissued(self.tasks.as_slice()),
+            graft: first_open(self.slots.as_slice()),
         }
     }
 }

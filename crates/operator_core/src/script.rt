@@ -14,6 +14,10 @@ pub enum ScriptStep {
         peering: PeeringId,
         target: RouterId,
     },
+    /// The sessions that belong at the router as the step's group begins are to move to the others.
+    Evacuate {
+        router: RouterId,
+    },
     /// The group of steps ends.
     Settle,
 }

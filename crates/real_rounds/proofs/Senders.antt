@@ -76,8 +76,8 @@ far_sender setup p (Beat round) a b taken sent row = rw (row.takes) refl
 
 operator_sender : (setup : Setup) (event : OperatorEvent) (a b : OperatorPart) (taken : Option OperatorTaken) (sent : List OperatorSent) → operator_row setup event a taken sent b
     → sender_at (operator_code event).kind (operator_code event).a ≡ option_map (λ t. (taken_by_operator t).0) taken
-operator_sender setup (Order step) a b taken sent (inl row) = rw (row.takes) refl
-operator_sender setup (Order step) a b taken sent (inr row) = rw (row.takes) refl
+operator_sender setup (Order step number) a b taken sent (inl row) = rw (row.takes) refl
+operator_sender setup (Order step number) a b taken sent (inr row) = rw (row.takes) refl
 operator_sender setup (Note router) a b taken sent row = rw (row.takes) refl
 operator_sender setup Go a b taken sent row = rw (row.takes) refl
 

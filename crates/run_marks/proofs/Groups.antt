@@ -47,11 +47,11 @@ same_group setup w v entry same other es = omega (arith, same, not_counted setup
 
 by_operator : (setup : Setup) (event : OperatorEvent) (before after : OperatorPart) (taken : Option OperatorTaken) (sent : List OperatorSent) → operator_row setup event before taken sent after → (entry : JournalEntry) → entry.actor ≡ operator_in setup
     → IsEntryOf setup (ByOperator event) entry → (es : List JournalEntry) → after.group + count setup es ≡ before.group + count setup (entry ∷ es)
-by_operator setup (Order step) before after taken sent (inl row) entry here is es =
+by_operator setup (Order step number) before after taken sent (inl row) entry here is es =
     let same : after.group ≡ before.group = ap (λ (part : OperatorPart). part.group) row.effect in
     let other : is_go entry ≡ false = ap (λ (k : ℕ). k == 26) is.coded.kind in
     omega (arith, same, not_counted setup entry es other)
-by_operator setup (Order step) before after taken sent (inr row) entry here is es =
+by_operator setup (Order step number) before after taken sent (inr row) entry here is es =
     let same : after.group ≡ before.group = ap (λ (part : OperatorPart). part.group) row.effect in
     let other : is_go entry ≡ false = ap (λ (k : ℕ). k == 26) is.coded.kind in
     omega (arith, same, not_counted setup entry es other)

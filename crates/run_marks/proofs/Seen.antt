@@ -1,5 +1,5 @@
 -- Where a group begins.
-use Rattle.std.proofs.Common.{◌≡◌, ℕ, List, [], ◌∷◌, ◌++◌, length, Option, Some, None, option_map, slice_get, refl, sym, ap, ◌∙◌, subst, inl, inr, arith, append_assoc}
+use Rattle.std.proofs.Common.{◌≡◌, ◌≢◌, ℕ, List, [], ◌∷◌, ◌++◌, length, Option, Some, None, option_map, slice_get, refl, sym, ap, ◌∙◌, subst, inl, inr, arith, append_assoc}
 use Rattle.std.specs.Prelude.{◌↔◌}
 use Rattle.std.proofs.lemmas.List.{length-append}
 use Rattle.std.proofs.lemmas.Option.{same_Some}
@@ -8,14 +8,15 @@ use Rattle.journal_merge.specs.Merges.{entries_by}
 use Rattle.graft_steps.specs.declared.item.Item.{Item}
 use Rattle.session_value.specs.Sessions.{SessionValue}
 use Rattle.graft_model.specs.Codes.{operator_code}
-use Rattle.graft_model.specs.Setups.{Setup, SayStep, MoveStep}
+use Rattle.graft_model.specs.Setups.{Setup, ScriptGraft, group_of}
 use Rattle.graft_model.specs.Parts.{OperatorPart, World}
 use Rattle.graft_model.specs.Quiet.{Quiet}
+use Rattle.graft_model.specs.Placements.{target_in}
 use Rattle.graft_model.specs.OperatorRows.{OperatorTaken, OperatorSent}
 use Rattle.graft_model.specs.declared.event.OperatorEvent.{OperatorEvent}
 use Rattle.graft_model.specs.declared.event.OperatorEvent.TheVariants.{Order, Note, Go}
 use Rattle.graft_model.specs.Steps.{operator_row}
-use Rattle.settled_check.specs.Left.{HasUnissued, IsOpen}
+use Rattle.settled_check.specs.Left.{IsUnsaid, IsUnended, HasUnissued, IsOpen}
 use Rattle.graft_runs.specs.Actors.{ActorPart, RouterIs, FarIs, OperatorIs, Thing, Operator}
 use Rattle.graft_runs.specs.Makes.{HasCode, makes_as, numbered, taken_by_operator}
 use Rattle.graft_runs.specs.Laws.{IsGo}
@@ -43,18 +44,26 @@ group_seen setup journal mark next had (e ∷ new) more is at_mark at_next = (
 
 pub nothing_open : (setup : Setup) (w : World) → Quiet setup w → (¬ HasUnissued setup w.operator) × ((k : ℕ) → ¬ IsOpen setup w.operator k)
 nothing_open setup w quiet = (
-  (λ some. (let e = quiet.issued some.0 some.1.step some.1.is some.1.ordered some.1.group in let f = some.1.unissued in cc)),
-  λ k open_one. quiet.ended open_one.step open_one.peering open_one.target open_one.is open_one.group (ap w.operator.outcome open_one.number ∙ open_one.unended),
+  (λ some. elim some [ inl say ↦ unsaid say.0 say.1 | inr graft ↦ unended graft.0 graft.1.0 ]),
+  λ k open_one. unended open_one.0 open_one.2,
 )
+  where
+    unsaid : (n : ℕ) → IsUnsaid setup w.operator n → ⊥
+    unsaid n say = let e = quiet.issued n say.peering say.bytes say.is say.group in let f = say.unissued in cc
+
+    unended : (graft : ScriptGraft) → IsUnended setup w.operator graft → ⊥
+    unended graft left = quiet.ended graft left.known left.group left.made left.unended
 
 module _ (setup : Setup) (part : OperatorPart) (none : ¬ HasUnissued setup part) where
-  no_order : (step : ℕ) (taken : Option OperatorTaken) (sent : List OperatorSent) (after : OperatorPart) → operator_row setup (Order step) part taken sent after → ⊥
-  no_order step taken sent after (inl row) = none (step, record { step = SayStep row.peering row.bytes; is = row.is; ordered = λ e. cc; group = row.next.group; unissued = row.next.unissued })
-  no_order step taken sent after (inr row) = none (step, record { step = MoveStep row.peering row.target; is = row.is; ordered = λ e. cc; group = row.next.group; unissued = row.next.unissued })
+  no_order : (step number : ℕ) (taken : Option OperatorTaken) (sent : List OperatorSent) (after : OperatorPart) → operator_row setup (Order step number) part taken sent after → ⊥
+  no_order step number taken sent after (inl row) = none (inl (step, record { peering = row.peering; bytes = row.bytes; is = row.is; group = row.group; unissued = row.unissued }))
+  no_order step number taken sent after (inr row) =
+      let made : target_in setup part row.graft ≢ None = λ e. (let h = row.is in cc) in
+      none (inr (row.graft, (record { known = row.known; group = ap (group_of setup) row.by_step ∙ row.group; made = made; unended = row.unended }, row.unordered)))
 
   goes : (event : OperatorEvent) (entry : JournalEntry) (taken : Option OperatorTaken) (sent : List OperatorSent) (after : OperatorPart) → operator_row setup event part taken sent after → HasCode (operator_code event) entry
       → None ≡ option_map (λ t. numbered setup (taken_by_operator t)) taken → IsGo entry
-  goes (Order step) entry taken sent after row coded untaken = absurd (no_order step taken sent after row)
+  goes (Order step number) entry taken sent after row coded untaken = absurd (no_order step number taken sent after row)
   goes (Note router) entry taken sent after row coded untaken = let some = untaken ∙ ap (option_map (λ (t : OperatorTaken). numbered setup (taken_by_operator t))) row.takes in absurd cc
   goes Go entry taken sent after row coded untaken = coded.kind
 

@@ -19,7 +19,7 @@ use Rattle.graft_steps.specs.declared.rest.Pending.TheVariants.{Script, Graft, C
 use Rattle.graft_steps.specs.declared.rest.RouterRest.{RouterRest}
 use Rattle.graft_steps.specs.declared.rest.FarRest.{FarRest}
 use Rattle.graft_steps.specs.declared.rest.OperatorRest.{OperatorRest}
-use Rattle.graft_model.specs.Setups.{Setup, PeeringSetup, RouterSetup, ScriptStep, MoveStep, SettleStep, group_of, graft_number, routers_in, peerings_in, router_numbers}
+use Rattle.graft_model.specs.Setups.{Setup, PeeringSetup, RouterSetup, ScriptGraft, SayStep, group_of, routers_in, peerings_in, router_numbers}
 use Rattle.graft_model.specs.Parts.{Place, Vacant, Live, Frozen, Shadow, Errand, RouterPart, FarPart, World}
 use Rattle.graft_model.specs.First.{first_router, first_far, place_in}
 use Rattle.graft_model.specs.Quiet.{Quiet, HasRead, AllAcked, IsIdle}
@@ -27,7 +27,7 @@ use Rattle.graft_model.specs.Claims.{sessions_at, sessions_on}
 use Rattle.graft_runs.specs.Actors.{ActorName, Router, FarSide, Operator, IsActor, number_in, actor_at, RouterIs, FarIs, MeshItem, OutwardItem, SegmentItem, OrderItem, ReportItem, StepItem}
 use Rattle.graft_runs.specs.Seen.{channel_of}
 use Rattle.graft_runs.specs.Laws.{ActorsHaveNumbers}
-use Rattle.settled_check.specs.Left.{HasSome, HasStream, HasUnread, IsUnacked, graft_at, IsOpen, IsUnissued, LeftAtRouter, LeftAtFar}
+use Rattle.settled_check.specs.Left.{HasSome, HasStream, HasUnread, IsUnacked, graft_at, IsUnended, HasUnissued, LeftAtRouter, LeftAtFar}
 use Rattle.settled_check.specs.Worlds.{LeftOnItsWay, IsLeft, OnItsWay, AtRouter, AtFarSide, ToOperator, Fits, IsOnTheWay, AreRests, NothingIsNamed}
 use Rattle.settled_check.proofs.Actors.{router_has, router_names, far_has, far_names, operator_has, operator_names}
 
@@ -212,11 +212,18 @@ module _ (numbers : ActorsHaveNumbers) (setup : Setup) (w : World) (is : IsOnThe
           (sym (ap (λ (part : RouterPart). part.places p) (outside_router r le) ∙ vacant_beyond (routers_in setup) r (slice_get setup.peerings p) le (λ peering e. (is.sound.peerings p peering e).start))) tt
     ]
 
-    issued : (n : ℕ) (step : ScriptStep) → slice_get setup.steps n ≡ Some step → step ≢ SettleStep → group_of setup n ≡ w.operator.group → w.operator.issued n ≡ true
-    issued n step there_is ordered group = elim (by_test (w.operator.issued n)) [
+    issued : (n p : ℕ) (bytes : List ℕ) → slice_get setup.steps n ≡ Some (SayStep p bytes) → group_of setup n ≡ w.operator.group → w.operator.issued n ≡ true
+    issued n p bytes there_is group = elim (by_test (w.operator.issued n)) [
       | inl e ↦ e
-      | inr e ↦ absurd (nothing Script (ToOperator (n, record { step = step; is = there_is; ordered = ordered; group = group; unissued = e })))
+      | inr e ↦ absurd (nothing Script (ToOperator (inl (n, record { peering = p; bytes = bytes; is = there_is; group = group; unissued = e }))))
     ]
+
+    -- a graft that has no outcome is left, whether it was ordered or not
+    none_unended : (g : ScriptGraft) → IsUnended setup w.operator g → ⊥
+    none_unended g unended = by_source (w.operator.source g.graft) refl where
+      by_source : (source : Option ℕ) → w.operator.source g.graft ≡ source → ⊥
+      by_source None e = nothing Script (ToOperator (inr (g, (unended, e))))
+      by_source (Some r) e = nothing (Graft g.graft) (ToOperator (g, refl, unended, λ none. (let f : Some r ≡ None = sym e ∙ none in absurd cc)))
 
     pub quiet : Quiet setup w
     quiet = record {
@@ -233,8 +240,7 @@ module _ (numbers : ActorsHaveNumbers) (setup : Setup) (w : World) (is : IsOnThe
       told_out = told_out;
       places = places;
       issued = issued;
-      ended = λ n p target there_is group none. nothing (Graft (graft_number setup n))
-          (ToOperator (record { step = n; peering = p; target = target; is = there_is; group = group; issued = issued n (MoveStep p target) there_is (λ e. cc) group; number = refl; unended = none }));
+      ended = λ g known group made none. none_unended g (record { known = known; group = group; made = made; unended = none });
     }
 
   -- ---- nothing, where it is quiet
@@ -294,18 +300,19 @@ module _ (numbers : ActorsHaveNumbers) (setup : Setup) (w : World) (is : IsOnThe
     none_of_far p l (DueIn s t) left = left
     none_of_far p l (DueOut s) left = left
 
-    unissued : (n : ℕ) → ¬ IsUnissued setup w.operator n
-    unissued n u = let e : w.operator.issued n ≡ true = q.issued n u.step u.is u.ordered u.group in let f : w.operator.issued n ≡ false = u.unissued in absurd cc
+    unended : (g : ScriptGraft) → ¬ IsUnended setup w.operator g
+    unended g u = q.ended g u.known u.group u.made u.unended
 
-    unended : (k : ℕ) → ¬ IsOpen setup w.operator k
-    unended k o = q.ended o.step o.peering o.target o.is o.group (ap (λ n. w.operator.outcome n) o.number ∙ o.unended)
+    unissued : ¬ HasUnissued setup w.operator
+    unissued (inl (n, u)) = let e : w.operator.issued n ≡ true = q.issued n u.peering u.bytes u.is u.group in let f : w.operator.issued n ≡ false = u.unissued in absurd cc
+    unissued (inr (g, u)) = unended g u.0
 
     pub nothing_left : (x : Pending) → ¬ IsLeft setup w x
     nothing_left x (OnItsWay left) = none_on_its_way x left
     nothing_left x (AtRouter r l left) = none_of_router r x left
     nothing_left x (AtFarSide p l left) = none_of_far p l x left
-    nothing_left Script (ToOperator left) = unissued left.0 left.1
-    nothing_left (Graft k) (ToOperator left) = unended k left
+    nothing_left Script (ToOperator left) = unissued left
+    nothing_left (Graft k) (ToOperator (g, same, u, ordered)) = unended g u
     nothing_left (Channel a b) (ToOperator left) = left
     nothing_left (Bag p) (ToOperator left) = left
     nothing_left (Stream p) (ToOperator left) = left

@@ -8,8 +8,9 @@ use Rattle.session_value.specs.Sessions.{SessionValue, state, unread}
 use Rattle.session_value.specs.Sets.{Prefixes, has}
 use Rattle.graft_steps.specs.declared.rest.Pending.{Pending}
 use Rattle.graft_steps.specs.declared.rest.Pending.TheVariants.{Script, Graft, Bag, Stream, Dirty, DueIn, DueOut}
-use Rattle.graft_model.specs.Setups.{Setup, ScriptStep, MoveStep, SettleStep, group_of, graft_number}
+use Rattle.graft_model.specs.Setups.{Setup, SayStep, ScriptGraft, group_of, graft_at as script_graft}
 use Rattle.graft_model.specs.Parts.{Place, Vacant, Live, Frozen, Shadow, graft_of, RouterPart, FarPart, OperatorPart}
+use Rattle.graft_model.specs.Placements.{target_in}
 
 -- ---- a router
 
@@ -65,27 +66,32 @@ LeftAtFar p part other = ⊥
 
 -- ---- the operator
 
--- A step of the group that is at work wasn't issued.
-pub record IsUnissued (setup : Setup) (part : OperatorPart) (n : ℕ) : Type 0 where
-  pub step : ScriptStep
-  pub is : slice_get setup.steps n ≡ Some step
-  pub ordered : step ≢ SettleStep
+-- What a step of the group that is at work has a remote say wasn't ordered.
+pub record IsUnsaid (setup : Setup) (part : OperatorPart) (n : ℕ) : Type 0 where
+  pub peering : ℕ
+  pub bytes : List ℕ
+  pub is : slice_get setup.steps n ≡ Some (SayStep peering bytes)
   pub group : group_of setup n ≡ part.group
   pub unissued : part.issued n ≡ false
 
+-- A graft of the group that is at work has no outcome.
+pub record IsUnended (setup : Setup) (part : OperatorPart) (graft : ScriptGraft) : Type 0 where
+  pub known : script_graft setup graft.graft ≡ Some graft
+  pub group : group_of setup graft.step ≡ part.group
+  pub made : target_in setup part graft ≢ None
+  pub unended : part.outcome graft.graft ≡ None
+
+-- a graft of the group that is at work wasn't ordered
+abbrev pub IsUnordered : Setup → OperatorPart → ScriptGraft → Type 0
+IsUnordered setup part graft = IsUnended setup part graft × (part.source graft.graft ≡ None)
+
+-- something of the group that is at work wasn't ordered
 abbrev pub HasUnissued : Setup → OperatorPart → Type 0
-HasUnissued setup part = (n : ℕ) × IsUnissued setup part n
+HasUnissued setup part = ((n : ℕ) × IsUnsaid setup part n) ⊎ ((graft : ScriptGraft) × IsUnordered setup part graft)
 
 -- A graft of the group that is at work was ordered and has no outcome.
-pub record IsOpen (setup : Setup) (part : OperatorPart) (k : ℕ) : Type 0 where
-  pub step : ℕ
-  pub peering : ℕ
-  pub target : ℕ
-  pub is : slice_get setup.steps step ≡ Some (MoveStep peering target)
-  pub group : group_of setup step ≡ part.group
-  pub issued : part.issued step ≡ true
-  pub number : graft_number setup step ≡ k
-  pub unended : part.outcome k ≡ None
+abbrev pub IsOpen : Setup → OperatorPart → ℕ → Type 0
+IsOpen setup part k = (graft : ScriptGraft) × (graft.graft ≡ k) × IsUnended setup part graft × (part.source k ≢ None)
 
 abbrev pub LeftToOperator : Setup → OperatorPart → Pending → Type 0
 LeftToOperator setup part Script = HasUnissued setup part

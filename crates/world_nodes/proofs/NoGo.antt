@@ -51,13 +51,13 @@ row_go setup Operator (FarIs p) q entry taken sent row go = absurd row
 row_go setup Operator (OperatorIs p) (OperatorIs q) entry taken sent row go = (refl, by_event row.event refl)
   where
     by_event : (event : OperatorEvent) → row.event ≡ event → taken ≡ None
-    by_event (Order step) e = let h : (operator_code (Order step)).kind ≡ (operator_code Go).kind = ap (λ o. (operator_code o).kind) (sym e) ∙ sym row.coded.kind ∙ go in absurd (omega (arith, h))
+    by_event (Order step number) e = let h : (operator_code (Order step number)).kind ≡ (operator_code Go).kind = ap (λ o. (operator_code o).kind) (sym e) ∙ sym row.coded.kind ∙ go in absurd (omega (arith, h))
     by_event (Note router) e = let h : (operator_code (Note router)).kind ≡ (operator_code Go).kind = ap (λ o. (operator_code o).kind) (sym e) ∙ sym row.coded.kind ∙ go in absurd (omega (arith, h))
     by_event Go e = row.is_taken ∙ ap (λ o. option_map (λ (t : OperatorTaken). numbered setup (taken_by_operator t)) o) (takes row.event e row.holds)
       where
         takes : (event : OperatorEvent) → event ≡ Go → operator_row setup event p row.took row.gave q → row.took ≡ None
         takes Go e h = h.takes
-        takes (Order step) e h = absurd cc
+        takes (Order step number) e h = absurd cc
         takes (Note router) e h = absurd cc
 
 module _ {C : Type 0} (session : C → SessionValue) where

@@ -1,6 +1,6 @@
-use Rattle.std.proofs.Common.{◌≡◌, take}
+use Rattle.std.proofs.Common.{◌≡◌, map, reverse}
 use Rattle.forward_walk.specs.Tables.{map_of}
 use Rattle.forward_walk.proofs.forwarder.trie_of.Given as goal
 
 abbrev pub invariant-loop-entry : goal.invariant-loop-entry
-invariant-loop-entry l = l.trie.contents ≡ map_of (take l.entry-index l.entries)
+invariant-loop-entry l = l.trie.contents ≡ map_of (reverse (map (λ x. x.now) l.yielded))

@@ -17,7 +17,7 @@ pub returns-clause-ran : goal.returns-clause-ran
 returns-clause-ran g c =
     let left = c.in_ok-finish.ensures.left in
     let has = c.in_ok-course.ensures.counts in
-    all_told c.labs_tell_of_runs.ensures c.args.input c.requires.accepted c.requires.moves (stand c.in_ok-course.course) (stand c.run_groups.new.course) c.as_slice.result.now c.run_groups.new.made c.in_ok-end.end
+    all_told c.labs_tell_of_runs.ensures c.args.input c.requires.accepted (stand c.in_ok-course.course) (stand c.run_groups.new.course) c.as_slice.result.now c.run_groups.new.made c.in_ok-end.end
     c.in_ok-course.ensures.begins (c.as_slice.ensures ∙ c.in_ok-budgets.ensures) (c.in_ok-end.ensures.goes (setup_of c.args.input) (is_setup c.args.input c.requires.accepted) has)
     c.in_ok-finish.field-0.actors c.in_ok-finish.field-0.journals c.in_ok-finish.field-0.marks c.in_ok-finish.field-0.left left.0
     c.in_ok-finish.ensures.actors c.in_ok-finish.ensures.journals c.in_ok-finish.ensures.marks left.1 (left.2 (setup_of c.args.input) (counts_back (setup_of c.args.input) _ _ c.in_ok-end.ensures.counts has))

@@ -1,5 +1,6 @@
-use Rattle.std.proofs.Common.{inl, subst, ◌∙◌}
+use Rattle.std.proofs.Common.{inl, subst, sym}
 use Rattle.std.specs.Prelude.{Ok}
+use Rattle.lab_report.specs.Traces.{IsReport}
 use Rattle.lab_top.specs.Cases.{BuiltOr}
 use Rattle.lab_top.proofs.Parts.{stopped_ends, unbuilt_ends, report_ends}
 use Rattle.lab_top.proofs.jobs.run_job.Goals as goal
@@ -10,7 +11,8 @@ returns-in-Err g c words run = stopped_ends words _ _ c.in-Err.stop c.end_stoppe
 pub returns-in_ok-text-in-Some : goal.returns-in_ok-text-in-Some
 returns-in_ok-text-in-Some g c words run =
     let built = subst (λ found. BuiltOr c.in-Ok.input (Ok found)) c.in-Some.is c.in_ok-lab.ensures in
-    report_ends words _ _ c.in-Ok.input c.in-Some.lab c.as_bytes.result.now c.end_run.result run c.in-Ok.ensures built (c.as_bytes.ensures.value ∙ c.in_ok-text-in-Some.ensures) c.end_run.ensures
+    let told = subst (IsReport c.in-Some.lab) (sym c.as_bytes.ensures.value) c.in_ok-text-in-Some.ensures in
+    report_ends words _ _ c.in-Ok.input c.in-Some.lab c.as_bytes.result.now c.end_run.result run c.in-Ok.ensures built told c.end_run.ensures
 
 pub returns-in-None : goal.returns-in-None
 returns-in-None g c words run =

@@ -1,7 +1,6 @@
 use Rattle.std.proofs.Common.{◌≡◌, drop}
-use Rattle.std.specs.List.{find}
-use Rattle.operator_core.specs.Grafts.{is_open}
+use Rattle.operator_core.specs.Slots.{first_open as first_open_of}
 use Rattle.operator_core.proofs.grafts.first_open.Given as goal
 
-abbrev pub invariant-loop-entry : goal.invariant-loop-entry
-invariant-loop-entry l = find (λ entry. is_open entry.stage) (drop l.entry-index l.log) ≡ find (λ entry. is_open entry.stage) l.log
+abbrev pub invariant-loop-slot : goal.invariant-loop-slot
+invariant-loop-slot l = first_open_of (drop l.slot-index l.slots) ≡ first_open_of l.slots

@@ -1,5 +1,5 @@
 use Rattle.std.proofs.Common.{None}
-use Rattle.operator_core.proofs.Calls.{on_ok}
+use Rattle.operator_core.proofs.Results.{on_ok}
 use Rattle.operator_core.proofs.progress.note_order.Goals as goal
 
 pub returns-clause-ok : goal.returns-clause-ok

@@ -1,5 +1,5 @@
 use Rattle.std.proofs.Common.{[], ◌∷◌, refl}
-use Rattle.operator_core.proofs.Calls.{on_ok, either}
+use Rattle.operator_core.proofs.Results.{on_ok, either}
 use Rattle.operator_core.proofs.operator.Operator.take.Goals as goal
 
 pub invariant_of-self : goal.invariant_of-self

@@ -1,4 +1,4 @@
-use Rattle.operator_core.proofs.Calls.{on_ok, either}
+use Rattle.operator_core.proofs.Results.{on_ok, either}
 use Rattle.operator_core.proofs.operator.Operator.turn.Goals as goal
 
 pub invariant_of-self : goal.invariant_of-self

@@ -1,36 +1,33 @@
 use Rattle.std.proofs.Common.{not, refl, ap, sym, ◌∙◌}
-use Rattle.std.specs.Option.{option_map}
-use Rattle.std.specs.List.{list_any, find}
-use Rattle.operator_core.specs.Grafts.{is_open}
+use Rattle.std.specs.List.{list_any}
+use Rattle.operator_core.specs.Slots.{first_open}
 use Rattle.operator_core.specs.Progresses.{state}
 use Rattle.operator_core.proofs.Tasks.{any_unissued, none_unissued}
 use Rattle.operator_core.proofs.Steps.{as_many_steps}
-use Rattle.operator_core.proofs.Goes.{held_by_steps, held_by_graft, held_at_end, only_the_end, some_value, no_value, none_found, last_settle, is_true_eq, eq_is_true}
+use Rattle.operator_core.proofs.Holds.{held_by_tasks, held_by_graft, held_at_end, only_the_end, last_settle}
+use Rattle.std.proofs.lemmas.Bool.{eq-eqb, eqb-true}
 use Rattle.operator_core.proofs.progress.Progress.is_held_up.Goals as goal
 
 pub returns-then-has_unissued : goal.returns-then-has_unissued
 returns-then-has_unissued c = (
-  λ t. held_by_steps (state c.args.self.now) c.requires.keeps
-      (any_unissued c.args.self.now.waiting.items (sym (ap (λ tasks. list_any (λ task. not task.issued) tasks) c.as_slice.ensures.value) ∙ sym c.has_unissued.ensures ∙ c.if-has_unissued.true)),
+  λ t. held_by_tasks (state c.args.self.now) c.requires.keeps
+      (any_unissued c.args.self.now.tasks.items (sym (ap (λ tasks. list_any (λ task. not task.issued) tasks) c.as_slice.ensures.value) ∙ sym c.has_unissued.ensures ∙ c.if-has_unissued.true)),
   λ held. refl,
 )
 
 pub returns-then-is_some : goal.returns-then-is_some
 returns-then-is_some c = (
-  λ t.
-      let k = some_value c.first_open.result (sym c.is_some.ensures ∙ c.if-is_some.true) in
-      held_by_graft (state c.args.self.now) c.requires.keeps c.first_open.result
-      (c.first_open.ensures ∙ ap (λ log. option_map (λ entry. entry.graft) (find (λ entry. is_open entry.stage) log)) c.as_slice-2.ensures) k.0 k.1,
+  λ t. held_by_graft (state c.args.self.now) c.requires.keeps c.first_open.result (c.first_open.ensures ∙ ap first_open c.as_slice-2.ensures.value) (sym c.is_some.ensures ∙ c.if-is_some.true),
   λ held. refl,
 )
 
 pub returns : goal.returns
 returns c = (
   λ t. held_at_end (state c.args.self.now) c.requires.keeps
-      (eq_is_true _ _ t ∙ c.len.ensures ∙ as_many_steps c.args.self.now.known.setup c.args.self.now.script c.requires.known.script),
-  λ held. is_true_eq _ _ (only_the_end (state c.args.self.now) c.requires.keeps
-      (none_unissued c.args.self.now.waiting.items (sym (ap (λ tasks. list_any (λ task. not task.issued) tasks) c.as_slice.ensures.value) ∙ sym c.has_unissued.ensures ∙ c.if-has_unissued.false))
-      (none_found _ (sym (c.first_open.ensures ∙ ap (λ log. option_map (λ entry. entry.graft) (find (λ entry. is_open entry.stage) log)) c.as_slice-2.ensures) ∙ no_value c.first_open.result (sym c.is_some.ensures ∙ c.if-is_some.false)))
+      (eqb-true _ _ t ∙ c.len.ensures ∙ as_many_steps c.args.self.now.known.setup c.args.self.now.script c.requires.known.script),
+  λ held. eq-eqb _ _ (only_the_end (state c.args.self.now) c.requires.keeps
+      (none_unissued c.args.self.now.tasks.items (sym (ap (λ tasks. list_any (λ task. not task.issued) tasks) c.as_slice.ensures.value) ∙ sym c.has_unissued.ensures ∙ c.if-has_unissued.false))
+      c.first_open.result (c.first_open.ensures ∙ ap first_open c.as_slice-2.ensures.value) (sym c.is_some.ensures ∙ c.if-is_some.false)
       (last_settle c.args.self.now c.requires.known).0 (last_settle c.args.self.now c.requires.known).1 held
       ∙ sym (c.len.ensures ∙ as_many_steps c.args.self.now.known.setup c.args.self.now.script c.requires.known.script)),
 )

@@ -1,13 +1,63 @@
-use Rattle.std.proofs.Common.{refl, subst, ap, ◌∙◌, map}
-use Rattle.operator_core.specs.Groups.{IsGroupFrom, AreNumbers}
-use Rattle.operator_core.specs.Tasks.{task_for}
-use Rattle.operator_core.specs.Grafts.{first_log, seat_at}
-use Rattle.operator_core.proofs.Goes.{begins}
+use Rattle.std.proofs.Common.{◌≡◌, ◌≤◌, List, ℕ, length, map, ap, sym, subst, ◌∙◌, refl}
+use Rattle.std.specs.Prelude.{All}
+use Rattle.std.specs.Vec.{with_items}
+use Rattle.std.proofs.lemmas.List.{with_items_is}
+use Rattle.operator_core.specs.declared.evacuate.Gift.{Gift}
+use Rattle.operator_core.specs.declared.grafts.Seat.{Seat}
+use Rattle.operator_core.specs.declared.grafts.Slot.{Slot}
+use Rattle.operator_core.specs.declared.script.ScriptStep.{ScriptStep}
+use Rattle.operator_core.specs.Grafts.{seat_at}
+use Rattle.operator_core.specs.Slots.{first_slots}
+use Rattle.operator_core.specs.Evacuate.{give}
+use Rattle.operator_core.specs.Groups.{AreNumbers, NumbersFit, IsGroupFrom}
+use Rattle.operator_core.proofs.Gifts.{length_give}
+use Rattle.operator_core.proofs.Goes.{numbers_fit, first_gifts_fit, begins_with}
 use Rattle.operator_core.proofs.progress.Progress.new.Goals as goal
 
+pub group_from-requires-clause-numbered : goal.group_from-requires-clause-numbered
+group_from-requires-clause-numbered c =
+    let numbers : AreNumbers (length c.args.script.starts) c.args.script.steps c.in_ok-numbers.numbers =
+    subst (λ (n : ℕ). AreNumbers n c.args.script.steps c.in_ok-numbers.numbers) c.len-peerings.ensures (subst (λ (xs : List ScriptStep). AreNumbers c.len-peerings.result xs c.in_ok-numbers.numbers) c.as_slice-steps.ensures c.in_ok-numbers.ensures) in
+    subst (NumbersFit c.args.script.steps) (sym c.as_slice-2.ensures)
+    (numbers_fit (length c.args.script.starts) c.args.script.steps c.in_ok-numbers.numbers c.requires.sound.peerings c.requires.sound.short numbers)
+
+pub give-requires : goal.give-requires
+give-requires c =
+    let numbers : AreNumbers (length c.args.script.starts) c.args.script.steps c.in_ok-numbers.numbers =
+    subst (λ (n : ℕ). AreNumbers n c.args.script.steps c.in_ok-numbers.numbers) c.len-peerings.ensures (subst (λ (xs : List ScriptStep). AreNumbers c.len-peerings.result xs c.in_ok-numbers.numbers) c.as_slice-steps.ensures c.in_ok-numbers.ensures) in
+    let seats : c.in_ok-seats.seats.items ≡ map seat_at c.args.script.starts = c.in_ok-seats.ensures ∙ ap (map seat_at) c.as_slice.ensures in
+    let slots : c.in_ok-slots.slots.items ≡ first_slots (length c.args.script.starts) 0 c.args.script.steps =
+    c.in_ok-slots.ensures ∙ ap (λ (n : ℕ). first_slots n 0 c.as_slice-steps.result.now) c.len-peerings.ensures ∙ ap (first_slots (length c.args.script.starts) 0) c.as_slice-steps.ensures in
+    let begins : IsGroupFrom c.args.script c.in_ok-numbers.numbers c.in_ok-seats.seats.items 0 c.in_ok-first.first =
+    subst (λ (ns : List ℕ). IsGroupFrom c.args.script ns c.in_ok-seats.seats.items 0 c.in_ok-first.first) c.as_slice-2.ensures
+    (subst (λ (xs : List Seat). IsGroupFrom c.args.script c.as_slice-2.result.now xs 0 c.in_ok-first.first) c.deref.ensures.value c.in_ok-first.ensures) in
+    subst (λ (xs : List Slot). All (λ (gift : Gift). (1 ≤ gift.graft) × (gift.graft ≤ length xs)) c.as_slice-3.result.now) (sym c.deref_mut.ensures.value)
+    (subst (All (λ (gift : Gift). (1 ≤ gift.graft) × (gift.graft ≤ length c.in_ok-slots.slots.items))) (sym c.as_slice-3.ensures)
+    (first_gifts_fit c.args.known.setup c.args.script c.requires.script c.requires.sound c.in_ok-numbers.numbers numbers c.in_ok-seats.seats.items seats c.in_ok-slots.slots.items slots c.in_ok-first.first begins))
+
 pub returns : goal.returns
-returns c = begins c.args.known _ refl c.requires.script c.requires.sound
-    (subst (λ steps. AreNumbers steps c.in_ok-numbers.numbers) c.as_slice.ensures c.in_ok-numbers.ensures) refl c.in_ok-first.first
-    (subst (λ steps. IsGroupFrom steps 0 c.in_ok-first.first) c.as_slice-4.ensures c.in_ok-first.ensures) refl
-    (c.in_ok-waiting.ensures ∙ ap (map task_for) c.as_slice-5.ensures)
-    (c.in_ok-log.ensures ∙ ap (first_log 0) c.as_slice-2.ensures) (c.in_ok-seats.ensures ∙ ap (map seat_at) c.as_slice-3.ensures)
+returns c =
+    let numbers : AreNumbers (length c.args.script.starts) c.args.script.steps c.in_ok-numbers.numbers =
+    subst (λ (n : ℕ). AreNumbers n c.args.script.steps c.in_ok-numbers.numbers) c.len-peerings.ensures (subst (λ (xs : List ScriptStep). AreNumbers c.len-peerings.result xs c.in_ok-numbers.numbers) c.as_slice-steps.ensures c.in_ok-numbers.ensures) in
+    let seats : c.in_ok-seats.seats.items ≡ map seat_at c.args.script.starts = c.in_ok-seats.ensures ∙ ap (map seat_at) c.as_slice.ensures in
+    let slots : c.in_ok-slots.slots.items ≡ first_slots (length c.args.script.starts) 0 c.args.script.steps =
+    c.in_ok-slots.ensures ∙ ap (λ (n : ℕ). first_slots n 0 c.as_slice-steps.result.now) c.len-peerings.ensures ∙ ap (first_slots (length c.args.script.starts) 0) c.as_slice-steps.ensures in
+    let begins : IsGroupFrom c.args.script c.in_ok-numbers.numbers c.in_ok-seats.seats.items 0 c.in_ok-first.first =
+    subst (λ (ns : List ℕ). IsGroupFrom c.args.script ns c.in_ok-seats.seats.items 0 c.in_ok-first.first) c.as_slice-2.ensures
+    (subst (λ (xs : List Seat). IsGroupFrom c.args.script c.as_slice-2.result.now xs 0 c.in_ok-first.first) c.deref.ensures.value c.in_ok-first.ensures) in
+    begins_with c.args.known
+    (record {
+      alloc = c.args.alloc;
+      known = c.args.known;
+      script = c.args.script;
+      numbers = c.in_ok-numbers.numbers;
+      group = 0;
+      next = c.in_ok-first.first.next;
+      tasks = c.in_ok-first.first.tasks;
+      slots = with_items c.in_ok-slots.slots c.give.new.slots;
+      seats = c.in_ok-seats.seats;
+    })
+    refl c.requires.script c.requires.sound numbers refl c.in_ok-first.first begins refl refl c.in_ok-slots.slots.items slots
+    (with_items_is c.in_ok-slots.slots c.give.new.slots (ap (λ (xs : List Slot). length xs) c.give.ensures ∙ length_give c.as_slice-3.result.now c.deref_mut.result.now ∙ ap (λ (xs : List Slot). length xs) c.deref_mut.ensures.value ∙ sym c.in_ok-slots.slots.ok.0)
+    ∙ c.give.ensures ∙ ap (λ (xs : List Slot). give c.as_slice-3.result.now xs) c.deref_mut.ensures.value ∙ ap (λ (gifts : List Gift). give gifts c.in_ok-slots.slots.items) c.as_slice-3.ensures)
+    seats

@@ -1,19 +1,16 @@
 use Rattle.std.proofs.Common.{not, ap, sym, subst, ◌∙◌}
-use Rattle.std.specs.Option.{option_map}
-use Rattle.std.specs.List.{list_any, find}
+use Rattle.std.specs.List.{list_any}
 use Rattle.settled_check.specs.Firsts.{IsLowestOf}
 use Rattle.settled_check.specs.Left.{IsOpen}
-use Rattle.operator_core.specs.Grafts.{is_open}
+use Rattle.operator_core.specs.Slots.{first_open}
 use Rattle.operator_core.specs.States.{part_of}
 use Rattle.operator_core.specs.Progresses.{state}
-use Rattle.operator_core.proofs.Rests.{some_unissued, unissued_there, lowest_open}
-use Rattle.operator_core.proofs.Calls.{some_or_none}
+use Rattle.operator_core.proofs.Rests.{some_unissued, unissued_there, lowest_open, some_or_none}
 use Rattle.operator_core.proofs.progress.Progress.rest.Goals as goal
 
 pub returns : goal.returns
 returns c = record {
-  unissued = some_or_none c.args.self.now.waiting.items c.has_unissued.result _ (c.has_unissued.ensures ∙ ap (λ tasks. list_any (λ task. not task.issued) tasks) c.as_slice.ensures.value)
+  unissued = some_or_none c.args.self.now.tasks.items c.has_unissued.result _ (c.has_unissued.ensures ∙ ap (λ tasks. list_any (λ task. not task.issued) tasks) c.as_slice.ensures.value)
       (some_unissued (state c.args.self.now) c.requires.keeps) (unissued_there (state c.args.self.now) c.requires.keeps);
-  graft = subst (IsLowestOf (IsOpen c.args.self.now.known.setup (part_of (state c.args.self.now))))
-      (sym (c.first_open.ensures ∙ ap (λ log. option_map (λ entry. entry.graft) (find (λ entry. is_open entry.stage) log)) c.as_slice-2.ensures)) (lowest_open (state c.args.self.now) c.requires.keeps);
+  graft = subst (IsLowestOf (IsOpen c.args.self.now.known.setup (part_of (state c.args.self.now)))) (sym (c.first_open.ensures ∙ ap first_open c.as_slice-2.ensures.value)) (lowest_open (state c.args.self.now) c.requires.keeps);
 }

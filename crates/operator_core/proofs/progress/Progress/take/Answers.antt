@@ -1,8 +1,9 @@
 use Rattle.std.proofs.Common.{◌≡◌, ◌≤◌, sym, subst, length, Some, arith}
-use Rattle.std.proofs.lemmas.Option.{slice_get_within}
 use Rattle.operator_core.specs.Progresses.{state, own_part_of, IsOpenPlace, Takes}
 use Rattle.graft_actors.specs.Acts.{IsWelcome}
-use Rattle.operator_core.proofs.Calls.{on_ok, take_drops, take_notes, other_unwelcome, stranger_unwelcome, closed_unwelcome, not_open, open_entry_has_seat}
+use Rattle.operator_core.proofs.Results.{on_ok}
+use Rattle.operator_core.proofs.Calls.{have_seats}
+use Rattle.operator_core.proofs.Takes.{take_drops, take_notes, other_unwelcome, stranger_unwelcome, closed_unwelcome, not_open}
 use Rattle.operator_core.proofs.progress.Progress.take.Goals as goal
 
 pub returns-in_default-clause-ok : goal.returns-in_default-clause-ok
@@ -22,19 +23,19 @@ returns-in_default-open_place-clause-ok g c = on_ok c.note_dropped-in_default-op
     (λ wrote. take_drops c.args.self.now c.args.from c.args.item c.args.post.now c.note_dropped-in_default-open_place.new.post c.actors_have_their_numbers.ensures.numbers c.requires wrote
     (λ session. subst (λ item. ¬ IsWelcome session (own_part_of (state c.args.self.now)) c.args.from item) (sym c.in-Report.is)
     (closed_unwelcome c.args.self.now c.args.from c.in-Report.graft c.in-Report.outcome session c.the_operator_takes_what_comes.ensures.report c.requires
-    (not_open c.args.self.now.log c.in-Report.graft c.open_place.result (λ place e. c.in_default-open_place.not-Some place e) c.open_place.ensures)))) c.note_dropped-in_default-open_place.ensures.ok
+    (not_open c.args.self.now.slots.items c.in-Report.graft c.open_place.result (λ place e. c.in_default-open_place.not-Some place e) c.open_place.ensures)))) c.note_dropped-in_default-open_place.ensures.ok
 
-pub end-requires-clause-logged : goal.end-requires-clause-logged
-end-requires-clause-logged g c =
-    let is_place : IsOpenPlace c.args.self.now.log c.in-Report.graft (Some c.in-Some.place) = subst (IsOpenPlace c.args.self.now.log c.in-Report.graft) c.in-Some.is c.open_place.ensures in
-    slice_get_within c.args.self.now.log c.in-Some.place is_place.0 is_place.1
+pub end-requires-clause-made : goal.end-requires-clause-made
+end-requires-clause-made g c =
+    let is_place : IsOpenPlace c.args.self.now.slots.items c.in-Report.graft (Some c.in-Some.place) = subst (IsOpenPlace c.args.self.now.slots.items c.in-Report.graft) c.in-Some.is c.open_place.ensures in
+    (is_place.0, is_place.1)
 
 pub end-requires-clause-seated : goal.end-requires-clause-seated
-end-requires-clause-seated g c = open_entry_has_seat c.args.self.now c.requires c.in-Some.place
+end-requires-clause-seated g c = have_seats c.args.self.now c.requires.keeps
 
 pub returns-clause-ok : goal.returns-clause-ok
 returns-clause-ok g c =
-    let is_place : IsOpenPlace c.args.self.now.log c.in-Report.graft (Some c.in-Some.place) = subst (IsOpenPlace c.args.self.now.log c.in-Report.graft) c.in-Some.is c.open_place.ensures in
+    let is_place : IsOpenPlace c.args.self.now.slots.items c.in-Report.graft (Some c.in-Some.place) = subst (IsOpenPlace c.args.self.now.slots.items c.in-Report.graft) c.in-Some.is c.open_place.ensures in
     subst (λ item. Takes c.args.from item c.args.self.now c.args.post.now c.end.new.self c.note_operator.new.post) (sym c.in-Report.is)
     (take_notes c.args.self.now c.end.new.self c.args.from c.in-Report.graft c.in-Some.place c.in-Report.outcome c.args.post.now c.note_operator.new.post c.actors_have_their_numbers.ensures.numbers c.the_operator_takes_what_comes.ensures.report c.requires
     (let l = c.if-from-len.false in let e : c.len.result ≡ length c.args.self.now.script.rooms = c.len.ensures in omega arith) is_place c.in_ok-note_operator.ensures.ok c.end.ensures)

@@ -1,0 +1,7 @@
+use Rattle.std.proofs.Common.{ℕ, ◌<◌, ◌≤◌, Some}
+use Rattle.std.specs.Prelude.{◌≢◌, slice_get}
+use Rattle.operator_core.specs.declared.script.ScriptStep.TheVariants.{Settle}
+use Rattle.operator_core.proofs.groups.group_end.Given as goal
+
+abbrev pub invariant-loop-place : goal.invariant-loop-place
+invariant-loop-place l = (n : ℕ) → l.from ≤ n → n < l.place → slice_get l.steps n ≢ Some Settle
