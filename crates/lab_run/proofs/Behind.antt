@@ -3,13 +3,15 @@ use Rattle.std.proofs.Common.{◌≡◌, ℕ, ◌+◌, true, List, [], ◌∷◌
 use Rattle.std.specs.List.{last_or}
 use Rattle.ring_net.specs.declared.entry.JournalEntry.{JournalEntry}
 use Rattle.ring_net.specs.Deeds.{Deed, entries_of}
+use Rattle.ring_net.proofs.Replays.{all-append}
 use Rattle.journal_merge.specs.Merges.{Interleaves, upto}
 use Rattle.graft_model.specs.Setups.{Setup}
 use Rattle.graft_model.specs.Parts.{World}
 use Rattle.settled_check.specs.Left.{HasUnissued}
+use Rattle.graft_runs.specs.Laws.{IsGo}
 use Rattle.router_core.specs.Parts.{carried}
 use Rattle.world_runs.specs.Runs.{IsSeenAs, Ran}
-use Rattle.run_marks.specs.Marks.{before, IsWorldAtMark, IsMarkOf, operator_in, is_go, BeginsWithGo}
+use Rattle.run_marks.specs.Marks.{before, IsWorldAtMark, IsMarkOf, operator_in, is_go, BeginsNone, BeginsWithGo}
 use Rattle.run_marks.proofs.Marks.{up_to_mark, world_at_mark}
 use Rattle.run_marks.proofs.Groups.{groups_counted}
 use Rattle.run_marks.proofs.Seen.{nothing_open}
@@ -20,14 +22,14 @@ use Rattle.lab_report.specs.declared.lab.RunEnd.TheVariants.{Settled}
 use Rattle.lab_budgets.specs.declared.budget.Budget.{Budget}
 use Rattle.lab_run.specs.declared.end.Verdict.{Verdict}
 use Rattle.lab_run.specs.declared.end.Verdict.TheVariants.{GoesOn, IsQuiet, Ends}
-use Rattle.lab_run.specs.Ends.{MarkNames, NextBegins, MarksName}
+use Rattle.lab_run.specs.Ends.{MarkNames, NextBegins, NoneBegins, MarksName}
 use Rattle.lab_run.specs.Stories.{RoundNames}
-use Rattle.lab_run.proofs.Stands.{GoesOnTo, then_on, round_on, pause_on, pause_journal, IsWhole, mark_of, round_without_go, without_go, between_marks, pause_goes, groups_at}
+use Rattle.lab_run.proofs.Stands.{GoesOnTo, then_on, round_on, pause_on, pause_journal, IsWhole, whole_pause, mark_of, round_without_go, without_go, between_marks, pause_goes, groups_at}
 
 -- ---- what marks name, by the budgets that are left
 
 name_goes : (setup : Setup) (journal : List JournalEntry) (step n : ℕ) (budget : Budget) (budgets : List Budget) (mark : List ℕ) (marks : List (List ℕ)) (made : List ℕ) (end : RunEnd)
-    → MarkNames setup journal budget step (n + 1) mark GoesOn → ¬ NextBegins setup journal mark marks → MarksName setup journal step (n + 1) (budget ∷ budgets) marks made end
+    → MarkNames setup journal budget step (n + 1) mark GoesOn → NoneBegins setup journal mark marks → MarksName setup journal step (n + 1) (budget ∷ budgets) marks made end
     → MarksName setup journal step n (budget ∷ budgets) (mark ∷ marks) made end
 name_goes setup journal step n budget [] mark marks made end names none further = inl (names, none, further)
 name_goes setup journal step n budget (next ∷ budgets) mark marks made end names none further = inl (names, none, further)
@@ -66,26 +68,27 @@ module _ (setup : Setup) (z : Stand) (journal : List JournalEntry) (merge : Inte
       record { world = h.0; is = h.1; names = names.names h.0 (h.2, record { events = h.1.events; run = h.1.run }) }
 
   -- no group begins between a mark and the next, where a round lies between them
-  none_begins : (step n : ℕ) (budgets : List Budget) (b c : Stand) (old : List (List ℕ)) (mark : List ℕ) (made : List ℕ) (end : RunEnd) → IsWhole setup c → IsMarkOf c.view z.view mark
-      → (behind : Behind step n budgets c made end) → ¬ NextBegins setup journal mark (behind.round.marked.mark ∷ behind.later)
-  none_begins step n budgets b c old mark made end is at_c behind follows =
-      without_go (behind.round.phase.notes (operator_in setup)) (round_without_go setup c behind.stand is behind.round)
-      ((between_marks setup z c behind.stand journal mark behind.round.marked.mark (entries_of (behind.round.phase.notes (operator_in setup))) merge at_c
-      (mark_of setup behind.stand z c.marks behind.round.marked behind.is_whole behind.on) (behind.round.phase.journals (operator_in setup))).0 follows)
+  pub none_begins : (step n : ℕ) (budgets : List Budget) (c : Stand) (mark : List ℕ) (made : List ℕ) (end : RunEnd) → IsWhole setup c → IsMarkOf c.view z.view mark
+      → (behind : Behind step n budgets c made end) → NoneBegins setup journal mark (behind.round.marked.mark ∷ behind.later)
+  none_begins step n budgets c mark made end is at_c behind =
+      (between_marks setup z c behind.stand journal mark behind.round.marked.mark (entries_of (behind.round.phase.notes (operator_in setup))) merge at_c
+      (mark_of setup behind.stand z c.marks behind.round.marked behind.is_whole behind.on) (behind.round.phase.journals (operator_in setup))).1.1
+      (without_go (behind.round.phase.notes (operator_in setup)) (round_without_go setup c behind.stand is behind.round))
 
-  begins_first : (xs ys : List JournalEntry) → BeginsWithGo xs → BeginsWithGo (xs ++ ys)
-  begins_first [] ys go = absurd go
-  begins_first (x ∷ xs) ys go = go
+  begins_first : (xs ys : List JournalEntry) → BeginsWithGo xs → BeginsNone ys → BeginsWithGo (xs ++ ys)
+  begins_first [] ys go none = absurd go
+  begins_first (x ∷ xs) ys go none = (go.0, all-append (λ (e : JournalEntry). ¬ IsGo e) xs ys go.1 none)
 
-  -- one begins where the operator began it at the mark
-  next_begins : (step n : ℕ) (budgets : List Budget) (b c : Stand) (mark : List ℕ) (made : List ℕ) (end : RunEnd) → IsMarkOf b.view z.view mark → (pause : Pause (operator_in setup) b c true)
+  -- one begins where the operator began it at the mark, and no other in the round behind it
+  next_begins : (step n : ℕ) (budgets : List Budget) (b c : Stand) (mark : List ℕ) (made : List ℕ) (end : RunEnd) → IsWhole setup b → IsMarkOf b.view z.view mark → (pause : Pause (operator_in setup) b c true)
       → BeginsWithGo (map (λ (d : Deed Mail). d.entry) pause.between.deeds) → (behind : Behind step n budgets c made end) → NextBegins setup journal mark (behind.round.marked.mark ∷ behind.later)
-  next_begins step n budgets b c mark made end at_b pause go behind =
+  next_begins step n budgets b c mark made end is at_b pause go behind =
       let op : ℕ = operator_in setup in
       let first : List JournalEntry = map (λ (d : Deed Mail). d.entry) pause.between.deeds in
       let second : List JournalEntry = entries_of (behind.round.phase.notes op) in
       (between_marks setup z b behind.stand journal mark behind.round.marked.mark (first ++ second) merge at_b (mark_of setup behind.stand z c.marks behind.round.marked behind.is_whole behind.on)
-      (behind.round.phase.journals op ∙ ap (λ (xs : List JournalEntry). xs ++ second) (pause_journal op b c true pause) ∙ append_assoc (b.view.journal op) first second)).1 (begins_first first second go)
+      (behind.round.phase.journals op ∙ ap (λ (xs : List JournalEntry). xs ++ second) (pause_journal op b c true pause) ∙ append_assoc (b.view.journal op) first second)).0.1
+      (begins_first first second go (without_go (behind.round.phase.notes op) (round_without_go setup c behind.stand (whole_pause setup b c true is pause) behind.round)))
 
   marks_behind : (b c : Stand) (round : Round b c) (later : List (List ℕ)) → z.marks ≡ c.marks ++ later → z.marks ≡ b.marks ++ round.marked.mark ∷ later
   marks_behind b c round later whole = whole ∙ ap (λ (xs : List (List ℕ)). xs ++ later) round.marked.marks ∙ append_assoc b.marks (round.marked.mark ∷ []) later
@@ -106,7 +109,7 @@ module _ (setup : Setup) (z : Stand) (journal : List JournalEntry) (merge : Inte
           later = marks;
           whole = marks_behind b c names.round marks behind.whole;
           name = name_goes setup journal step n budget budgets names.round.marked.mark marks made end (mark_names budget step (n + 1) b c GoesOn names is on ran)
-              (none_begins step (n + 1) (budget ∷ budgets) b c b.marks names.round.marked.mark made end is (mark_of setup c z b.marks names.round.marked is on) behind) behind.name;
+              (none_begins step (n + 1) (budget ∷ budgets) c names.round.marked.mark made end is (mark_of setup c z b.marks names.round.marked is on) behind) behind.name;
           last = behind.last;
           is_last = behind.is_last;
           ends = behind.ends;
@@ -168,7 +171,7 @@ module _ (setup : Setup) (z : Stand) (journal : List JournalEntry) (merge : Inte
           whole = marks_behind b c names.round marks (behind.whole ∙ ap (λ (xs : List (List ℕ)). xs ++ marks) pause.marks);
           name = inr (inl (
             mark_names budget step (n + 1) b c IsQuiet names is on ran,
-            (next_begins (step + 1) 0 (next ∷ budgets) c d names.round.marked.mark made end (mark_of setup c z b.marks names.round.marked is on) pause (pause_goes setup c d w.0 is w.1 w.2 pause) behind, (made, refl, behind.name)),
+            (next_begins (step + 1) 0 (next ∷ budgets) c d names.round.marked.mark made end is (mark_of setup c z b.marks names.round.marked is on) pause (pause_goes setup c d w.0 is w.1 w.2 pause) behind, (made, refl, behind.name)),
           ));
           last = behind.last;
           is_last = behind.is_last;

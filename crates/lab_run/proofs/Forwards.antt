@@ -1,7 +1,7 @@
 -- The best routes that a lab shows forward as those of the world that it is seen of.
-use Rattle.std.proofs.Common.{◌≡◌, ℕ, ◌<◌, Bool, true, false, cond, List, [], ◌∷◌, map, Some, refl, sym, ap, ◌∙◌, subst}
+use Rattle.std.proofs.Common.{◌≡◌, ℕ, ◌<◌, true, false, cond, List, [], ◌∷◌, map, Some, refl, sym, ap, ◌∙◌, subst}
 use Rattle.std.specs.Prelude.{option_map}
-use Rattle.std.specs.FinMap.{entries, find, from_entries, get, get-entries, get-from_entries, same_map}
+use Rattle.std.specs.FinMap.{entries, find, from_entries, get-entries, get-from_entries, same_map}
 use Rattle.std.specs.Ordering.{eq_by_cmp}
 use Rattle.graft_edge.specs.declared.ids.PeeringId.{PeeringId}
 use Rattle.graft_edge.specs.declared.ids.RouterId.{RouterId}

@@ -1,5 +1,10 @@
 -- What a lab tells of the end of its net.
-use Rattle.std.proofs.Common.{◌≡◌, ℕ, ◌<◌, List, sym, subst, ◌∙◌}
+use Rattle.std.proofs.Common.{◌≡◌, refl, ℕ, ◌<◌, List, length, ap, sym, subst, ◌∙◌}
+use Rattle.std.specs.Prelude.{take}
+use Rattle.std.proofs.Math.Seq.{take-length}
+use Rattle.ring_net.specs.declared.entry.JournalEntry.{JournalEntry}
+use Rattle.journal_merge.specs.Merges.{AreSorted, entries_by, upto}
+use Rattle.journal_merge.proofs.Orders.{sorted_once, merged_upto}
 use Rattle.graft_model.specs.Setups.{Setup, IsSetup, peerings_in}
 use Rattle.graft_model.specs.Parts.{World}
 use Rattle.graft_model.specs.First.{first_world}
@@ -14,6 +19,8 @@ use Rattle.world_runs.specs.Runs.{RanAs}
 use Rattle.world_nodes.specs.Nodes.{own}
 use Rattle.real_rounds.specs.Laws.{RoundsAreReal}
 use Rattle.real_rounds.specs.Whole.{RealRounds}
+use Rattle.graft_runs.specs.Laws.{AreEntriesOf}
+use Rattle.run_marks.specs.Marks.{before, IsWorldAtMark}
 use Rattle.lab_setup.specs.Setups.{setup_of}
 use Rattle.lab_report.specs.declared.lab.RunEnd.{RunEnd}
 use Rattle.lab_report.specs.declared.lab.RunEnd.TheVariants.{Settled}
@@ -45,9 +52,18 @@ EvacuationsGoByPlan = (setup : Setup) (events : List Event) → IsSetup setup �
 abbrev pub EmptiedAreLeft : Type 0
 EmptiedAreLeft = (setup : Setup) (w : World) → IsSetup setup → EmptyAlone setup → Reached setup w → Quiet setup w → AreEmptied setup w.operator
 
+abbrev pub OneAtEachMark : Type 0
+OneAtEachMark = (setup : Setup) (journal : List JournalEntry) (mark : List ℕ) (u v : World) → IsSetup setup → IsWorldAtMark setup journal mark u → IsWorldAtMark setup journal mark v → v ≡ u
+
+-- Before a mark that has the length of each actor's entries all entries stand.
+all_before : (mark : ℕ → ℕ) (es : List JournalEntry) → AreSorted es → ((k : ℕ) → mark k ≡ length (entries_by k es)) → upto mark es ≡ es
+all_before mark es sorted whole =
+    let front = merged_upto (λ k. entries_by k es) es mark (record { each = λ k. refl; sorted = sorted }) in
+    sorted_once (upto mark es) es front.sorted sorted (λ k. front.each k ∙ ap (λ n. take n (entries_by k es)) (whole k) ∙ take-length (entries_by k es))
+
 pub labs_tell : WayRan → RunsAreTransparent → AlwaysUnchanged → AlwaysMadeBefore → QuietSolves → AlwaysTransparent → WalksAreShort → WalksLeaveThere → EvacuationsGoByPlan → EmptiedAreLeft
-    → RoundsAreReal → LabsTellOfRuns
-labs_tell way_ran transparent unchanged made solves always short leave by_plan left rounds lab a z sound alone tells = record {
+    → OneAtEachMark → RoundsAreReal → LabsTellOfRuns
+labs_tell way_ran transparent unchanged made solves always short leave by_plan left one rounds lab a z sound alone tells = record {
   events = ran.events;
   entries_of = ran.entries_of;
   world = ran.world;
@@ -57,8 +73,13 @@ labs_tell way_ran transparent unchanged made solves always short leave by_plan l
   unchanged = unchanged (setup_of lab.input) ran.events sound;
   made = made (setup_of lab.input) ran.events sound;
   emptied = by_plan (setup_of lab.input) ran.events sound;
-  marks = subst (λ (ms : List (List ℕ)). HasMarks (setup_of lab.input) lab.journal (budgets_in lab.input) ms lab.rounds lab.end) (sym tells.marks)
-      (marks_of_run way_ran (setup_of lab.input) sound a tells.begins z lab.journal tells.merged (budgets_in lab.input) lab.rounds lab.end (each_has_one lab.input) tells.goes);
+  marks = marks;
+  one = λ mark u v. one (setup_of lab.input) lab.journal mark u v sound;
+  last = record {
+    events = ran.events;
+    entries_of = subst (AreEntriesOf (setup_of lab.input) ran.events) (sym (all_before (before marks.last) lab.journal tells.merged.sorted marks.whole)) ran.entries_of;
+    run = ran.run;
+  };
   real = subst (λ (ms : List (List ℕ)). RealRounds (setup_of lab.input) lab.input.faults lab.journal ms) (sym (same_marks way_ran (setup_of lab.input) sound a tells.begins z lab.journal tells.merged (budgets_in lab.input) lab.rounds lab.end tells.goes) ∙ sym tells.marks) real;
   quiet = quiet;
   solves = solved;
@@ -72,6 +93,10 @@ labs_tell way_ran transparent unchanged made solves always short leave by_plan l
 
     whole : IsWhole (setup_of lab.input) z
     whole = run_whole way_ran (setup_of lab.input) sound a tells.begins z lab.journal tells.merged (budgets_in lab.input) lab.rounds lab.end tells.goes
+
+    marks : HasMarks (setup_of lab.input) lab.journal (budgets_in lab.input) lab.marks lab.rounds lab.end
+    marks = subst (λ (ms : List (List ℕ)). HasMarks (setup_of lab.input) lab.journal (budgets_in lab.input) ms lab.rounds lab.end) (sym tells.marks)
+        (marks_of_run way_ran (setup_of lab.input) sound a tells.begins z lab.journal tells.merged (budgets_in lab.input) lab.rounds lab.end (each_has_one lab.input) tells.goes)
 
     reached : Reached (setup_of lab.input) ran.world
     reached = record { events = ran.events; run = ran.run }

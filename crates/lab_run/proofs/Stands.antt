@@ -22,7 +22,7 @@ use Rattle.router_core.specs.Parts.{carried}
 use Rattle.world_runs.specs.Labs.{actors_in}
 use Rattle.world_runs.specs.Runs.{IsSeenAs}
 use Rattle.world_runs.specs.Laws.{IsNoGo}
-use Rattle.run_marks.specs.Marks.{before, IsMarkOf, operator_in, is_go, GoFollows, BeginsWithGo}
+use Rattle.run_marks.specs.Marks.{before, IsMarkOf, operator_in, is_go, BeginsNone, BeginsWithGo, GoFollows, NoGoFollows}
 use Rattle.run_marks.proofs.Seen.{group_seen, act_goes}
 use Rattle.world_nodes.specs.Edges.{has_channel}
 use Rattle.world_nodes.specs.Nodes.{Mail, own}
@@ -103,9 +103,9 @@ mark_of setup c z old marked is on = record { lengths = λ k. by_number k (below
 
 -- ---- groups
 
-pub without_go : (notes : List (Noted Mail)) → AllByRecursion IsNoGo (deeds notes) → ¬ BeginsWithGo (entries_of notes)
-without_go [] none go = go
-without_go (n ∷ notes) none go = none.0 go
+pub without_go : (notes : List (Noted Mail)) → AllByRecursion IsNoGo (deeds notes) → BeginsNone (entries_of notes)
+without_go [] none = tt
+without_go (n ∷ notes) none = (none.0, without_go notes none.1)
 
 -- in a round the operator begins no group
 pub no_go_in : (k : ℕ) (b c : Stand) (d : Node) (round : Round b c) → k < length b.view.actors → AllByRecursion IsNoGo (deeds (round.phase.notes k))
@@ -118,9 +118,9 @@ some_node (x ∷ xs) k there = x
 pub round_without_go : (setup : Setup) (b c : Stand) → IsWhole setup b → (round : Round b c) → AllByRecursion IsNoGo (deeds (round.phase.notes (operator_in setup)))
 round_without_go setup b c is round = no_go_in (operator_in setup) b c (some_node b.view.actors (operator_in setup) (operator_within setup b is)) round (operator_within setup b is)
 
--- what begins a group between two marks is the first that the operator notes between them
+-- what is seen of groups between two marks is so of what the operator notes between them
 pub between_marks : (setup : Setup) (z b c : Stand) (journal : List JournalEntry) (mark next : List ℕ) (new : List JournalEntry) → Interleaves z.view.journal journal → IsMarkOf b.view z.view mark → IsMarkOf c.view z.view next
-    → c.view.journal (operator_in setup) ≡ b.view.journal (operator_in setup) ++ new → GoFollows setup journal mark next ↔ BeginsWithGo new
+    → c.view.journal (operator_in setup) ≡ b.view.journal (operator_in setup) ++ new → (GoFollows setup journal mark next ↔ BeginsWithGo new) × (NoGoFollows setup journal mark next ↔ BeginsNone new)
 between_marks setup z b c journal mark next new merge at_b at_c grew =
     let op : ℕ = operator_in setup in
     group_seen setup journal mark next (b.view.journal op) new (at_c.later op).0 (merge.each op ∙ (at_c.later op).1 ∙ ap (λ (xs : List JournalEntry). xs ++ (at_c.later op).0) grew) (at_b.lengths op) (at_c.lengths op ∙ ap (λ (xs : List JournalEntry). length xs) grew)
@@ -136,7 +136,7 @@ operator_is setup b w d is seen =
     sym (seen.is.parts op d (operator_within setup b is))
     ∙ own_path (seen.lab.part op) setup Operator (OperatorIs w.operator) (seen.sees.setups op Operator (at_operator setup)) (seen.sees.names op Operator (at_operator setup)) (seen.sees.sees.parts op Operator (at_operator setup))
 
--- what it does at a mark, where no step is left, begins a group
+-- what it does at a mark, where no step is left, begins a group, and is one event
 pub pause_goes : (setup : Setup) (b c : Stand) (w : World) → IsWhole setup b → IsSeenAs own carried setup b.view w → ¬ HasUnissued setup w.operator → (pause : Pause (operator_in setup) b c true)
     → BeginsWithGo (map (λ (d : Deed Mail). d.entry) pause.between.deeds)
 pause_goes setup b c w is seen none pause = by_deeds pause.between.deeds refl where
@@ -151,12 +151,17 @@ pause_goes setup b c w is seen none pause = by_deeds pause.between.deeds refl wh
 
   by_deeds : (ds : List (Deed Mail)) → pause.between.deeds ≡ ds → BeginsWithGo (map (λ (d : Deed Mail). d.entry) ds)
   by_deeds [] e = let f : true ≡ false = pause.between.answer.1 e in absurd cc
-  by_deeds (d ∷ ds) e =
+  by_deeds (d ∷ more ∷ ds) e =
+      let few = pause_few (get_or pause.level.actors (operator_in setup) node) (get_or c.view.actors (operator_in setup) node) pause.between.deeds (pause.between.paused node) in
+      absurd (omega (arith, few, ap (λ (xs : List (Deed Mail)). length xs) e))
+  by_deeds (d ∷ []) e =
       let replay = subst (λ (xs : List (Deed Mail)). Replay (acts carried) (operator_in setup) (own (get_or pause.level.actors (operator_in setup) node)) xs (own (get_or c.view.actors (operator_in setup) node))) e (pause.between.replay node) in
-      let none_taken = subst (λ (xs : List (Deed Mail)). AllByRecursion TakesNone xs) e pause.between.none in
-      act_goes carried setup w.operator d.entry d.sent replay.0 none
-      (subst (λ (taken : Option (ℕ × Mail)). ActsAs carried (record { setup = setup; name = Operator; part = OperatorIs w.operator }) d.entry taken d.sent replay.0) none_taken.0
-      (subst (λ (part : OwnPart). ActsAs carried part d.entry d.taken d.sent replay.0) was replay.1))
+      let none_taken = subst (λ (xs : List (Deed Mail)). AllByRecursion TakesNone xs) e pause.between.none in (
+        act_goes carried setup w.operator d.entry d.sent replay.0 none
+            (subst (λ (taken : Option (ℕ × Mail)). ActsAs carried (record { setup = setup; name = Operator; part = OperatorIs w.operator }) d.entry taken d.sent replay.0) none_taken.0
+            (subst (λ (part : OwnPart). ActsAs carried part d.entry d.taken d.sent replay.0) was replay.1)),
+        tt,
+      )
 
 -- ---- how many groups have begun
 
@@ -166,9 +171,9 @@ groups_at setup c = length (filter is_go (c.view.journal (operator_in setup)))
 counted_behind : (had new : List JournalEntry) → length (filter is_go (had ++ new)) ≡ length (filter is_go had) + length (filter is_go new)
 counted_behind had new = ap (λ (xs : List JournalEntry). length xs) (filter-append is_go had new) ∙ length-append (filter is_go had) (filter is_go new)
 
-none_counted : (notes : List (Noted Mail)) → AllByRecursion IsNoGo (deeds notes) → length (filter is_go (entries_of notes)) ≡ 0
+none_counted : (entries : List JournalEntry) → BeginsNone entries → length (filter is_go entries) ≡ 0
 none_counted [] none = refl
-none_counted (n ∷ notes) none = let rest : length (filter is_go (entries_of notes)) ≡ 0 = none_counted notes none.1 in left_out n.deed.entry (entries_of notes) none.0 rest where
+none_counted (e ∷ es) none = left_out e es none.0 (none_counted es none.1) where
   left_out : (e : JournalEntry) (es : List JournalEntry) → (IsGo e → ⊥) → length (filter is_go es) ≡ 0 → length (filter is_go (e ∷ es)) ≡ 0
   left_out e es other zero = grind (arith, nat_tests)
 
@@ -176,23 +181,20 @@ pub groups_stay : (setup : Setup) (b c : Stand) → IsWhole setup b → Round b 
 groups_stay setup b c is round =
     let op : ℕ = operator_in setup in
     let more = counted_behind (b.view.journal op) (entries_of (round.phase.notes op)) in
-    let none = none_counted (round.phase.notes op) (round_without_go setup b c is round) in
+    let none = none_counted (entries_of (round.phase.notes op)) (without_go (round.phase.notes op) (round_without_go setup b c is round)) in
     ap (λ (xs : List JournalEntry). length (filter is_go xs)) (round.phase.journals op) ∙ omega (arith, more, none)
 
-one_counted : (ds : List (Deed Mail)) → length ds ≤ 1 → BeginsWithGo (map (λ (d : Deed Mail). d.entry) ds) → length (filter is_go (map (λ (d : Deed Mail). d.entry) ds)) ≡ 1
-one_counted [] few go = absurd go
-one_counted (d ∷ []) few go = put_in d.entry go where
-  put_in : (e : JournalEntry) → IsGo e → length (filter is_go (e ∷ [])) ≡ 1
-  put_in e go = grind (arith, nat_tests)
-one_counted (d ∷ e ∷ ds) few go = absurd (omega (arith, few))
+one_counted : (entries : List JournalEntry) → BeginsWithGo entries → length (filter is_go entries) ≡ 1
+one_counted [] go = absurd go
+one_counted (e ∷ es) go = put_in e es go.0 (none_counted es go.1) where
+  put_in : (e : JournalEntry) (es : List JournalEntry) → IsGo e → length (filter is_go es) ≡ 0 → length (filter is_go (e ∷ es)) ≡ 1
+  put_in e es go zero = grind (arith, nat_tests)
 
 pub groups_more : (setup : Setup) (b c : Stand) (w : World) → IsWhole setup b → IsSeenAs own carried setup b.view w → ¬ HasUnissued setup w.operator → (pause : Pause (operator_in setup) b c true) → groups_at setup c ≡ groups_at setup b + 1
 groups_more setup b c w is seen none pause =
     let op : ℕ = operator_in setup in
-    let node : Node = some_node b.view.actors (operator_in setup) (operator_within setup b is) in
-    let few = pause_few (get_or pause.level.actors op node) (get_or c.view.actors op node) pause.between.deeds (pause.between.paused node) in
     let more = counted_behind (b.view.journal op) (map (λ (d : Deed Mail). d.entry) pause.between.deeds) in
-    let one = one_counted pause.between.deeds few (pause_goes setup b c w is seen none pause) in
+    let one = one_counted (map (λ (d : Deed Mail). d.entry) pause.between.deeds) (pause_goes setup b c w is seen none pause) in
     ap (λ (xs : List JournalEntry). length (filter is_go xs)) (pause_journal op b c true pause) ∙ omega (arith, more, one)
 
 -- ---- where nothing was done

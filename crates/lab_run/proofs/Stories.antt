@@ -23,8 +23,8 @@ use Rattle.lab_run.specs.declared.end.Verdict.{Verdict}
 use Rattle.lab_run.specs.declared.end.Verdict.TheVariants.{IsQuiet, Ends}
 use Rattle.lab_run.specs.Ends.{HasMarks}
 use Rattle.lab_run.specs.Stories.{Goes, NoRound, OneMore, GroupGoes, Passes, GroupsGo, NoGroup, NextGroup, RunGoes}
-use Rattle.lab_run.proofs.Stands.{GoesOnTo, stays, then_on, round_on, pause_on, pause_journal, pause_others, IsWhole, whole_first, whole_round, whole_pause, groups_at, groups_stay, groups_more, same_back, same_seen, pause_same}
-use Rattle.lab_run.proofs.Behind.{Behind, world_behind, behind_on, behind_round, behind_end, behind_settled, behind_group, quiet_there, groups_behind}
+use Rattle.lab_run.proofs.Stands.{GoesOnTo, stays, then_on, round_on, pause_on, pause_journal, pause_others, IsWhole, whole_first, whole_round, whole_pause, mark_of, groups_at, groups_stay, groups_more, same_back, same_seen, pause_same}
+use Rattle.lab_run.proofs.Behind.{Behind, world_behind, behind_on, behind_round, behind_end, behind_settled, behind_group, none_begins, quiet_there, groups_behind}
 
 abbrev pub WayRan : Type 0
 WayRan = (setup : Setup) (a b : Stand) (rounds : List ℕ) → IsSetup setup → Begins setup a → Way setup a rounds b → Ran own carried setup b.view
@@ -210,11 +210,13 @@ module _ (way_ran : WayRan) (setup : Setup) (sound : IsSetup setup) (a : Stand) 
   pub marks_of_run : (budgets : List Budget) (made : List ℕ) (end : RunEnd) → length budgets ≡ groups_in setup → RunGoes setup a budgets made end z → HasMarks setup journal budgets z.marks made end
   marks_of_run budgets made end as_many run =
       let behind : Behind setup z journal merge 1 0 budgets a made end = run_behind budgets made end as_many run in
+      let whole : IsWhole setup a = whole_first setup a begins in
       record {
         first = begins.marked.mark;
         marks = behind.round.marked.mark ∷ behind.later;
         is = behind.whole ∙ ap (λ (xs : List (List ℕ)). xs ++ behind.round.marked.mark ∷ behind.later) begins.marked.marks;
         empty = all_zero begins.marked.mark (λ k there. begins.marked.lengths k (omega (arith, there, begins.marked.size)) ∙ ap (λ (xs : List JournalEntry). length xs) (begins.new.journals k));
+        begins_none = none_begins setup z journal merge 1 0 budgets a begins.marked.mark made end whole (mark_of setup a z [] begins.marked whole (behind_on setup z journal merge 1 0 budgets a made end behind)) behind;
         last = behind.last;
         is_last = behind.is_last;
         whole = λ k. behind.ends k ∙ sym (ap (λ (xs : List JournalEntry). length xs) (merge.each k));

@@ -8,7 +8,7 @@ use Rattle.graft_model.specs.Setups.{Setup}
 use Rattle.graft_model.specs.Parts.{World}
 use Rattle.graft_model.specs.Quiet.{Quiet}
 use Rattle.graft_steps.specs.declared.rest.Pending.{Pending}
-use Rattle.run_marks.specs.Marks.{before, IsWorldAtMark, GoFollows}
+use Rattle.run_marks.specs.Marks.{before, IsWorldAtMark, GoFollows, NoGoFollows}
 use Rattle.world_nodes.specs.Looks.{IsLowest, IsStuckIn, IsPending}
 use Rattle.lab_report.specs.declared.lab.RunEnd.{RunEnd}
 use Rattle.lab_report.specs.declared.lab.RunEnd.TheVariants.{Settled, Unsettled, StreamFull, JournalFull}
@@ -81,20 +81,25 @@ pub record MarkNames (setup : Setup) (journal : List JournalEntry) (budget : Bud
   pub is : IsWorldAtMark setup journal mark world
   pub names : Names setup world budget (record { events = sum mark; step = step; rounds = rounds }) verdict
 
--- a group begins between a mark and the next one
+-- a group begins behind a mark at once, and no other before the next one
 abbrev pub NextBegins : Setup → List JournalEntry → List ℕ → List (List ℕ) → Type 0
 NextBegins setup journal mark [] = ⊥
 NextBegins setup journal mark (next ∷ marks) = GoFollows setup journal mark next
 
--- A mark names another round, before which no group begins, and this holds of the marks behind it; or the end of the group, and this holds; or how the run ends, at the last mark.
+-- no group begins between a mark and the next one
+abbrev pub NoneBegins : Setup → List JournalEntry → List ℕ → List (List ℕ) → Type 0
+NoneBegins setup journal mark [] = Unit {0}
+NoneBegins setup journal mark (next ∷ marks) = NoGoFollows setup journal mark next
+
+-- A mark names another round, in which no group begins, and this holds of the marks behind it; or the end of the group, and this holds; or how the run ends, at the last mark.
 abbrev pub AtMark : Setup → List JournalEntry → Budget → (step rounds : ℕ) → (mark : List ℕ) (marks : List (List ℕ)) → (made : List ℕ) → RunEnd → (Further Over : Type 0) → Type 0
 AtMark setup journal budget step rounds mark marks made end Further Over =
-    (MarkNames setup journal budget step rounds mark GoesOn × (¬ NextBegins setup journal mark marks) × Further)
+    (MarkNames setup journal budget step rounds mark GoesOn × NoneBegins setup journal mark marks × Further)
     ⊎ ((MarkNames setup journal budget step rounds mark IsQuiet × Over)
     ⊎ (MarkNames setup journal budget step rounds mark (Ends end) × (marks ≡ []) × (made ≡ rounds ∷ [])))
 
--- The marks behind rounds, from the settle of number `step` on, which has made so many rounds, with the budgets of that settle and those behind it. Where a group ends, the next one begins,
--- or it was the last one and the run is settled. `made` are the rounds of each settle that has begun, from that one on.
+-- The marks behind rounds, from the settle of number `step` on, which has made so many rounds, with the budgets of that settle and those behind it. Where a group ends, the next one begins
+-- at once and no other in the round behind, or it was the last one and the run is settled. `made` are the rounds of each settle that has begun, from that one on.
 abbrev pub MarksName : Setup → List JournalEntry → (step rounds : ℕ) → List Budget → (marks : List (List ℕ)) → (made : List ℕ) → RunEnd → Type 0
 MarksName setup journal step rounds budgets [] made end = ⊥
 MarksName setup journal step rounds [] (mark ∷ marks) made end = ⊥
@@ -105,12 +110,14 @@ MarksName setup journal step rounds (budget ∷ next ∷ budgets) (mark ∷ mark
     AtMark setup journal budget step (rounds + 1) mark marks made end (MarksName setup journal step (rounds + 1) (budget ∷ next ∷ budgets) marks made end)
     (NextBegins setup journal mark marks × ((later : List ℕ) × (made ≡ (rounds + 1) ∷ later) × MarksName setup journal (step + 1) 0 (next ∷ budgets) marks later end))
 
--- The marks of a run: the first one of empty journals, and then one behind each round, which name how the run goes on and ends. Behind the last one there is no entry.
+-- The marks of a run: the first one of empty journals, and then one behind each round, which name how the run goes on and ends. No group begins in the first round:
+-- the first one is at work. Behind the last mark there is no entry.
 pub record HasMarks (setup : Setup) (journal : List JournalEntry) (budgets : List Budget) (all : List (List ℕ)) (made : List ℕ) (end : RunEnd) : Type 0 where
   pub first : List ℕ
   pub marks : List (List ℕ)
   pub is : all ≡ first ∷ marks
   pub empty : AllByRecursion (λ n. n ≡ 0) first
+  pub begins_none : NoneBegins setup journal first marks
   pub last : List ℕ
   pub is_last : last_or (Some first) marks ≡ Some last
   pub whole : (k : ℕ) → before last k ≡ length (entries_by k journal)

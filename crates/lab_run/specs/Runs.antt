@@ -11,6 +11,7 @@ use Rattle.graft_model.specs.Claims.{Unchanged, MadeBeforeBroken, Solves}
 use Rattle.graft_model.specs.Quiet.{Quiet}
 use Rattle.graft_laws.specs.Emptied.{GiveByPlan, EmptyAlone, AreEmptied}
 use Rattle.graft_runs.specs.Laws.{AreEntriesOf}
+use Rattle.run_marks.specs.Marks.{IsWorldAtMark}
 use Rattle.world_runs.specs.Labs.{actors_in}
 use Rattle.world_runs.specs.Runs.{TransparentThroughout}
 use Rattle.world_nodes.specs.Edges.{has_channel}
@@ -29,7 +30,8 @@ use Rattle.lab_run.specs.Stories.{RunGoes}
 
 -- The journal is that of a run of the input's laboratory from its first world, and the lab is what is seen of the world that the run leads to. At every moment
 -- of the run each peering is transparent; a refused graft returned its session unchanged; and a source cleared the routes of a session that had left only with
--- its target's routes at hand. The marks say how the run went on and how it ended, and from each mark to the next one each actor did what a round asks of it.
+-- its target's routes at hand. The marks say how the run went on and how it ended. One world stands at each mark, and the last one's is that to which the run
+-- leads; from each mark to the next one a run leads from world to world, in which each actor did what a round asks of it.
 -- Each evacuate step gave the sessions of its router to the others by the plan, as its group began.
 -- Where it is settled, nothing is left to do in the last world, and the tables solve the decision equations (RFC 4271, section 9.1) for the placement after the
 -- accepted grafts; a packet from whichever router meets at most two routers, and leaves only where the session of that peering is placed; and what evacuate steps
@@ -45,6 +47,8 @@ pub record RanLab (lab : Lab) : Type 0 where
   pub made : MadeBeforeBroken (setup_of lab.input) (first_world (setup_of lab.input)) events
   pub emptied : GiveByPlan (setup_of lab.input) events
   pub marks : HasMarks (setup_of lab.input) lab.journal (budgets_in lab.input) lab.marks lab.rounds lab.end
+  pub one : (mark : List ℕ) (u v : World) → IsWorldAtMark (setup_of lab.input) lab.journal mark u → IsWorldAtMark (setup_of lab.input) lab.journal mark v → v ≡ u
+  pub last : IsWorldAtMark (setup_of lab.input) lab.journal marks.last world
   pub real : RealRounds (setup_of lab.input) lab.input.faults lab.journal lab.marks
   pub quiet : lab.end ≡ Settled → Quiet (setup_of lab.input) world
   pub solves : lab.end ≡ Settled → Solves (setup_of lab.input) world

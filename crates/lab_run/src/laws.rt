@@ -8,6 +8,7 @@ use graft_laws::{
     evacuations_go_by_plan, quiet_solves,
 };
 use real_rounds::rounds_are_real;
+use run_marks::marks_stand_for_one_world;
 use world_nodes::the_way_is_a_run;
 use world_runs::runs_are_transparent;
 
@@ -27,5 +28,6 @@ pub(crate) fn labs_tell_of_runs()
     solved_walks();
     evacuations_go_by_plan();
     emptied_routers_are_left();
+    marks_stand_for_one_world();
     rounds_are_real();
 }

@@ -103,19 +103,23 @@ taken_are setup x n p q (note ∷ notes) known of replay kept =
 -- ---- what a channel of the world holds
 
 -- where nobody talks, nothing is on its way
-silent : (w : World) → ((r : ℕ) → w.mesh r r ≡ []) → (x y : ActorName) → talks (Some x) (Some y) ≡ false → channel_of w (Some x) (Some y) ≡ []
-silent w itself (Router q) (Router r) e = elim (eqb_tells q r) [
+pub silent : (w : World) → ((r : ℕ) → w.mesh r r ≡ []) → (from to : Option ActorName) → talks from to ≡ false → channel_of w from to ≡ []
+silent w itself None to e = refl
+silent w itself (Some (Router q)) None e = refl
+silent w itself (Some (FarSide p)) None e = refl
+silent w itself (Some Operator) None e = refl
+silent w itself (Some (Router q)) (Some (Router r)) e = elim (eqb_tells q r) [
   | inl s ↦ subst (λ n. map MeshItem (w.mesh q n) ≡ []) s.1 (ap (λ items. map MeshItem items) (itself q))
   | inr ne ↦ absurd (let h : true ≡ false = sym (rw (ne.0) refl) ∙ e in cc)
 ]
-silent w itself (Router q) (FarSide p) e = absurd cc
-silent w itself (Router q) Operator e = absurd cc
-silent w itself (FarSide p) (Router r) e = absurd cc
-silent w itself (FarSide p) (FarSide q) e = refl
-silent w itself (FarSide p) Operator e = refl
-silent w itself Operator (Router r) e = absurd cc
-silent w itself Operator (FarSide p) e = absurd cc
-silent w itself Operator Operator e = refl
+silent w itself (Some (Router q)) (Some (FarSide p)) e = absurd cc
+silent w itself (Some (Router q)) (Some Operator) e = absurd cc
+silent w itself (Some (FarSide p)) (Some (Router r)) e = absurd cc
+silent w itself (Some (FarSide p)) (Some (FarSide q)) e = refl
+silent w itself (Some (FarSide p)) (Some Operator) e = refl
+silent w itself (Some Operator) (Some (Router r)) e = absurd cc
+silent w itself (Some Operator) (Some (FarSide p)) e = absurd cc
+silent w itself (Some Operator) (Some Operator) e = refl
 
 -- a channel of the world is empty, or as long as the net's
 pub channel_is : (setup : Setup) (v : View Node Mail) (w : World) → IsSeenAs own carried setup v w → ((a b : ℕ) → v.edge a b ≡ has_channel setup a b) → ((r : ℕ) → w.mesh r r ≡ []) → (x y : ActorName) → IsActor setup x → IsActor setup y
@@ -127,7 +131,7 @@ channel_is setup v w seen edges itself x y x_known y_known = by_edge (talks (Som
 
     by_edge : (t : Bool) → talks (Some x) (Some y) ≡ t
         → (length (channel_of w (Some x) (Some y)) ≡ 0) ⊎ ((v.edge (number_in setup x) (number_in setup y) ≡ true) × (length (v.channel (number_in setup x) (number_in setup y)) ≡ length (channel_of w (Some x) (Some y))))
-    by_edge false e = inl (ap (λ (ts : List Thing). length ts) (silent w itself x y e))
+    by_edge false e = inl (ap (λ (ts : List Thing). length ts) (silent w itself (Some x) (Some y) e))
     by_edge true e =
         let edge : v.edge (number_in setup x) (number_in setup y) ≡ true = edges (number_in setup x) (number_in setup y) ∙ named ∙ e in
         let is : map (thing_of carried setup) (map (λ (z : Stamped Mail). z.item) (v.channel (number_in setup x) (number_in setup y))) ≡ channel_of w (Some x) (Some y) =

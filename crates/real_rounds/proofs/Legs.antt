@@ -16,18 +16,19 @@ use Rattle.graft_actors.specs.Acts.{acts}
 use Rattle.router_core.specs.Parts.{carried}
 use Rattle.operator_core.specs.declared.operator as operator_type
 use Rattle.run_marks.specs.Marks.{before, operator_in, IsMarkOf}
-use Rattle.world_runs.specs.Runs.{Ran}
+use Rattle.world_runs.specs.Runs.{Ran, QuietAt}
 use Rattle.world_nodes.specs.Nodes.{Mail, own, took, turned, paused}
 use Rattle.world_nodes.specs.Ways.{Stand, Begins, Round, Pause, Way, Here, Rounds, Groups}
 use Rattle.world_nodes.specs.declared.node.Node.{Node}
 use Rattle.world_nodes.specs.declared.node.Node.TheVariants.{Router, Far, Operator}
+use Rattle.real_rounds.proofs.RunsBetween.{HasRuns, stays, runs_then}
 
 -- ---- at a mark
 
 abbrev pub entry_in : Deed Mail → JournalEntry
 entry_in d = d.entry
 
--- Between a mark and the round behind it the operator did something, or nothing: it takes nothing, and the other actors stay.
+-- Between a mark and the round behind it the operator did something, or nothing: it takes nothing, and the other actors stay. It is a run of the world.
 pub record Paused (setup : Setup) (u v : View Node Mail) : Type 0 where
   pub deeds : List (Deed Mail)
   pub size : length v.actors ≡ length u.actors
@@ -39,6 +40,7 @@ pub record Paused (setup : Setup) (u v : View Node Mail) : Type 0 where
   pub edges : (a b : ℕ) → v.edge a b ≡ u.edge a b
   pub grows : (a b : ℕ) → u.edge a b ≡ true → length (u.channel a b) ≤ length (v.channel a b)
   pub rings : (a b : ℕ) → v.in_ring a b ≡ u.in_ring a b
+  pub runs : HasRuns setup u v
 
 pub no_pause : (setup : Setup) (v : View Node Mail) → Paused setup v v
 no_pause setup v = record {
@@ -52,6 +54,7 @@ no_pause setup v = record {
   edges = λ a b. refl;
   grows = λ a b e. omega arith;
   rings = λ a b. refl;
+  runs = stays setup v;
 }
 
 pause_then : (setup : Setup) (u v w : View Node Mail) → Paused setup u v → Paused setup v w → Paused setup u w
@@ -67,6 +70,7 @@ pause_then setup u v w x y = record {
   edges = λ a b. y.edges a b ∙ x.edges a b;
   grows = λ a b e. (let first = x.grows a b e in let last = y.grows a b (x.edges a b ∙ e) in omega (arith, first, last));
   rings = λ a b. y.rings a b ∙ x.rings a b;
+  runs = runs_then setup u v w x.size x.runs y.runs;
 }
 
 still_operator : (a : operator_type.Operator.Operator) (n : Node) (ds : List (Deed Mail)) → paused (Operator a) ds n → (b : operator_type.Operator.Operator) × (n ≡ Operator b)
@@ -74,8 +78,8 @@ still_operator a (Operator b) ds p = (b, refl)
 still_operator a (Router b) ds p = absurd p
 still_operator a (Far b) ds p = absurd p
 
-one_pause : (setup : Setup) (b c : Stand) → Pause (operator_in setup) b c true → Paused setup b.view c.view
-one_pause setup b c pause = record {
+one_pause : (setup : Setup) (b c : Stand) → Pause (operator_in setup) b c true → HasRuns setup b.view c.view → Paused setup b.view c.view
+one_pause setup b c pause runs = record {
   deeds = did.deeds;
   size = did.size ∙ ap (λ (xs : List Node). length xs) only.actors;
   others = λ j d ne. did.others j d ne ∙ ap (λ (xs : List Node). get_or xs j d) only.actors;
@@ -92,6 +96,7 @@ one_pause setup b c pause = record {
     | inr ne ↦ (let size : length (c.view.channel x y) ≡ length (b.view.channel x y) = ap (λ items. length items) (did.channels x y ne.1 ∙ only.channels x y) in omega (arith, size))
   ];
   rings = λ x y. did.rings x y ∙ only.rings x y;
+  runs = runs;
 }
   where
     did : Between own (acts carried) paused (operator_in setup) pause.level c.view true
@@ -154,7 +159,8 @@ mark_now v old new marked order = record {
   later = λ j. ([], sym (append-nil (v.journal j)));
 }
 
-module _ (setup : Setup) (a : Stand) (ran : (b : Stand) (rounds : List ℕ) → Way setup a rounds b → Ran own carried setup b.view) (ordered : (b : Stand) (rounds : List ℕ) → Way setup a rounds b → InOrder b.view) (begins : Begins setup a) where
+module _ (setup : Setup) (a : Stand) (ran : (b : Stand) (rounds : List ℕ) → Way setup a rounds b → Ran own carried setup b.view) (ordered : (b : Stand) (rounds : List ℕ) → Way setup a rounds b → InOrder b.view)
+    (pauses : (b c : Stand) → QuietAt own carried setup b.view → Pause (operator_in setup) b c true → HasRuns setup b.view c.view) (begins : Begins setup a) where
   no_legs : Legs setup a a
   no_legs = record {
     made = 0;
@@ -175,20 +181,20 @@ module _ (setup : Setup) (a : Stand) (ran : (b : Stand) (rounds : List ℕ) → 
       only_one zero m is = sym (same_Some begins.marked.mark m is)
       only_one (suc k) m is = absurd cc
 
-  groups_legs : (b c : Stand) → Legs setup a b → Pause (operator_in setup) b c true → Legs setup a c
-  groups_legs b c legs pause = record {
+  groups_legs : (b c : Stand) → Legs setup a b → Pause (operator_in setup) b c true → HasRuns setup b.view c.view → Legs setup a c
+  groups_legs b c legs pause runs = record {
     made = legs.made;
     at = legs.at;
     mark = legs.mark;
     from = legs.from;
-    is_mark = λ k. mark_grows (legs.at k) b.view c.view (legs.mark k) (legs.is_mark k) (pause_more setup b.view c.view (one_pause setup b c pause));
+    is_mark = λ k. mark_grows (legs.at k) b.view c.view (legs.mark k) (legs.is_mark k) (pause_more setup b.view c.view (one_pause setup b c pause runs));
     ran = legs.ran;
     count = ap (λ (ms : List (List ℕ)). length ms) pause.marks ∙ legs.count;
     marks = λ k m is. legs.marks k m (ap (λ (ms : List (List ℕ)). slice_get ms k) (sym pause.marks) ∙ is);
     first = legs.first;
     pause = legs.pause;
     phase = legs.phase;
-    last = pause_then setup (legs.at legs.made) b.view c.view legs.last (one_pause setup b c pause);
+    last = pause_then setup (legs.at legs.made) b.view c.view legs.last (one_pause setup b c pause runs);
   }
 
   module _ (b c : Stand) (legs : Legs setup a b) (round : Round b c) (c_ran : Ran own carried setup c.view) (c_ordered : InOrder c.view) where
@@ -263,4 +269,4 @@ module _ (setup : Setup) (a : Stand) (ran : (b : Stand) (rounds : List ℕ) → 
   legs_of b rounds Here = no_legs
   legs_of c rounds (Rounds past n {b = b} way round) =
       round_legs b c (legs_of b (past ++ n ∷ []) way) round (ran c (past ++ (n + 1) ∷ []) (Rounds past n way round)) (ordered c (past ++ (n + 1) ∷ []) (Rounds past n way round))
-  legs_of c rounds (Groups before {b = b} way quiet pause) = groups_legs b c (legs_of b before way) pause
+  legs_of c rounds (Groups before {b = b} way quiet pause) = groups_legs b c (legs_of b before way) pause (pauses b c quiet pause)

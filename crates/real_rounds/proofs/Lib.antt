@@ -11,8 +11,10 @@ pub mod NodeRounds
 pub mod Slices
 pub mod Senders
 pub mod Channels
+pub mod RunsBetween
 pub mod Legs
 pub mod Leading
+pub mod LegRuns
 pub mod LegActors
 pub mod Rounds
 pub mod Ticking

@@ -12,12 +12,13 @@ use Rattle.journal_merge.specs.Merges.{Interleaves}
 use Rattle.graft_model.specs.Setups.{Setup, IsSetup}
 use Rattle.graft_model.specs.Parts.{World}
 use Rattle.graft_runs.specs.Actors.{ActorName, number_in, IsActor}
+use Rattle.graft_runs.specs.Laws.{OneWorldIsSeen}
 use Rattle.graft_runs.specs.Seen.{channel_of}
 use Rattle.graft_actors.specs.Acts.{OwnPart, acts}
 use Rattle.router_core.specs.Parts.{carried}
 use Rattle.run_marks.specs.Marks.{MarksStandForWorlds, IsWorldAtMark}
 use Rattle.world_runs.specs.Runs.{Ran}
-use Rattle.world_runs.specs.Laws.{NothingWasDropped, NobodyWritesToItself}
+use Rattle.world_runs.specs.Laws.{ActsAreARun, NothingWasDropped, NobodyWritesToItself}
 use Rattle.world_nodes.specs.Fresh.{IsFresh}
 use Rattle.world_nodes.specs.Nodes.{own, took, turned}
 use Rattle.world_nodes.specs.Ways.{Stand, Begins}
@@ -25,12 +26,13 @@ use Rattle.world_nodes.specs.declared.node.Node.{Node}
 use Rattle.real_rounds.proofs.Calls.{CallsSay}
 use Rattle.real_rounds.specs.Entries as entries
 use Rattle.real_rounds.specs.Entries.{between, is_name, sender_of}
-use Rattle.real_rounds.specs.Whole.{RealRound, Drains, RealRounds}
+use Rattle.real_rounds.specs.Whole.{RealRound, RoundGoes, Drains, RealRounds}
 use Rattle.real_rounds.proofs.Channels.{taken_are, count_cons, channel_is}
 use Rattle.real_rounds.proofs.Leading as leading
 use Rattle.real_rounds.proofs.Leading.{number_below}
 use Rattle.real_rounds.proofs.LegActors as legs_actors
 use Rattle.real_rounds.proofs.LegActors.{Ticking, TicksAreEarlier}
+use Rattle.real_rounds.proofs.LegRuns as leg_runs
 use Rattle.real_rounds.proofs.Legs.{Legs, pause_more}
 use Rattle.real_rounds.proofs.NodeRounds.{replay_setup}
 
@@ -85,7 +87,7 @@ module _ (setup : Setup) (a b : Stand) (begins : Begins setup a) (d : Node) (leg
 
 module _ (law : CallsSay) (setup : Setup) (faults : List Fault) (a b : Stand) (sound : IsSetup setup) (begins : Begins setup a) (fresh : AllByRecursion (IsFresh setup faults) begins.actors) (d : Node)
     (d_fresh : IsFresh setup faults d) (legs : Legs setup a b) (journal : List JournalEntry) (merge : Interleaves b.view.journal journal) (b_ran : Ran own carried setup b.view) (worlds : MarksStandForWorlds own carried)
-    (dropped : NothingWasDropped) (itself : NobodyWritesToItself) (ticking : Ticking law)
+    (dropped : NothingWasDropped) (itself : NobodyWritesToItself) (one : OneWorldIsSeen) (acts_run : ActsAreARun carried) (ticking : Ticking law)
     (earlier : TicksAreEarlier law setup faults a b begins fresh d d_fresh legs journal merge b_ran worlds dropped) where
   one_round : (k : ℕ) → k < legs.made → RealRound setup faults (k + 1) (leading.world setup a b begins legs journal merge b_ran worlds dropped k)
       (legs_actors.links_at law setup faults a b begins fresh d d_fresh legs journal merge b_ran worlds dropped k) (between journal (legs.mark k) (legs.mark (k + 1)))
@@ -102,6 +104,7 @@ module _ (law : CallsSay) (setup : Setup) (faults : List Fault) (a b : Stand) (s
     links = legs_actors.links_at law setup faults a b begins fresh d d_fresh legs journal merge b_ran worlds dropped;
     worlds = λ k mark is. subst⁻¹ (λ (m : List ℕ). IsWorldAtMark setup journal m (leading.world setup a b begins legs journal merge b_ran worlds dropped k)) (legs.marks k mark is)
         (leading.world_at setup a b begins legs journal merge b_ran worlds dropped k).1;
+    begins = λ mark is. leg_runs.world_first setup a b begins legs journal merge b_ran worlds dropped;
     empty = legs_actors.links_first law setup faults a b begins fresh d d_fresh legs journal merge b_ran worlds dropped;
     each = λ k mark next is at_next. (
         let size = slice_get_within b.marks (k + 1) next at_next in
@@ -113,6 +116,13 @@ module _ (law : CallsSay) (setup : Setup) (faults : List Fault) (a b : Stand) (s
         (legs_actors.links_at law setup faults a b begins fresh d d_fresh legs journal merge b_ran worlds dropped k) (between journal (legs.mark k) m)
         (leading.world setup a b begins legs journal merge b_ran worlds dropped (k + 1)) (legs_actors.links_at law setup faults a b begins fresh d d_fresh legs journal merge b_ran worlds dropped (k + 1))) (legs.marks (k + 1) next at_next)
         (one_round k k_in)));
+    goes = λ k mark next is at_next. (
+        let size = slice_get_within b.marks (k + 1) next at_next in
+        let w : World = leading.world setup a b begins legs journal merge b_ran worlds dropped k in
+        let u : World = leading.world setup a b begins legs journal merge b_ran worlds dropped (k + 1) in
+        subst⁻¹ (λ (m : List ℕ). RoundGoes setup w (between journal m next) u) (legs.marks k mark is)
+        (subst⁻¹ (λ (m : List ℕ). RoundGoes setup w (between journal (legs.mark k) m) u) (legs.marks (k + 1) next at_next)
+        (leg_runs.leg_goes setup a b begins legs journal merge b_ran worlds dropped d sound itself one acts_run k (omega (arith, size, legs.count)))));
     drains = λ k mark next last is at_next at_last. (
         let size = slice_get_within b.marks (k + 2) last at_last in
         let two : (k + 1) + 1 ≡ k + 2 = omega arith in

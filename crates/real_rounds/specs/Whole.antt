@@ -1,14 +1,18 @@
 -- All rounds of a run.
 use Rattle.std.specs.Prelude.{ℕ, ◌≡◌, ◌<◌, ◌≤◌, ◌+◌, List, length, min, Some, slice_get}
 use Rattle.ring_net.specs.declared.entry.JournalEntry.{JournalEntry}
+use Rattle.journal_merge.specs.Merges.{entries_by}
 use Rattle.link_bag.specs.declared.plan.Fault.{Fault}
 use Rattle.graft_model.specs.Codes.{router_code, far_code, operator_code}
 use Rattle.graft_model.specs.Parts.{World}
 use Rattle.graft_model.specs.Setups.{Setup, routers_in, peerings_in}
+use Rattle.graft_model.specs.First.{first_world}
+use Rattle.graft_model.specs.Steps.{Event, Run}
 use Rattle.graft_model.specs.declared.event.RouterEvent.{RouterEvent}
 use Rattle.graft_model.specs.declared.event.FarEvent.{FarEvent}
 use Rattle.graft_model.specs.declared.event.OperatorEvent.{OperatorEvent}
 use Rattle.graft_runs.specs.Actors.{ActorName, Router, FarSide, Operator, number_in, IsActor}
+use Rattle.graft_runs.specs.Laws.{AreEntriesOf}
 use Rattle.graft_runs.specs.Seen.{channel_of}
 use Rattle.run_marks.specs.Marks.{IsWorldAtMark}
 use Rattle.real_rounds.specs.Entries.{between, AreCoded, taken_from}
@@ -42,6 +46,14 @@ pub record RealRound (setup : Setup) (faults : List Fault) (round : ℕ) (start 
   pub far_sides : (p : ℕ) → p < peerings_in setup → FarDid setup faults p round start (before p) slices end (after p)
   pub operator : OperatorDid setup start slices end
 
+-- The entries of a round are those of a run from one world to another. Each actor's are its slice, in their order.
+pub record RoundGoes (setup : Setup) (start : World) (slices : Slices) (end : World) : Type 0 where
+  pub events : List Event
+  pub entries : List JournalEntry
+  pub entries_of : AreEntriesOf setup events entries
+  pub of_actors : (k : ℕ) → entries_by k entries ≡ slices k
+  pub run : Run setup start events end
+
 -- Of each channel, the lesser of 256 and what it holds at the start is taken in two rounds, at least.
 abbrev pub Drains : Setup → World → Slices → Slices → Type 0
 Drains setup start one other = (x y : ActorName) → IsActor setup x → IsActor setup y
@@ -54,8 +66,11 @@ pub record RealRounds (setup : Setup) (faults : List Fault) (journal : List Jour
   pub world : ℕ → World
   pub links : (k p : ℕ) → Links
   pub worlds : (k : ℕ) (mark : List ℕ) → slice_get marks k ≡ Some mark → IsWorldAtMark setup journal mark (world k)
+  pub begins : (mark : List ℕ) → slice_get marks 0 ≡ Some mark → world 0 ≡ first_world setup
   pub empty : (p : ℕ) → links 0 p ≡ empty_links
   pub each : (k : ℕ) (mark next : List ℕ) → slice_get marks k ≡ Some mark → slice_get marks (k + 1) ≡ Some next
       → RealRound setup faults (k + 1) (world k) (links k) (between journal mark next) (world (k + 1)) (links (k + 1))
+  pub goes : (k : ℕ) (mark next : List ℕ) → slice_get marks k ≡ Some mark → slice_get marks (k + 1) ≡ Some next
+      → RoundGoes setup (world k) (between journal mark next) (world (k + 1))
   pub drains : (k : ℕ) (mark next last : List ℕ) → slice_get marks k ≡ Some mark → slice_get marks (k + 1) ≡ Some next → slice_get marks (k + 2) ≡ Some last
       → Drains setup (world k) (between journal mark next) (between journal next last)

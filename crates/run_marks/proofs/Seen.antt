@@ -1,8 +1,8 @@
 -- Where a group begins.
-use Rattle.std.proofs.Common.{◌≡◌, ◌≢◌, ℕ, List, [], ◌∷◌, ◌++◌, length, Option, Some, None, option_map, slice_get, refl, sym, ap, ◌∙◌, subst, inl, inr, arith, append_assoc}
+use Rattle.std.proofs.Common.{◌≡◌, ◌≢◌, ℕ, ◌-◌, List, ◌++◌, length, take, drop, Option, Some, None, option_map, sym, ap, ◌∙◌, subst, inl, inr, arith, append_assoc}
 use Rattle.std.specs.Prelude.{◌↔◌}
 use Rattle.std.proofs.lemmas.List.{length-append}
-use Rattle.std.proofs.lemmas.Option.{same_Some}
+use Rattle.std.proofs.Math.Seq.{take-append_seam, drop-append_seam}
 use Rattle.ring_net.specs.declared.entry.JournalEntry.{JournalEntry}
 use Rattle.journal_merge.specs.Merges.{entries_by}
 use Rattle.graft_steps.specs.declared.item.Item.{Item}
@@ -21,24 +21,24 @@ use Rattle.graft_runs.specs.Actors.{ActorPart, RouterIs, FarIs, OperatorIs, Thin
 use Rattle.graft_runs.specs.Makes.{HasCode, makes_as, numbered, taken_by_operator}
 use Rattle.graft_runs.specs.Laws.{IsGo}
 use Rattle.graft_actors.specs.Acts.{OwnPart, ActsAs, things}
-use Rattle.run_marks.specs.Marks.{before, operator_in, GoFollows, BeginsWithGo}
+use Rattle.run_marks.specs.Marks.{before, operator_in, noted_between, BeginsNone, BeginsWithGo, GoFollows, NoGoFollows}
 
 -- ---- in the journal
 
-there : {A : Type 0} (had : List A) (x : A) (more : List A) → slice_get (had ++ x ∷ more) (length had) ≡ Some x
-there [] x more = refl
-there (y ∷ had) x more = there had x more
+noted_is : (setup : Setup) (journal : List JournalEntry) (mark next : List ℕ) (had new more : List JournalEntry) → entries_by (operator_in setup) journal ≡ (had ++ new) ++ more
+    → before mark (operator_in setup) ≡ length had → before next (operator_in setup) ≡ length (had ++ new) → noted_between setup journal mark next ≡ new
+noted_is setup journal mark next had new more is at_mark at_next =
+    let op : ℕ = operator_in setup in
+    let all : List JournalEntry = entries_by op journal in
+    let rest : drop (before mark op) all ≡ new ++ more = ap (λ (n : ℕ). drop n all) at_mark ∙ ap (λ (xs : List JournalEntry). drop (length had) xs) (is ∙ append_assoc had new more) ∙ drop-append_seam had (new ++ more) in
+    let many : before next op - before mark op ≡ length new = omega (arith, at_mark, at_next, length-append had new) in
+    ap (λ (n : ℕ). take n (drop (before mark op) all)) many ∙ ap (λ (xs : List JournalEntry). take (length new) xs) rest ∙ take-append_seam new more
 
 pub group_seen : (setup : Setup) (journal : List JournalEntry) (mark next : List ℕ) (had new more : List JournalEntry) → entries_by (operator_in setup) journal ≡ (had ++ new) ++ more
-    → before mark (operator_in setup) ≡ length had → before next (operator_in setup) ≡ length (had ++ new) → GoFollows setup journal mark next ↔ BeginsWithGo new
-group_seen setup journal mark next had [] more is at_mark at_next = ((λ follows. absurd (omega (arith, follows.there, at_mark, at_next, length-append had []))), λ none. absurd none)
-group_seen setup journal mark next had (e ∷ new) more is at_mark at_next = (
-  λ follows. subst IsGo (same_Some follows.entry e (sym follows.is ∙ first)) follows.go,
-  λ go. record { entry = e; is = first; there = omega (arith, at_mark, at_next, length-append had (e ∷ new)); go = go },
-)
-  where
-    first : slice_get (entries_by (operator_in setup) journal) (before mark (operator_in setup)) ≡ Some e
-    first = ap (slice_get (entries_by (operator_in setup) journal)) at_mark ∙ ap (λ (xs : List JournalEntry). slice_get xs (length had)) (is ∙ append_assoc had (e ∷ new) more) ∙ there had e (new ++ more)
+    → before mark (operator_in setup) ≡ length had → before next (operator_in setup) ≡ length (had ++ new) → (GoFollows setup journal mark next ↔ BeginsWithGo new) × (NoGoFollows setup journal mark next ↔ BeginsNone new)
+group_seen setup journal mark next had new more is at_mark at_next = ((subst BeginsWithGo noted, subst BeginsWithGo (sym noted)), (subst BeginsNone noted, subst BeginsNone (sym noted))) where
+  noted : noted_between setup journal mark next ≡ new
+  noted = noted_is setup journal mark next had new more is at_mark at_next
 
 -- ---- in a quiet world
 

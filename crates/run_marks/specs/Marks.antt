@@ -1,5 +1,6 @@
 -- What stands before a mark in the merged journal of a net, and between two marks.
-use Rattle.std.specs.Prelude.{ℕ, ◌≡◌, ◌<◌, ◌+◌, ◌==◌, ◌↔◌, Bool, List, [], ◌∷◌, ◌++◌, length, filter, Some, None, slice_get, slice_index_or}
+use Rattle.std.specs.Prelude.{ℕ, ◌≡◌, ◌+◌, ◌-◌, ◌==◌, ◌↔◌, Bool, List, [], ◌∷◌, ◌++◌, length, filter, take, drop, None, slice_index_or}
+use Rattle.std.specs.List.{AllByRecursion}
 use Rattle.ring_net.specs.declared.entry.JournalEntry.{JournalEntry}
 use Rattle.ring_net.specs.Phases.{View}
 use Rattle.journal_merge.specs.Merges.{Interleaves, entries_by, upto}
@@ -55,21 +56,31 @@ abbrev pub GroupsAreCounted : Type 0
 GroupsAreCounted = (setup : Setup) (events : List Event) (entries : List JournalEntry) (w : World) → AreEntriesOf setup events entries → Run setup (first_world setup) events w
     → w.operator.group ≡ length (filter is_go (entries_by (operator_in setup) entries))
 
--- the operator's first entry behind a mark begins a group, and stands before the next mark
-pub record GoFollows (setup : Setup) (journal : List JournalEntry) (mark next : List ℕ) : Type 0 where
-  pub entry : JournalEntry
-  pub is : slice_get (entries_by (operator_in setup) journal) (before mark (operator_in setup)) ≡ Some entry
-  pub there : before mark (operator_in setup) < before next (operator_in setup)
-  pub go : IsGo entry
+-- what the operator noted between two marks
+abbrev pub noted_between : Setup → List JournalEntry → (mark next : List ℕ) → List JournalEntry
+noted_between setup journal mark next = take (before next (operator_in setup) - before mark (operator_in setup)) (drop (before mark (operator_in setup)) (entries_by (operator_in setup) journal))
 
+-- no group begins
+abbrev pub BeginsNone : List JournalEntry → Type 0
+BeginsNone entries = AllByRecursion (λ entry. ¬ IsGo entry) entries
+
+-- a group begins with the first entry, and none with any other
 abbrev pub BeginsWithGo : List JournalEntry → Type 0
 BeginsWithGo [] = ⊥
-BeginsWithGo (entry ∷ entries) = IsGo entry
+BeginsWithGo (entry ∷ entries) = IsGo entry × BeginsNone entries
 
--- it does exactly where what the operator noted between the two marks begins with it
+-- what the operator notes between two marks begins a group at once, and no other
+abbrev pub GoFollows : Setup → List JournalEntry → (mark next : List ℕ) → Type 0
+GoFollows setup journal mark next = BeginsWithGo (noted_between setup journal mark next)
+
+-- what the operator notes between two marks begins no group
+abbrev pub NoGoFollows : Setup → List JournalEntry → (mark next : List ℕ) → Type 0
+NoGoFollows setup journal mark next = BeginsNone (noted_between setup journal mark next)
+
+-- one of the two is so exactly where it is of what the operator's journal got between the two marks
 abbrev pub GroupsAreSeen : Type 0
 GroupsAreSeen = (setup : Setup) (journal : List JournalEntry) (mark next : List ℕ) (had new more : List JournalEntry) → entries_by (operator_in setup) journal ≡ (had ++ new) ++ more
-    → before mark (operator_in setup) ≡ length had → before next (operator_in setup) ≡ length (had ++ new) → GoFollows setup journal mark next ↔ BeginsWithGo new
+    → before mark (operator_in setup) ≡ length had → before next (operator_in setup) ≡ length (had ++ new) → (GoFollows setup journal mark next ↔ BeginsWithGo new) × (NoGoFollows setup journal mark next ↔ BeginsNone new)
 
 -- in a quiet world each step of the group at work was issued, and no graft of it is open
 abbrev pub QuietHasNothingOpen : Type 0

@@ -3,4 +3,4 @@
 
 mod laws;
 
-pub use laws::{groups_are_counted, marks_stand_for_worlds};
+pub use laws::{groups_are_counted, marks_stand_for_one_world, marks_stand_for_worlds};

@@ -1,0 +1,120 @@
+-- A leg of a way is a run from the world at its mark to the one at the next mark.
+use Rattle.std.proofs.Common.{◌≡◌, ◌<◌, ◌+◌, ◌∙◌, ℕ, Bool, true, false, List, [], ◌∷◌, ◌++◌, length, map, refl, ap, sym, subst, arith}
+use Rattle.std.specs.Prelude.{Some}
+use Rattle.std.proofs.Math.Path.{subst⁻¹}
+use Rattle.ring_net.specs.declared.entry.JournalEntry.{JournalEntry}
+use Rattle.ring_net.specs.Deeds.{entries_of}
+use Rattle.ring_net.specs.Phases.{View}
+use Rattle.journal_merge.specs.Merges.{Interleaves, entries_by, upto}
+use Rattle.graft_model.specs.First.{first_world}
+use Rattle.graft_model.specs.Setups.{Setup, IsSetup}
+use Rattle.graft_model.specs.Parts.{World}
+use Rattle.graft_model.specs.Steps.{Event, Run}
+use Rattle.graft_laws.specs.Keeps.{Reached}
+use Rattle.graft_laws.proofs.Runs.{reached_run}
+use Rattle.graft_runs.specs.Actors.{ActorName, actor_at}
+use Rattle.graft_runs.specs.Laws.{AreEntriesOf, OneWorldIsSeen}
+use Rattle.graft_runs.specs.Seen.{part_of, channel_of}
+use Rattle.graft_runs.proofs.Numbers.{of_number}
+use Rattle.graft_actors.specs.Items.{thing_of}
+use Rattle.graft_actors.specs.Acts.{OwnPart}
+use Rattle.router_core.specs.Parts.{carried}
+use Rattle.run_marks.specs.Marks.{before, MarksStandForWorlds, IsWorldAtMark}
+use Rattle.world_runs.specs.Labs.{actors_in, net_of}
+use Rattle.world_runs.specs.Runs.{IsSeenAs, Ran}
+use Rattle.world_runs.specs.Laws.{ActsAreARun, NobodyWritesToItself, NothingWasDropped}
+use Rattle.world_nodes.specs.Edges.{has_channel}
+use Rattle.world_nodes.specs.Nodes.{Mail, own}
+use Rattle.world_nodes.specs.Ways.{Stand, Begins}
+use Rattle.world_nodes.specs.declared.node.Node.{Node}
+use Rattle.real_rounds.specs.Entries.{between}
+use Rattle.real_rounds.specs.Whole.{RoundGoes}
+use Rattle.real_rounds.proofs.Channels.{silent}
+use Rattle.real_rounds.proofs.Leading as leading
+use Rattle.real_rounds.proofs.Leading.{number_below}
+use Rattle.real_rounds.proofs.Legs.{Legs}
+use Rattle.real_rounds.proofs.RunsBetween.{RunFrom, run_then, merge_between, phase_runs}
+use Rattle.real_rounds.proofs.Slices.{between_is}
+
+-- ---- a net is seen as one world on the way of a run
+
+module _ (one : OneWorldIsSeen) (setup : Setup) (v : View Node Mail) (d : Node) (size : length v.actors ≡ actors_in setup) (edges : (x y : ℕ) → v.edge x y ≡ has_channel setup x y) (w u : World)
+    (first : IsSeenAs own carried setup v w) (second : IsSeenAs own carried setup v u) (first_itself : (r : ℕ) → w.mesh r r ≡ []) (second_itself : (r : ℕ) → u.mesh r r ≡ []) where
+  parts_there : (n : ℕ) (x : ActorName) → actor_at setup n ≡ Some x → (first.lab.part n).part ≡ part_of u x
+  parts_there n x is = ap (λ (o : OwnPart). o.part) (first.is.parts n d n_in ∙ sym (second.is.parts n d n_in)) ∙ second.sees.sees.parts n x is
+    where
+      n_in : n < length v.actors
+      n_in = let known = of_number setup n x is in let l = number_below setup x known.0 in omega (arith, l, known.1, size)
+
+  channels_there : (x y : ℕ) → map (thing_of carried setup) (first.lab.channel x y) ≡ channel_of u (actor_at setup x) (actor_at setup y)
+  channels_there x y = by_edge (has_channel setup x y) refl
+    where
+      by_edge : (t : Bool) → has_channel setup x y ≡ t → map (thing_of carried setup) (first.lab.channel x y) ≡ channel_of u (actor_at setup x) (actor_at setup y)
+      by_edge true e = ap (λ items. map (thing_of carried setup) items) (first.is.channels x y (edges x y ∙ e) ∙ sym (second.is.channels x y (edges x y ∙ e))) ∙ second.sees.sees.channels x y
+      by_edge false e = first.sees.sees.channels x y ∙ silent w first_itself (actor_at setup x) (actor_at setup y) e ∙ sym (silent u second_itself (actor_at setup x) (actor_at setup y) e)
+
+  one_seen : u ≡ w
+  one_seen = one setup (net_of carried setup first.lab) w u first.sees.sees (record { parts = parts_there; channels = channels_there; within = second.sees.sees.within })
+
+-- ---- before the first mark
+
+none_before : (mark : ℕ → ℕ) (es : List JournalEntry) → ((k : ℕ) → mark k ≡ 0) → upto mark es ≡ []
+none_before mark [] none = refl
+none_before mark (e ∷ es) none = rw (none e.actor) (none_before mark es none)
+
+first_of : (setup : Setup) (events : List Event) (w v : World) → AreEntriesOf setup events [] → Run setup w events v → v ≡ w
+first_of setup [] w v are run = run
+first_of setup (event ∷ events) w v are run = absurd are
+
+-- ---- a leg
+
+module _ (setup : Setup) (a b : Stand) (begins : Begins setup a) (legs : Legs setup a b) (journal : List JournalEntry) (merge : Interleaves b.view.journal journal) (b_ran : Ran own carried setup b.view)
+    (worlds : MarksStandForWorlds own carried) (dropped : NothingWasDropped) where
+  pub world_first : leading.world setup a b begins legs journal merge b_ran worlds dropped 0 ≡ first_world setup
+  world_first =
+      let at : IsWorldAtMark setup journal (legs.mark 0) (leading.world setup a b begins legs journal merge b_ran worlds dropped 0) = (leading.world_at setup a b begins legs journal merge b_ran worlds dropped 0).1 in
+      first_of setup at.events (first_world setup) (leading.world setup a b begins legs journal merge b_ran worlds dropped 0)
+      (subst (AreEntriesOf setup at.events) (none_before (before (legs.mark 0)) journal (λ k. (legs.is_mark 0).lengths k
+      ∙ ap (λ (es : List JournalEntry). length es) (ap (λ (v : View Node Mail). v.journal k) legs.first ∙ begins.new.journals k))) at.entries_of) at.run
+
+  module _ (d : Node) (sound : IsSetup setup) (itself : NobodyWritesToItself) (one : OneWorldIsSeen) (law : ActsAreARun carried) (k : ℕ) (k_in : k < legs.made) where
+    abbrev here : (w : World) × IsWorldAtMark setup journal (legs.mark k) w × IsSeenAs own carried setup (legs.at k) w
+    here = leading.world_at setup a b begins legs journal merge b_ran worlds dropped k
+
+    abbrev next : (w : World) × IsWorldAtMark setup journal (legs.mark (k + 1)) w × IsSeenAs own carried setup (legs.at (k + 1)) w
+    next = leading.world_at setup a b begins legs journal merge b_ran worlds dropped (k + 1)
+
+    here_reached : Reached setup here.0
+    here_reached = record { events = here.1.events; run = here.1.run }
+
+    -- what the journals have behind the next mark
+    abbrev more : ℕ → List JournalEntry
+    more j = ((legs.is_mark (k + 1)).later j).0
+
+    phase_merge : (es : List JournalEntry) × Interleaves (λ j. entries_of ((legs.phase k k_in).notes j)) es
+    phase_merge = merge_between b.view.journal (legs.from k).journal (λ j. entries_of ((legs.phase k k_in).notes j)) more journal merge
+        (λ j. ((legs.is_mark (k + 1)).later j).1 ∙ ap (λ (es : List JournalEntry). es ++ more j) ((legs.phase k k_in).journals j))
+
+    paused : RunFrom setup here.0 (legs.at k) (legs.from k)
+    paused = (legs.pause k k_in).runs here.0 (leading.size setup a b begins legs journal merge b_ran worlds dropped k (omega (arith, k_in))) here_reached here.2
+
+    whole : RunFrom setup here.0 (legs.at k) (legs.at (k + 1))
+    whole = run_then setup here.0 (legs.at k) (legs.from k) (legs.at (k + 1)) paused
+        (phase_runs setup sound law d (legs.from k) (legs.at (k + 1)) (legs.phase k k_in) phase_merge.0 phase_merge.1 paused.after
+        (leading.size_from setup a b begins legs journal merge b_ran worlds dropped k k_in) (reached_run setup paused.events here.0 paused.after here_reached paused.run) paused.seen)
+
+    same_end : next.0 ≡ whole.after
+    same_end = one_seen one setup (legs.at (k + 1)) d (leading.size setup a b begins legs journal merge b_ran worlds dropped (k + 1) (omega (arith, k_in)))
+        (leading.edges setup a b begins legs journal merge b_ran worlds dropped (k + 1) (omega (arith, k_in))) whole.after next.0 whole.seen next.2
+        (λ r. itself setup whole.after r sound (reached_run setup whole.events here.0 whole.after here_reached whole.run)) (λ r. itself setup next.0 r sound (record { events = next.1.events; run = next.1.run }))
+
+    pub leg_goes : RoundGoes setup here.0 (between journal (legs.mark k) (legs.mark (k + 1))) next.0
+    leg_goes = record {
+      events = whole.events;
+      entries = whole.entries;
+      entries_of = whole.entries_of;
+      of_actors = λ j. sym (between_is journal (legs.mark k) (legs.mark (k + 1)) j ((legs.at k).journal j) (entries_by j whole.entries) (more j)
+          (merge.each j ∙ ((legs.is_mark (k + 1)).later j).1 ∙ ap (λ (es : List JournalEntry). es ++ more j) (whole.journals j)) ((legs.is_mark k).lengths j)
+          ((legs.is_mark (k + 1)).lengths j ∙ ap (λ (es : List JournalEntry). length es) (whole.journals j)));
+      run = subst⁻¹ (λ (u : World). Run setup here.0 whole.events u) same_end whole.run;
+    }
