@@ -41,7 +41,7 @@ use Rattle.graft_worked.proofs.GraftRows.{state_is, tells_none}
 
 -- ---- what was received
 
-home_received : received_bytes home_end ≡ said_all
+pub home_received : received_bytes home_end ≡ said_all
 home_received = ap (run_from 0) (map.entries-from_sorted nat_cmp (enumerate_from 0 said_all) tt)
 
 pub remote_received : received_bytes remote_end ≡ put_all
@@ -195,11 +195,11 @@ told_to_a : (t : Bool) → cond t (Some route) None ≡ tell_in (cond t (Some ov
 told_to_a true = refl
 told_to_a false = refl
 
-puts_all : put_bytes (peering_of config) (heard_lines 0) ≡ put_all
+pub puts_all : put_bytes (peering_of config) (heard_lines 0) ≡ put_all
 unfolding message_of header_fault frame_at body_of open_of many many_within cap_at caps_of params_of spell spell_attrs attrs_written path_octets
 puts_all = refl
 
-nothing_told : (prefix : PrefixValue) → None ≡ while_established (state session) (to_tell base 1 b_after session prefix)
+pub nothing_told : (prefix : PrefixValue) → None ≡ while_established (state session) (to_tell base 1 b_after session prefix)
 nothing_told prefix = sym (ap (λ s. while_established s (to_tell base 1 b_after session prefix)) state_is ∙ tells_none prefix)
 
 peering_solves : SolvesOn base after_graft 0

@@ -17,4 +17,5 @@ pub mod Puts
 pub mod Sends
 pub mod Refused
 pub mod Wrong
+pub mod Weaker
 mod Emptied

@@ -28,7 +28,7 @@ home_acked = refl
 remote_acked : remote_end.acked ≡ length remote_end.stream
 remote_acked = refl
 
-same_session : (s t : SessionValue) (o u : Option Errand) → Live s o ≡ Live t u → s ≡ t
+pub same_session : (s t : SessionValue) (o u : Option Errand) → Live s o ≡ Live t u → s ≡ t
 same_session s t o u e = cc
 
 pub no_emit : (from n : ℕ) (after : World) → Step base (ByRouter 1 (Emit 0 from (suc n))) after_graft after → ⊥

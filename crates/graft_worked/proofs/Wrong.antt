@@ -22,7 +22,7 @@ open_alone : length (put_bytes (peering_of config) (sent_lines 0)) ≡ 29
 unfolding spell
 open_alone = refl
 
-only_one : (s t : SessionValue) → ◌≡◌ {A = List SessionValue} (s ∷ []) (t ∷ []) → s ≡ t
+pub only_one : (s t : SessionValue) → ◌≡◌ {A = List SessionValue} (s ∷ []) (t ∷ []) → s ≡ t
 only_one s t e = cc
 
 -- the remote received 48 bytes, and this session has put 29

@@ -8,4 +8,5 @@ pub mod Asked
 pub mod Puts
 pub mod Refused
 pub mod Wrong
+pub mod Weaker
 pub mod Emptied

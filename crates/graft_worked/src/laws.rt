@@ -33,6 +33,7 @@ ghost use Rattle.graft_worked.specs.First.{first};
 ghost use Rattle.graft_worked.specs.Graft.{before_graft, graft_events, after_graft, with_entry_kept};
 ghost use Rattle.graft_worked.specs.Refused.{refusing, refused_events, with_refusal, returned_events, with_returned};
 ghost use Rattle.graft_worked.specs.Start.{start_events};
+ghost use Rattle.graft_worked.specs.Weaker as weaker;
 ghost use Rattle.graft_worked.specs.Wrong.{with_session_kept, with_session_begun_again, with_telling_on_its_way};
 
 /// A laboratory may begin with the worked setup.
@@ -140,4 +141,44 @@ pub fn wrong_rules_lead_elsewhere()
     ensures kept { ¬ Transparent base with_session_kept 0 }
     ensures begun_again { ¬ Transparent base with_session_begun_again 0 }
     ensures forgotten { ¬ Solves base with_telling_on_its_way }
+{}
+
+/// Every field of what is called transparent or solved is needed: each of these worlds differs in one thing from the last world of the worked graft, and this
+/// makes one field false. Of the fields `one`, `linked` and `tellings` the laws above have such worlds.
+pub fn each_field_of_a_claim_can_be_false()
+    ensures own { ¬ Transparent base weaker.with_other_address 0 }
+    ensures legal { ¬ Transparent base weaker.with_second_open 0 }
+    ensures received { ¬ Transparent base weaker.with_octet_received 0 }
+    ensures got { ¬ Transparent base weaker.with_update_unsaid 0 }
+    ensures heard { ¬ Transparent base weaker.with_route_unheard 0 }
+    ensures told { ¬ Transparent base weaker.with_route_told 0 }
+    ensures placed { ¬ Solves base weaker.with_word_owed }
+    ensures all_told { ¬ Solves base weaker.with_route_told }
+    ensures all_received { ¬ Solves base weaker.with_keepalive_missing }
+    ensures all_got { ¬ Solves base weaker.with_keepalive_said }
+    ensures elsewhere { ¬ Solves base weaker.with_shadow_left }
+    ensures best { ¬ Solves base weaker.with_best_missing }
+{}
+
+/// Every field of what is called quiet is needed, in the same way; of `places` each part is.
+pub fn each_field_of_quiet_can_be_false()
+    ensures mesh { ¬ Quiet base weaker.with_word_on_its_way }
+    ensures outward { ¬ Quiet base weaker.with_segment_outward }
+    ensures inward { ¬ Quiet base weaker.with_segment_inward }
+    ensures orders { ¬ Quiet base weaker.with_order_on_its_way }
+    ensures reports { ¬ Quiet base weaker.with_report_on_its_way }
+    ensures says { ¬ Quiet base weaker.with_say_on_its_way }
+    ensures homeward { ¬ Quiet base weaker.with_segment_homeward }
+    ensures remoteward { ¬ Quiet base weaker.with_segment_remoteward }
+    ensures decided { ¬ Quiet base weaker.with_prefix_dirty }
+    ensures told_in { ¬ Quiet base weaker.with_prefix_due_in }
+    ensures told_out { ¬ Quiet base weaker.with_prefix_due_out }
+    ensures errand { ¬ Quiet base weaker.with_word_owed }
+    ensures all_read { ¬ Quiet base weaker.with_update_unread }
+    ensures home_received { ¬ Quiet base weaker.with_update_missing }
+    ensures remote_received { ¬ Quiet base weaker.with_keepalive_missing }
+    ensures remote_acked { ¬ Quiet base weaker.with_remote_unanswered }
+    ensures home_acked { ¬ Quiet base weaker.with_session_unanswered }
+    ensures issued { ¬ Quiet base weaker.with_say_unordered }
+    ensures ended { ¬ Quiet base weaker.with_outcome_unknown }
 {}

@@ -1,7 +1,8 @@
 //! Commands as they stand in lines.
 
-/// A command: `graftlab WORD.. < INPUT ! read N write N`. The input is a file or `N empty lines`, and may be left out, as may what
-/// fails: the calls, from 1, at which the source and the sink do. The word `*` stands for each of some counts of workers.
+/// A command: `graftlab WORD.. < INPUT ! read N write N`. The input is a file, `N empty lines` or one that leads to a limit, `a stream past its
+/// limit` or `a full journal`. It may be left out, as may what fails: the calls, from 1, at which the source and the sink do. The word
+/// `*` stands for each of some counts of workers.
 #[derive(Clone, Copy)]
 pub struct Case<'a> {
     pub words: &'a str,
@@ -18,6 +19,13 @@ pub enum Shown {
     Told,
     /// The stories, and what each remote received.
     All,
+}
+
+/// What ends a run whose input is made for it.
+#[derive(Clone, Copy)]
+pub enum Limit {
+    Stream,
+    Journal,
 }
 
 /// A call that isn't reached.
@@ -63,5 +71,23 @@ impl<'a> Case<'a> {
     pub fn empty_lines(&self) -> Option<u32> {
         let number = self.input.strip_suffix(" empty lines")?;
         number.parse::<u32>().ok()
+    }
+
+    /// The limit that the input leads to, where it is made for one.
+    pub fn limit(&self) -> Option<Limit> {
+        match self.input {
+            "a stream past its limit" => Some(Limit::Stream),
+            "a full journal" => Some(Limit::Journal),
+            _ => None,
+        }
+    }
+
+    /// How many bytes the sink has room for: a run that ends at a limit has a long text.
+    pub fn room(&self) -> usize {
+        if self.limit().is_some() {
+            4_194_304
+        } else {
+            4096
+        }
     }
 }

@@ -2,6 +2,7 @@
 
 use crate::case::{Case, Shown};
 use crate::gate::CountingGate;
+use crate::limits::push_end;
 use crate::seen::{push_seen, push_told};
 use graft_edge::{MemSink, MemSource, NoMemory, Words};
 use lab_report::Lab;
@@ -72,6 +73,31 @@ fn told(
     Ok(text)
 }
 
+/// Of a run that meets a limit: how it ended, its status, and whether each turn passed the gate.
+fn told_of_limit(
+    alloc: Global,
+    finish: &Finish,
+    written: &[u8],
+    gate: &CountingGate,
+) -> Result<String, NoMemory> {
+    let whole = written_text(alloc, written)?;
+    let line = whole.lines().next().unwrap_or("");
+    let mut text = String::new(alloc);
+    match &finish.lab {
+        Some(lab) => {
+            push_end(&mut text, line, lab)?;
+            write!(
+                text,
+                "\nstatus {}\ngate: {}",
+                finish.status,
+                gate.verdict(lab)
+            )?;
+        }
+        None => write!(text, "{line}\nstatus {}", finish.status)?,
+    }
+    Ok(text)
+}
+
 /// What comes of a case by a number of workers: what its command wrote, its status, and what is seen of its run.
 pub fn end_of<R: Threads + Sync + AllocGlobal>(
     rt: &R,
@@ -82,8 +108,11 @@ pub fn end_of<R: Threads + Sync + AllocGlobal>(
     let alloc = rt.alloc();
     let words = words_of(alloc, case.words, workers)?;
     let mut source = MemSource::new(alloc, input.as_bytes(), 64, &[case.read_fails])?;
-    let mut sink = MemSink::new(alloc, 4096, 16, &[case.write_fails])?;
+    let mut sink = MemSink::new(alloc, case.room(), 16, &[case.write_fails])?;
     let gate = CountingGate::new();
     let finish = finish_of(rt, &words, &mut source, &mut sink, &gate);
+    if case.limit().is_some() {
+        return told_of_limit(alloc, &finish, sink.written(), &gate);
+    }
     told(alloc, &finish, sink.written(), &gate, case.shown())
 }

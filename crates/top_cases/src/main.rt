@@ -1,24 +1,30 @@
 //! Reads commands, a line each, and prints how each one ends. What the top call's contract says is proved for all words and
-//! sources; these are commands as people type them, worked by hand, each status, and each fault of a source and a sink.
+//! sources; these are commands as people type them, worked by hand, each status but 6, for too little memory, and each fault of a source and
+//! a sink.
 #![tactic(auto)]
 
 mod case;
 mod end;
 mod gate;
+mod limits;
 mod seen;
 
 use crate::case::Case;
 use crate::end::end_of;
+use crate::limits::input_to;
 use anyhow::Result;
 use std::fmt::Write;
 use std::rt::Files;
 use std::thread::Threads;
 use std::{fs, io};
 
-/// The text of a case's input: none, empty lines, or a file.
+/// The text of a case's input: none, empty lines, one that leads to a limit, or a file.
 fn input_of<R: Files + AllocGlobal>(rt: &R, case: &Case<'_>) -> Result<String> {
     if let Some(lines) = case.empty_lines() {
         return Ok("\n".repeat(rt.alloc(), lines as usize)?);
+    }
+    if let Some(limit) = case.limit() {
+        return Ok(input_to(rt.alloc(), limit)?);
     }
     match case.input {
         "" => Ok(String::new(rt.alloc())),
