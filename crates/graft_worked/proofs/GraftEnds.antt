@@ -1,5 +1,5 @@
 -- The worlds before and after the worked graft are quiet, and the last one solves.
-use Rattle.std.proofs.Common.{◌≡◌, ◌≢◌, ℕ, zero, suc, ◌==◌, Bool, true, false, cond, List, [], ◌∷◌, drop, length, Option, Some, None, is_some, refl, sym, ap, ◌∙◌, inl, inr, lit<}
+use Rattle.std.proofs.Common.{◌≡◌, ◌≢◌, ℕ, zero, suc, ◌==◌, Bool, true, false, cond, List, [], ◌∷◌, ◌++◌, drop, length, Option, Some, None, is_some, refl, sym, ap, ◌∙◌, subst, inl, inr, lit<}
 use Rattle.std.specs.Prelude.{slice_get}
 use Rattle.std.specs.FinMap as map
 use Rattle.std.specs.List.{enumerate_from}
@@ -14,22 +14,23 @@ use Rattle.bgp_types.specs.PathOctets.{path_octets}
 use Rattle.bgp_types.specs.Prefixes.{PrefixValue}
 use Rattle.bgp_types.specs.Spelling.{spell, spell_attrs, attrs_written}
 use Rattle.bgp_types.specs.Tables.{prefix_cmp}
-use Rattle.bgp_story.specs.Readings.{put_bytes}
+use Rattle.bgp_story.specs.Readings.{IsLegal, put_bytes, told}
 use Rattle.bgp_story.specs.WorkedSessions.{ten, heard_lines}
+use Rattle.bgp_story.proofs.WorkedStories.{heard_all, heard_routes, peering_is}
 use Rattle.decision_core.specs.Choice.{keep, left_of, choice}
 use Rattle.route_policy.specs.declared.best.Best.{Best}
 use Rattle.route_policy.specs.Candidates.{candidates}
 use Rattle.route_policy.specs.Telling.{tell_in}
 use Rattle.tcp_seq.specs.Endpoint.{received_bytes, run_from}
 use Rattle.session_value.specs.Sessions.{peering_of, state, unread, while_established}
-use Rattle.session_value.specs.Fronts.{BeginsNothing}
+use Rattle.session_value.specs.Fronts.{AreFirst, BeginsNothing}
 use Rattle.graft_model.specs.Points.{at}
 use Rattle.graft_model.specs.Setups.{ScriptStep, SayStep, MoveStep, EvacuateStep, SettleStep, ScriptGraft, group_of, grafts_in, graft_at, identifier_of, cost_between, has_network}
 use Rattle.graft_model.specs.Parts.{Vacant, Live, Entry, RouterPart, FarPart, OperatorPart}
 use Rattle.graft_model.specs.Placements.{target_in}
 use Rattle.graft_model.specs.Decisions.{to_tell, remote_identifier}
 use Rattle.graft_model.specs.Quiet.{Quiet, IsIdle, HasRead, AllAcked}
-use Rattle.graft_model.specs.Claims.{Solves, SolvesOn, session_routes, router_routes}
+use Rattle.graft_model.specs.Claims.{Transparent, Solves, SolvesOn, GotAll, session_routes, router_routes}
 use Rattle.graft_worked.specs.Base.{base, config}
 use Rattle.graft_worked.specs.Places.{idle_router, idle_far, nothing, world_of}
 use Rattle.graft_worked.specs.Graft.{put_all, said_all, home_end, remote_end, heard_attrs, route, entry, over_peering, over_router, session, a_before, b_before, far_before, operator_before, a_after, b_after, far_after, operator_after, before_graft, after_graft, with_entry_kept}
@@ -47,7 +48,11 @@ home_received = ap (run_from 0) (map.entries-from_sorted nat_cmp (enumerate_from
 pub remote_received : received_bytes remote_end ≡ put_all
 remote_received = ap (run_from 0) (map.entries-from_sorted nat_cmp (enumerate_from 0 put_all) tt)
 
-nothing_begins : BeginsNothing []
+pub puts_all : put_bytes (peering_of config) (heard_lines 0) ≡ put_all
+unfolding message_of header_fault frame_at body_of open_of many many_within cap_at caps_of params_of spell spell_attrs attrs_written path_octets
+puts_all = refl
+
+pub nothing_begins : BeginsNothing []
 unfolding frame_at
 nothing_begins [] rest e (inl f) = absurd cc
 nothing_begins [] rest e (inr f) = let n : ◌≡◌ {A = ℕ} 0 19 = f.0 in absurd cc
@@ -148,6 +153,33 @@ quiet_after = calm_world a_after b_after far_after operator_after
     (record { dirty = refl; due_in = λ q. refl; due_out = λ p. refl; places = with_session far_after refl })
     refl refl (issued operator_after refl) ended_after
 
+-- ---- transparent
+
+pub none_told : told (heard_lines 0) ≡ map.empty
+unfolding header_fault
+none_told = refl
+
+pub legal_after : IsLegal (peering_of config) (heard_lines 0) (state session)
+legal_after = subst (IsLegal (peering_of config) (heard_lines 0)) (sym state_is) (heard_all 0 (peering_is 0 (lit< tt) refl))
+
+pub all_received : received_bytes remote_end ≡ put_bytes (peering_of config) (heard_lines 0)
+all_received = remote_received ∙ sym puts_all
+
+pub received_after : AreFirst (received_bytes remote_end) (put_bytes (peering_of config) (heard_lines 0))
+received_after = record { rest = []; is = puts_all ∙ ap (λ (bytes : List ℕ). bytes ++ []) (sym remote_received) }
+
+pub transparent_after : Transparent base after_graft 0
+transparent_after = record {
+  session = session;
+  one = refl;
+  own = refl;
+  legal = legal_after;
+  received = received_after;
+  got = record { rest = []; is = refl };
+  heard = sym (heard_routes 0);
+  told = sym none_told;
+}
+
 -- ---- solves
 
 from_b : PrefixValue → Option Best → Option Best
@@ -187,7 +219,7 @@ best_at_a prefix = got_ten (over_router 1) prefix ∙ sym (ap (from_b prefix) (g
 best_at_b : (prefix : PrefixValue) → map.get b_after.best prefix ≡ from_both prefix (map.get session.heard prefix) (map.get a_after.best prefix)
 best_at_b prefix = got_ten over_peering prefix ∙ sym ((λ i. from_both prefix (got_ten heard_attrs prefix i) (got_ten (over_router 1) prefix i)) ∙ from_both_is prefix (is_ten prefix))
 
-told_to_b : (t : Bool) → None ≡ tell_in (cond t (Some (over_router 1)) None)
+pub told_to_b : (t : Bool) → None ≡ tell_in (cond t (Some (over_router 1)) None)
 told_to_b true = refl
 told_to_b false = refl
 
@@ -195,22 +227,21 @@ told_to_a : (t : Bool) → cond t (Some route) None ≡ tell_in (cond t (Some ov
 told_to_a true = refl
 told_to_a false = refl
 
-pub puts_all : put_bytes (peering_of config) (heard_lines 0) ≡ put_all
-unfolding message_of header_fault frame_at body_of open_of many many_within cap_at caps_of params_of spell spell_attrs attrs_written path_octets
-puts_all = refl
-
 pub nothing_told : (prefix : PrefixValue) → None ≡ while_established (state session) (to_tell base 1 b_after session prefix)
 nothing_told prefix = sym (ap (λ s. while_established s (to_tell base 1 b_after session prefix)) state_is ∙ tells_none prefix)
 
-peering_solves : SolvesOn base after_graft 0
+pub got_all : GotAll session said_all
 unfolding frame_at header_fault
+got_all = record { rest = []; is = refl; whole = (tt, (inl refl, (tt, (inl refl, (inl refl, tt))))); end = inr nothing_begins }
+
+peering_solves : SolvesOn base after_graft 0
 peering_solves = record {
   session = session;
   placed = refl;
   linked = refl;
   told = λ prefix. got_none prefix ∙ nothing_told prefix;
-  received = remote_received ∙ sym puts_all;
-  got = record { rest = []; is = refl; whole = (tt, (inl refl, (tt, (inl refl, (inl refl, tt))))); end = inr nothing_begins };
+  received = all_received;
+  got = got_all;
   elsewhere = below_two (λ r. r ≢ 1 → ((after_graft.router r).places 0 ≡ Vacant) × ((after_graft.router r).entries 0 ≡ map.empty)) (λ other. (refl, refl)) (λ other. absurd (other refl));
 }
 

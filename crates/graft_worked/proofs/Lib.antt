@@ -17,5 +17,6 @@ pub mod Puts
 pub mod Sends
 pub mod Refused
 pub mod Wrong
+pub mod Alone
 pub mod Weaker
 mod Emptied

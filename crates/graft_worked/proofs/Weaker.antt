@@ -6,7 +6,7 @@ use Rattle.std.specs.Ordering.{nat_cmp}
 use Rattle.std.proofs.lemmas.Option.{same_Some}
 use Rattle.bgp_types.specs.Header.{header_fault, frame_at}
 use Rattle.bgp_types.specs.Tables.{prefix_cmp}
-use Rattle.bgp_story.specs.Laws.{PutsNoOpen}
+use Rattle.bgp_story.specs.Laws.{PutsNoOpen, IsGotLine}
 use Rattle.bgp_story.specs.Legal.{IsGot}
 use Rattle.bgp_story.specs.Readings.{IsLegal, put_bytes, got_bytes, heard, told}
 use Rattle.bgp_story.specs.WorkedSessions.{ten, open_bytes, keepalive_bytes, update_bytes, sent_lines, heard_lines, attrs_over}
@@ -22,10 +22,10 @@ use Rattle.graft_model.specs.Quiet.{Quiet}
 use Rattle.graft_worked.specs.Base.{base, config}
 use Rattle.graft_worked.specs.First.{home_open_bytes}
 use Rattle.graft_worked.specs.Graft.{put_all, from_zero, home_end, remote_end, at_ten, heard_attrs, over_router, session, b_after}
-use Rattle.graft_worked.specs.Weaker.{with_other_address, with_second_open, with_octet_received, with_update_unsaid, with_route_unheard, with_route_told, with_word_owed, with_keepalive_missing, with_keepalive_said, with_shadow_left, with_best_missing, with_word_on_its_way, with_segment_outward, with_segment_inward, with_order_on_its_way, with_report_on_its_way, with_say_on_its_way, with_segment_homeward, with_segment_remoteward, with_prefix_dirty, with_prefix_due_in, with_prefix_due_out, with_update_unread, with_update_missing, with_remote_unanswered, with_session_unanswered, with_say_unordered, with_outcome_unknown}
+use Rattle.graft_worked.specs.Weaker.{interrupted, with_empty_line, addressed, opened_twice, unhearing, telling, with_other_address, with_second_open, with_octet_received, with_update_unsaid, with_route_unheard, with_route_told, with_word_owed, with_keepalive_missing, with_keepalive_said, with_shadow_left, with_best_missing, with_word_on_its_way, with_segment_outward, with_segment_inward, with_order_on_its_way, with_report_on_its_way, with_say_on_its_way, with_segment_homeward, with_segment_remoteward, with_prefix_dirty, with_prefix_due_in, with_prefix_due_out, with_update_unread, with_update_missing, with_remote_unanswered, with_session_unanswered, with_say_unordered, with_outcome_unknown}
 use Rattle.graft_worked.proofs.Tens.{empty, got_none, got_it}
 use Rattle.graft_worked.proofs.GraftRows.{state_is}
-use Rattle.graft_worked.proofs.GraftEnds.{home_received, puts_all, nothing_told, solves_after}
+use Rattle.graft_worked.proofs.GraftEnds.{nothing_begins, home_received, puts_all, none_told, nothing_told, solves_after}
 use Rattle.graft_worked.proofs.Sends.{same_session}
 use Rattle.graft_worked.proofs.Wrong.{only_one}
 
@@ -57,10 +57,10 @@ received_from_zero bytes e is = ap (λ (b : map.FinMap nat_cmp ℕ). run_from 0 
 pub another_address : Transparent base with_other_address 0 → ⊥
 another_address t =
     let theirs = same_Some config t.session.config t.own in
-    let one = only_one (record session { config = record config { remote_address = 0xC0000203 } }) t.session t.one in
+    let one = only_one addressed t.session t.one in
     other_number 0xC0000201 0xC0000203 (lit< tt) (ap (λ c. c.remote_address) theirs ∙ ap (λ (s : SessionValue). s.config.remote_address) (sym one))
 
-opens_twice : IsLegal (peering_of config) (heard_lines 0 ++ sent_lines 0) (state (record session { story = heard_lines 0 ++ sent_lines 0 })) → ⊥
+opens_twice : IsLegal (peering_of config) (heard_lines 0 ++ sent_lines 0) (state opened_twice) → ⊥
 opens_twice legal =
     let once = opens_once_is _ _ _ (allowed_of _ _ _ legal) in
     let others = subst (AllByRecursion PutsNoOpen) (sym (ap (drop 1) once.first)) once.others in
@@ -74,7 +74,8 @@ octet_received = ap (λ (es : List (ℕ × ℕ)). length (run_from 0 es)) (map.e
 
 pub one_octet_more : Transparent base with_octet_received 0 → ⊥
 one_octet_more t =
-    let puts : put_bytes (peering_of t.session.config) t.session.story ≡ put_all = ap (λ (s : SessionValue). put_bytes (peering_of s.config) s.story) (sym (only_one session t.session t.one)) ∙ puts_all in
+    let puts : put_bytes (peering_of t.session.config) t.session.story ≡ put_all
+    = ap (λ (s : SessionValue). put_bytes (peering_of s.config) s.story) (sym (only_one session t.session t.one)) ∙ puts_all in
     let all : length (put_bytes (peering_of t.session.config) t.session.story) ≡ 48 = ap length puts in
     too_long _ _ t.received (omega (arith, all, octet_received))
 
@@ -84,15 +85,11 @@ never_said t = too_long (got_bytes (heard_lines 0)) (open_bytes ++ keepalive_byt
 
 pub unheard : Transparent base with_route_unheard 0 → ⊥
 unheard t = empty_or_ten heard_attrs
-    (subst (λ (s : SessionValue). s.heard ≡ heard (peering_of s.config) s.story) (sym (only_one (record session { heard = map.empty }) t.session t.one)) t.heard ∙ heard_routes 0)
-
-none_told : told (heard_lines 0) ≡ map.empty
-unfolding header_fault
-none_told = refl
+    (subst (λ (s : SessionValue). s.heard ≡ heard (peering_of s.config) s.story) (sym (only_one unhearing t.session t.one)) t.heard ∙ heard_routes 0)
 
 pub told_without : Transparent base with_route_told 0 → ⊥
 told_without t =
-    let same = only_one (record session { told = at_ten (attrs_over (65000 ∷ [])) }) t.session t.one in
+    let same = only_one telling t.session t.one in
     empty_or_ten (attrs_over (65000 ∷ [])) (sym (subst (λ (s : SessionValue). s.told ≡ told s.story) (sym same) t.told ∙ none_told))
 
 -- ---- not solved
@@ -109,8 +106,7 @@ word_owed s = let p = on_it with_word_owed s in no_errand session p.session _ p.
 pub not_to_tell : Solves base with_route_told → ⊥
 not_to_tell s =
     let p = on_it with_route_told s in
-    let told : SessionValue = record session { told = at_ten (attrs_over (65000 ∷ [])) } in
-    let same : told ≡ p.session = same_session told p.session None None p.placed in
+    let same : telling ≡ p.session = same_session telling p.session None None p.placed in
     let is = subst (λ (x : SessionValue). map.get x.told ten ≡ while_established (state x) (to_tell base 1 b_after x ten)) (sym same) (p.told ten) in
     not_both (attrs_over (65000 ∷ [])) (nothing_told ten ∙ (sym is ∙ got_it (attrs_over (65000 ∷ []))))
 
@@ -137,6 +133,19 @@ keepalive_said s =
       | inl closed ↦ let e = sym state_is ∙ (ap state same ∙ closed) in absurd cc
       | inr nothing ↦ nothing keepalive_bytes [] (sym rest) keepalive_is
     ]
+
+pub unsaid : Solves base with_update_unsaid → ⊥
+unsaid s =
+    let p = on_it with_update_unsaid s in
+    let same = same_session session p.session None None p.placed in
+    too_long (got_bytes (heard_lines 0)) (open_bytes ++ keepalive_bytes)
+    (record { rest = p.got.rest; is = p.got.is ∙ ap (λ (x : SessionValue). got_bytes x.story ++ p.got.rest) (sym same) }) (lit< tt)
+
+pub empty_line : Solves base with_empty_line → ⊥
+empty_line s =
+    let p = on_it with_empty_line s in
+    let whole = subst (λ (x : SessionValue). AllByRecursion IsGotLine x.story) (sym (same_session interrupted p.session None None p.placed)) p.got.whole in
+    nothing_begins [] [] refl whole.1.1.1.1.1.0
 
 pub shadow_left : Solves base with_shadow_left → ⊥
 shadow_left s = let gone = ((on_it with_shadow_left s).elsewhere 0 (lit< tt) (λ e. cc)).0 in absurd cc

@@ -8,5 +8,6 @@ pub mod Asked
 pub mod Puts
 pub mod Refused
 pub mod Wrong
+pub mod Alone
 pub mod Weaker
 pub mod Emptied

@@ -1,6 +1,7 @@
 -- Worlds in which one field of a claim is false, and all others hold: each is the last world of the worked graft, or the one before it, with one thing changed.
 use Rattle.std.specs.Prelude.{[], ◌∷◌, ◌++◌, Some, None, false}
 use Rattle.std.specs.FinMap as map
+use Rattle.bgp_story.specs.declared.line.Line.TheVariants.{Got}
 use Rattle.bgp_story.specs.WorkedSessions.{open_bytes, keepalive_bytes, sent_lines, heard_lines, attrs_over}
 use Rattle.graft_steps.specs.declared.refusal.Outcome.TheVariants.{Accepted}
 use Rattle.tcp_seq.specs.Endpoint.{PlacedSegment, Endpoint}
@@ -34,28 +35,40 @@ with_remote end = with_far (record far_after { end = end })
 -- ---- not transparent
 
 -- own: the remote has another address
+abbrev pub addressed : SessionValue
+addressed = record session { config = record config { remote_address = 0xC0000203 } }
+
 abbrev pub with_other_address : World
-with_other_address = with_session (record session { config = record config { remote_address = 0xC0000203 } })
+with_other_address = with_session addressed
 
 -- legal: the OPEN is put a second time
+abbrev pub opened_twice : SessionValue
+opened_twice = record session { story = heard_lines 0 ++ sent_lines 0 }
+
 abbrev pub with_second_open : World
-with_second_open = with_session (record session { story = heard_lines 0 ++ sent_lines 0 })
+with_second_open = with_session opened_twice
 
 -- received: an octet more than was put
 abbrev pub with_octet_received : World
 with_octet_received = with_remote (record remote_end { arrived = from_zero (put_all ++ 0 ∷ []) })
 
--- got: the remote never said the UPDATE
+-- got: the remote never said the UPDATE. This one doesn't solve either, by its own field of this name.
 abbrev pub with_update_unsaid : World
 with_update_unsaid = with_remote (record remote_end { stream = open_bytes ++ keepalive_bytes })
 
 -- heard: the route isn't in the table
+abbrev pub unhearing : SessionValue
+unhearing = record session { heard = map.empty }
+
 abbrev pub with_route_unheard : World
-with_route_unheard = with_session (record session { heard = map.empty })
+with_route_unheard = with_session unhearing
 
 -- told: a route is in the table, and no UPDATE was put. No route is to be told, so this one doesn't solve either, by its own field of this name.
+abbrev pub telling : SessionValue
+telling = record session { told = at_ten (attrs_over (65000 ∷ [])) }
+
 abbrev pub with_route_told : World
-with_route_told = with_session (record session { told = at_ten (attrs_over (65000 ∷ [])) })
+with_route_told = with_session telling
 
 -- ---- not solved
 
@@ -70,6 +83,13 @@ with_keepalive_missing = with_remote (record remote_end { arrived = from_zero ho
 -- got: the remote said one more KEEPALIVE
 abbrev pub with_keepalive_said : World
 with_keepalive_said = with_remote (record remote_end { stream = said_all ++ keepalive_bytes })
+
+-- got: a line of the story is no message
+abbrev pub interrupted : SessionValue
+interrupted = record session { story = heard_lines 0 ++ Got [] ∷ [] }
+
+abbrev pub with_empty_line : World
+with_empty_line = with_session interrupted
 
 -- elsewhere: the shadow stays at the source
 abbrev pub with_shadow_left : World

@@ -19,6 +19,7 @@ ghost use Rattle.graft_model.specs.declared.event.RouterEvent.TheVariants.{Put, 
 ghost use Rattle.graft_model.specs.declared.event.FarEvent.TheVariants.{Send, Lose, Beat};
 ghost use Rattle.graft_model.specs.declared.event.OperatorEvent.TheVariants.{Go, Order};
 ghost use Rattle.graft_model.specs.Steps.{Run, Step, Event, ByRouter, ByFar, ByOperator, router_row, operator_row};
+ghost use Rattle.session_value.specs.Sessions.{SessionValue};
 ghost use Rattle.tcp_seq.specs.declared.segment.Way.TheVariants.{Home};
 ghost use Rattle.graft_model.specs.Parts.{RouterPart, OperatorPart, World, Asked, Answered, Done, Unmade, To, Stays};
 ghost use Rattle.graft_model.specs.RouterRows.{RouterTaken, MeshIn, RouterSent, MeshTo};
@@ -30,9 +31,10 @@ ghost use Rattle.graft_worked.specs.Others as others;
 ghost use Rattle.graft_worked.specs.Puts.{with_route_due, with_route_put, with_link_at_source};
 ghost use Rattle.graft_worked.specs.Base.{base};
 ghost use Rattle.graft_worked.specs.First.{first};
-ghost use Rattle.graft_worked.specs.Graft.{before_graft, graft_events, after_graft, with_entry_kept};
+ghost use Rattle.graft_worked.specs.Graft.{session, before_graft, graft_events, after_graft, with_entry_kept};
 ghost use Rattle.graft_worked.specs.Refused.{refusing, refused_events, with_refusal, returned_events, with_returned};
 ghost use Rattle.graft_worked.specs.Start.{start_events};
+ghost use Rattle.graft_worked.specs.Alone as alone;
 ghost use Rattle.graft_worked.specs.Weaker as weaker;
 ghost use Rattle.graft_worked.specs.Wrong.{with_session_kept, with_session_begun_again, with_telling_on_its_way};
 
@@ -47,12 +49,14 @@ pub fn base_begins()
     ensures world { first_world base ≡ first }
 {}
 
-/// The worked graft, from one quiet world to another. The last world solves, and it doesn't where the source's entry is kept.
+/// The worked graft, from one quiet world to another. The last world is transparent and solves, and it doesn't solve where
+/// the source's entry is kept.
 pub fn a_graft_runs_to_its_end()
     ensures before { Quiet base before_graft }
     ensures run { Run base before_graft graft_events after_graft }
     ensures quiet { Quiet base after_graft }
     ensures solves { Solves base after_graft }
+    ensures transparent { Transparent base after_graft 0 }
     ensures entry_kept { ¬ Solves base with_entry_kept }
 {}
 
@@ -143,8 +147,8 @@ pub fn wrong_rules_lead_elsewhere()
     ensures forgotten { ¬ Solves base with_telling_on_its_way }
 {}
 
-/// Every field of what is called transparent or solved is needed: each of these worlds differs in one thing from the last world of the worked graft, and this
-/// makes one field false. Of the fields `one`, `linked` and `tellings` the laws above have such worlds.
+/// Every field of what is called transparent or solved is needed: each of these worlds differs in one thing from the last world of the worked graft, which
+/// makes that field false, and all other fields hold there (`fields_are_false_alone`). The laws above have such worlds for `one`, `linked` and `tellings`.
 pub fn each_field_of_a_claim_can_be_false()
     ensures own { ¬ Transparent base weaker.with_other_address 0 }
     ensures legal { ¬ Transparent base weaker.with_second_open 0 }
@@ -156,8 +160,35 @@ pub fn each_field_of_a_claim_can_be_false()
     ensures all_told { ¬ Solves base weaker.with_route_told }
     ensures all_received { ¬ Solves base weaker.with_keepalive_missing }
     ensures all_got { ¬ Solves base weaker.with_keepalive_said }
+    ensures all_said { ¬ Solves base weaker.with_update_unsaid }
+    ensures all_whole { ¬ Solves base weaker.with_empty_line }
     ensures elsewhere { ¬ Solves base weaker.with_shadow_left }
     ensures best { ¬ Solves base weaker.with_best_missing }
+{}
+
+/// In each of the worlds of `each_field_of_a_claim_can_be_false`, and in three more that aren't as claimed, all fields of the claim but one hold.
+/// Where no field is left out, that is the claim.
+pub fn fields_are_false_alone()
+    ensures transparent { (w : World) (s : SessionValue) → alone.TransparentBut alone.Best w s → Transparent base w 0 }
+    ensures solves { (w : World) (s : SessionValue) → alone.SolvesBut alone.Own w s → Solves base w }
+    ensures none_lost { (field : alone.Field) (w : World) (t : Transparent base w 0) → alone.TransparentBut field w t.session }
+    ensures one { alone.TransparentBut alone.One with_session_kept session }
+    ensures own { alone.TransparentBut alone.Own weaker.with_other_address weaker.addressed }
+    ensures legal { alone.TransparentBut alone.Legal weaker.with_second_open weaker.opened_twice }
+    ensures received { alone.TransparentBut alone.Received weaker.with_octet_received session }
+    ensures got { alone.TransparentBut alone.Got weaker.with_update_unsaid session }
+    ensures heard { alone.TransparentBut alone.Heard weaker.with_route_unheard weaker.unhearing }
+    ensures told { alone.TransparentBut alone.Told weaker.with_route_told weaker.telling }
+    ensures placed { alone.SolvesBut alone.Placed weaker.with_word_owed session }
+    ensures all_told { alone.SolvesBut alone.Told weaker.with_route_told weaker.telling }
+    ensures all_received { alone.SolvesBut alone.Received weaker.with_keepalive_missing session }
+    ensures all_got { alone.SolvesBut alone.Got weaker.with_keepalive_said session }
+    ensures all_said { alone.SolvesBut alone.Got weaker.with_update_unsaid session }
+    ensures all_whole { alone.SolvesBut alone.Got weaker.with_empty_line weaker.interrupted }
+    ensures linked { alone.SolvesBut alone.Linked with_link_at_source session }
+    ensures elsewhere { alone.SolvesBut alone.Elsewhere weaker.with_shadow_left session }
+    ensures best { alone.SolvesBut alone.Best weaker.with_best_missing session }
+    ensures tellings { alone.SolvesBut alone.Tellings with_telling_on_its_way session }
 {}
 
 /// Every field of what is called quiet is needed, in the same way; of `places` each part is.

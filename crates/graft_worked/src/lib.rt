@@ -8,6 +8,6 @@ pub use laws::{
     a_graft_runs_to_its_end, a_link_left_behind_solves_nothing, an_update_may_be_put, base_begins,
     base_is_a_setup, base_runs_to_its_end, each_field_of_a_claim_can_be_false,
     each_field_of_quiet_can_be_false, emptied_routers_are_worked, every_router_is_asked,
-    nothing_is_sent_at_the_end, other_events_may_happen, refused_grafts_run_to_their_end,
-    some_events_never_happen, wrong_rules_lead_elsewhere,
+    fields_are_false_alone, nothing_is_sent_at_the_end, other_events_may_happen,
+    refused_grafts_run_to_their_end, some_events_never_happen, wrong_rules_lead_elsewhere,
 };

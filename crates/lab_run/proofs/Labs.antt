@@ -66,6 +66,7 @@ pub labs_tell : WayRan → RunsAreTransparent → AlwaysUnchanged → AlwaysMade
 labs_tell way_ran transparent unchanged made solves always short leave by_plan left one rounds lab a z sound alone tells = record {
   events = ran.events;
   entries_of = ran.entries_of;
+  rises = tells.merged.sorted;
   world = ran.world;
   run = ran.run;
   observed = observed;

@@ -2,7 +2,7 @@
 use Rattle.std.specs.Prelude.{ℕ, ◌≡◌, List, length}
 use Rattle.std.specs.List.{AllByRecursion}
 use Rattle.link_bag.specs.declared.plan.Fault.{Fault}
-use Rattle.journal_merge.specs.Merges.{Interleaves}
+use Rattle.journal_merge.specs.Merges.{AreSorted, Interleaves}
 use Rattle.graft_model.specs.Setups.{Setup, IsSetup}
 use Rattle.graft_model.specs.Parts.{World}
 use Rattle.graft_model.specs.First.{first_world}
@@ -28,8 +28,8 @@ use Rattle.lab_run.specs.Ends.{HasMarks}
 use Rattle.lab_run.specs.Forwards.{Forwards}
 use Rattle.lab_run.specs.Stories.{RunGoes}
 
--- The journal is that of a run of the input's laboratory from its first world, and the lab is what is seen of the world that the run leads to. At every moment
--- of the run each peering is transparent; a refused graft returned its session unchanged; and a source cleared the routes of a session that had left only with
+-- The journal rises by clock, and at one clock by actor. It is that of a run of the input's laboratory from its first world, and the lab is what is seen of the
+-- world that the run leads to. At every moment of the run each peering is transparent; a refused graft returned its session unchanged; and a source cleared the routes of a session that had left only with
 -- its target's routes at hand. The marks say how the run went on and how it ended. One world stands at each mark, and the last one's is that to which the run
 -- leads; from each mark to the next one a run leads from world to world, in which each actor did what a round asks of it.
 -- Each evacuate step gave the sessions of its router to the others by the plan, as its group began.
@@ -39,6 +39,7 @@ use Rattle.lab_run.specs.Stories.{RunGoes}
 pub record RanLab (lab : Lab) : Type 0 where
   pub events : List Event
   pub entries_of : AreEntriesOf (setup_of lab.input) events lab.journal
+  pub rises : AreSorted lab.journal
   pub world : World
   pub run : Run (setup_of lab.input) (first_world (setup_of lab.input)) events world
   pub observed : Observed (setup_of lab.input) world lab

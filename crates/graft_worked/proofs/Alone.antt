@@ -1,0 +1,351 @@
+-- The fields of a claim that are true where one is false.
+use Rattle.std.proofs.Common.{None, subst, ◌≢◌, ◌≡◌, ℕ, List, [], ◌∷◌, ◌++◌, refl, sym, ap, ◌∙◌, lit<}
+use Rattle.std.specs.FinMap as map
+use Rattle.bgp_types.specs.FirstFault.{body_of, message_of}
+use Rattle.bgp_types.specs.Header.{header_fault, frame_at}
+use Rattle.bgp_types.specs.Many.{many, many_within}
+use Rattle.bgp_types.specs.OpenBody.{cap_at, caps_of, params_of, open_of}
+use Rattle.bgp_types.specs.PathOctets.{path_octets}
+use Rattle.bgp_types.specs.Prefixes.{PrefixValue}
+use Rattle.bgp_types.specs.Spelling.{spell, spell_attrs, attrs_written}
+use Rattle.bgp_story.specs.Readings.{put_bytes, heard, told}
+use Rattle.bgp_types.specs.declared.message.SessionState.TheVariants.{Established}
+use Rattle.bgp_story.specs.declared.line.Line.TheVariants as line
+use Rattle.bgp_story.specs.WorkedSessions.{sent_lines, heard_lines}
+use Rattle.bgp_story.proofs.WorkedStories.{heard_routes}
+use Rattle.session_value.specs.Sessions.{SessionValue, peering_of, state, while_established}
+use Rattle.graft_model.specs.Claims.{Transparent, Solves, SolvesOn, session_routes, router_routes}
+use Rattle.decision_core.specs.Choice.{choice}
+use Rattle.route_policy.specs.declared.best.Best as best_type
+use Rattle.route_policy.specs.Candidates.{candidates}
+use Rattle.route_policy.specs.Telling.{tell_in}
+use Rattle.graft_model.specs.Setups.{identifier_of, cost_between, has_network}
+use Rattle.graft_model.specs.Decisions.{to_tell}
+use Rattle.graft_worked.specs.Base.{base, config}
+use Rattle.graft_worked.specs.First.{home_open_bytes}
+use Rattle.graft_worked.specs.Graft.{put_all, over_router, session, a_after, b_after, after_graft}
+use Rattle.graft_model.specs.Parts.{Vacant, Live, World}
+use Rattle.graft_model.specs.OperatorRows.{placement}
+use Rattle.graft_worked.proofs.Setup.{below_two, below_one}
+use Rattle.graft_worked.specs.Alone.{Field, One, Linked, Tellings, TransparentBut, SolvesBut, Own, Legal, Received, Got, Heard, Told, Placed, Elsewhere, Best}
+use Rattle.graft_worked.specs.Puts.{with_link_at_source}
+use Rattle.graft_worked.specs.Wrong.{with_session_kept, with_telling_on_its_way}
+use Rattle.graft_worked.specs.Weaker.{interrupted, with_empty_line, addressed, opened_twice, unhearing, telling, with_other_address, with_second_open, with_octet_received, with_update_unsaid, with_route_unheard, with_route_told, with_word_owed, with_keepalive_missing, with_keepalive_said, with_shadow_left, with_best_missing}
+use Rattle.graft_worked.proofs.Tens.{empty, is_ten, got_none, got_ten}
+use Rattle.graft_worked.proofs.GraftRows.{tells_none}
+use Rattle.graft_worked.proofs.GraftEnds.{legal_after, all_received, received_after, got_all, remote_received, none_told, nothing_told, told_to_b, solves_after}
+
+-- ---- transparent
+
+puts_twice : put_bytes (peering_of config) (heard_lines 0 ++ sent_lines 0) ≡ put_all ++ home_open_bytes
+unfolding message_of header_fault frame_at body_of open_of many many_within cap_at caps_of params_of spell spell_attrs attrs_written path_octets
+puts_twice = refl
+
+heard_as_before : heard (peering_of config) (heard_lines 0 ++ sent_lines 0) ≡ heard (peering_of config) (heard_lines 0)
+unfolding message_of header_fault frame_at body_of open_of many many_within cap_at caps_of params_of
+heard_as_before = refl
+
+told_as_before : told (heard_lines 0 ++ sent_lines 0) ≡ map.empty
+unfolding header_fault
+told_as_before = refl
+
+pub one_alone : TransparentBut One with_session_kept session
+one_alone = record {
+  one = λ other. absurd (other refl);
+  own = λ other. refl;
+  legal = λ other. legal_after;
+  received = λ other. received_after;
+  got = λ other. record { rest = []; is = refl };
+  heard = λ other. sym (heard_routes 0);
+  told = λ other. sym none_told;
+}
+
+pub own_alone : TransparentBut Own with_other_address addressed
+own_alone = record {
+  one = λ other. refl;
+  own = λ other. absurd (other refl);
+  legal = λ other. legal_after;
+  received = λ other. received_after;
+  got = λ other. record { rest = []; is = refl };
+  heard = λ other. sym (heard_routes 0);
+  told = λ other. sym none_told;
+}
+
+pub legal_alone : TransparentBut Legal with_second_open opened_twice
+legal_alone = record {
+  one = λ other. refl;
+  own = λ other. refl;
+  legal = λ other. absurd (other refl);
+  received = λ other. record { rest = home_open_bytes; is = puts_twice ∙ ap (λ (bytes : List ℕ). bytes ++ home_open_bytes) (sym remote_received) };
+  got = λ other. record { rest = []; is = refl };
+  heard = λ other. sym (heard_as_before ∙ heard_routes 0);
+  told = λ other. sym told_as_before;
+}
+
+pub received_alone : TransparentBut Received with_octet_received session
+received_alone = record {
+  one = λ other. refl;
+  own = λ other. refl;
+  legal = λ other. legal_after;
+  received = λ other. absurd (other refl);
+  got = λ other. record { rest = []; is = refl };
+  heard = λ other. sym (heard_routes 0);
+  told = λ other. sym none_told;
+}
+
+pub got_alone : TransparentBut Got with_update_unsaid session
+got_alone = record {
+  one = λ other. refl;
+  own = λ other. refl;
+  legal = λ other. legal_after;
+  received = λ other. received_after;
+  got = λ other. absurd (other refl);
+  heard = λ other. sym (heard_routes 0);
+  told = λ other. sym none_told;
+}
+
+pub heard_alone : TransparentBut Heard with_route_unheard unhearing
+heard_alone = record {
+  one = λ other. refl;
+  own = λ other. refl;
+  legal = λ other. legal_after;
+  received = λ other. received_after;
+  got = λ other. record { rest = []; is = refl };
+  heard = λ other. absurd (other refl);
+  told = λ other. sym none_told;
+}
+
+pub told_alone : TransparentBut Told with_route_told telling
+told_alone = record {
+  one = λ other. refl;
+  own = λ other. refl;
+  legal = λ other. legal_after;
+  received = λ other. received_after;
+  got = λ other. record { rest = []; is = refl };
+  heard = λ other. sym (heard_routes 0);
+  told = λ other. absurd (other refl);
+}
+
+pub transparent_of : (w : World) (s : SessionValue) → TransparentBut Best w s → Transparent base w 0
+transparent_of w s b = record {
+  session = s;
+  one = b.one (λ e. cc);
+  own = b.own (λ e. cc);
+  legal = b.legal (λ e. cc);
+  received = b.received (λ e. cc);
+  got = b.got (λ e. cc);
+  heard = b.heard (λ e. cc);
+  told = b.told (λ e. cc);
+}
+
+pub of_transparent : (but : Field) (w : World) (t : Transparent base w 0) → TransparentBut but w t.session
+of_transparent but w t = record {
+  one = λ other. t.one;
+  own = λ other. t.own;
+  legal = λ other. t.legal;
+  received = λ other. t.received;
+  got = λ other. t.got;
+  heard = λ other. t.heard;
+  told = λ other. t.told;
+}
+
+-- ---- solved
+
+-- router a tells nothing, with its route or without one
+tells_alike : (prefix : PrefixValue) → tell_in (map.get a_after.best prefix) ≡ tell_in (map.get (empty {A = best_type.Best}) prefix)
+tells_alike prefix = ap tell_in (got_ten (over_router 1) prefix) ∙ (sym (told_to_b (is_ten prefix)) ∙ sym (ap tell_in (got_none {A = best_type.Best} prefix)))
+
+told_rightly : (prefix : PrefixValue) → map.get session.told prefix ≡ while_established (state session) (to_tell base 1 b_after session prefix)
+told_rightly prefix = got_none prefix ∙ nothing_told prefix
+
+best_still : (prefix : PrefixValue) → map.get b_after.best prefix
+    ≡ choice (candidates 65000 prefix (has_network base 1 prefix) (session_routes base after_graft 1 prefix) (router_routes base with_best_missing 1 prefix))
+best_still prefix = solves_after.best 1 prefix (lit< tt)
+    ∙ (λ i. choice (candidates 65000 prefix (has_network base 1 prefix) (session_routes base after_graft 1 prefix) (record { router = record { 0 = 0 }; identifier = identifier_of base 0; cost = cost_between base 1 0; told = tells_alike prefix i } ∷ [])))
+
+pub placed_alone : SolvesBut Placed with_word_owed session
+placed_alone = record {
+  best_at_a = λ other prefix. solves_after.best 0 prefix (lit< tt);
+  best_at_b = λ prefix. solves_after.best 1 prefix (lit< tt);
+  told_to_b = λ other prefix. solves_after.tellings 0 1 prefix (lit< tt) (lit< tt) (λ e. cc);
+  told_to_a = λ prefix. solves_after.tellings 1 0 prefix (lit< tt) (lit< tt) (λ e. cc);
+  logged = refl;
+  placed = λ other. absurd (other refl);
+  linked = λ other. refl;
+  told = λ other. told_rightly;
+  received = λ other. all_received;
+  got = λ other. got_all;
+  elsewhere = λ other. (refl, refl);
+}
+
+pub all_told_alone : SolvesBut Told with_route_told telling
+all_told_alone = record {
+  best_at_a = λ other prefix. solves_after.best 0 prefix (lit< tt);
+  best_at_b = λ prefix. solves_after.best 1 prefix (lit< tt);
+  told_to_b = λ other prefix. solves_after.tellings 0 1 prefix (lit< tt) (lit< tt) (λ e. cc);
+  told_to_a = λ prefix. solves_after.tellings 1 0 prefix (lit< tt) (lit< tt) (λ e. cc);
+  logged = refl;
+  placed = λ other. refl;
+  linked = λ other. refl;
+  told = λ other. absurd (other refl);
+  received = λ other. all_received;
+  got = λ other. record { rest = got_all.rest; is = got_all.is; whole = got_all.whole; end = got_all.end };
+  elsewhere = λ other. (refl, refl);
+}
+
+pub all_received_alone : SolvesBut Received with_keepalive_missing session
+all_received_alone = record {
+  best_at_a = λ other prefix. solves_after.best 0 prefix (lit< tt);
+  best_at_b = λ prefix. solves_after.best 1 prefix (lit< tt);
+  told_to_b = λ other prefix. solves_after.tellings 0 1 prefix (lit< tt) (lit< tt) (λ e. cc);
+  told_to_a = λ prefix. solves_after.tellings 1 0 prefix (lit< tt) (lit< tt) (λ e. cc);
+  logged = refl;
+  placed = λ other. refl;
+  linked = λ other. refl;
+  told = λ other. told_rightly;
+  received = λ other. absurd (other refl);
+  got = λ other. got_all;
+  elsewhere = λ other. (refl, refl);
+}
+
+pub all_got_alone : SolvesBut Got with_keepalive_said session
+all_got_alone = record {
+  best_at_a = λ other prefix. solves_after.best 0 prefix (lit< tt);
+  best_at_b = λ prefix. solves_after.best 1 prefix (lit< tt);
+  told_to_b = λ other prefix. solves_after.tellings 0 1 prefix (lit< tt) (lit< tt) (λ e. cc);
+  told_to_a = λ prefix. solves_after.tellings 1 0 prefix (lit< tt) (lit< tt) (λ e. cc);
+  logged = refl;
+  placed = λ other. refl;
+  linked = λ other. refl;
+  told = λ other. told_rightly;
+  received = λ other. all_received;
+  got = λ other. absurd (other refl);
+  elsewhere = λ other. (refl, refl);
+}
+
+pub all_said_alone : SolvesBut Got with_update_unsaid session
+all_said_alone = record {
+  best_at_a = λ other prefix. solves_after.best 0 prefix (lit< tt);
+  best_at_b = λ prefix. solves_after.best 1 prefix (lit< tt);
+  told_to_b = λ other prefix. solves_after.tellings 0 1 prefix (lit< tt) (lit< tt) (λ e. cc);
+  told_to_a = λ prefix. solves_after.tellings 1 0 prefix (lit< tt) (lit< tt) (λ e. cc);
+  logged = refl;
+  placed = λ other. refl;
+  linked = λ other. refl;
+  told = λ other. told_rightly;
+  received = λ other. all_received;
+  got = λ other. absurd (other refl);
+  elsewhere = λ other. (refl, refl);
+}
+
+puts_interrupted : put_bytes (peering_of config) (heard_lines 0 ++ line.Got [] ∷ []) ≡ put_all
+unfolding message_of header_fault frame_at body_of open_of many many_within cap_at caps_of params_of spell spell_attrs attrs_written path_octets
+puts_interrupted = refl
+
+still_up : state interrupted ≡ Established
+unfolding header_fault
+still_up = refl
+
+told_interrupted : (prefix : PrefixValue) → map.get session.told prefix ≡ while_established (state interrupted) (to_tell base 1 b_after session prefix)
+told_interrupted prefix = got_none prefix ∙ sym (ap (λ s. while_established s (to_tell base 1 b_after session prefix)) still_up ∙ tells_none prefix)
+
+pub all_whole_alone : SolvesBut Got with_empty_line interrupted
+all_whole_alone = record {
+  best_at_a = λ other prefix. solves_after.best 0 prefix (lit< tt);
+  best_at_b = λ prefix. solves_after.best 1 prefix (lit< tt);
+  told_to_b = λ other prefix. solves_after.tellings 0 1 prefix (lit< tt) (lit< tt) (λ e. cc);
+  told_to_a = λ prefix. solves_after.tellings 1 0 prefix (lit< tt) (lit< tt) (λ e. cc);
+  logged = refl;
+  placed = λ other. refl;
+  linked = λ other. refl;
+  told = λ other. told_interrupted;
+  received = λ other. remote_received ∙ sym puts_interrupted;
+  got = λ other. absurd (other refl);
+  elsewhere = λ other. (refl, refl);
+}
+
+pub linked_alone : SolvesBut Linked with_link_at_source session
+linked_alone = record {
+  best_at_a = λ other prefix. solves_after.best 0 prefix (lit< tt);
+  best_at_b = λ prefix. solves_after.best 1 prefix (lit< tt);
+  told_to_b = λ other prefix. solves_after.tellings 0 1 prefix (lit< tt) (lit< tt) (λ e. cc);
+  told_to_a = λ prefix. solves_after.tellings 1 0 prefix (lit< tt) (lit< tt) (λ e. cc);
+  logged = refl;
+  placed = λ other. refl;
+  linked = λ other. absurd (other refl);
+  told = λ other. told_rightly;
+  received = λ other. all_received;
+  got = λ other. got_all;
+  elsewhere = λ other. (refl, refl);
+}
+
+pub elsewhere_alone : SolvesBut Elsewhere with_shadow_left session
+elsewhere_alone = record {
+  best_at_a = λ other prefix. solves_after.best 0 prefix (lit< tt);
+  best_at_b = λ prefix. solves_after.best 1 prefix (lit< tt);
+  told_to_b = λ other prefix. solves_after.tellings 0 1 prefix (lit< tt) (lit< tt) (λ e. cc);
+  told_to_a = λ prefix. solves_after.tellings 1 0 prefix (lit< tt) (lit< tt) (λ e. cc);
+  logged = refl;
+  placed = λ other. refl;
+  linked = λ other. refl;
+  told = λ other. told_rightly;
+  received = λ other. all_received;
+  got = λ other. got_all;
+  elsewhere = λ other. absurd (other refl);
+}
+
+pub best_alone : SolvesBut Best with_best_missing session
+best_alone = record {
+  best_at_a = λ other. absurd (other refl);
+  best_at_b = best_still;
+  told_to_b = λ other prefix. solves_after.tellings 0 1 prefix (lit< tt) (lit< tt) (λ e. cc) ∙ tells_alike prefix;
+  told_to_a = λ prefix. solves_after.tellings 1 0 prefix (lit< tt) (lit< tt) (λ e. cc);
+  logged = refl;
+  placed = λ other. refl;
+  linked = λ other. refl;
+  told = λ other. told_rightly;
+  received = λ other. all_received;
+  got = λ other. got_all;
+  elsewhere = λ other. (refl, refl);
+}
+
+pub tellings_alone : SolvesBut Tellings with_telling_on_its_way session
+tellings_alone = record {
+  best_at_a = λ other prefix. solves_after.best 0 prefix (lit< tt);
+  best_at_b = λ prefix. solves_after.best 1 prefix (lit< tt);
+  told_to_b = λ other. absurd (other refl);
+  told_to_a = λ prefix. solves_after.tellings 1 0 prefix (lit< tt) (lit< tt) (λ e. cc);
+  logged = refl;
+  placed = λ other. refl;
+  linked = λ other. refl;
+  told = λ other. told_rightly;
+  received = λ other. all_received;
+  got = λ other. got_all;
+  elsewhere = λ other. (refl, refl);
+}
+
+solves_on : (w : World) (s : SessionValue) → SolvesBut Own w s → SolvesOn base w 0
+solves_on w s b = record {
+  session = s;
+  placed = subst (λ r. (w.router r).places 0 ≡ Live s None) (sym b.logged) (b.placed (λ e. cc));
+  linked = b.linked (λ e. cc) ∙ sym b.logged;
+  told = λ prefix. subst (λ r. map.get s.told prefix ≡ while_established (state s) (to_tell base r (w.router r) s prefix)) (sym b.logged) (b.told (λ e. cc) prefix);
+  received = b.received (λ e. cc);
+  got = b.got (λ e. cc);
+  elsewhere = below_two (λ r. r ≢ placement base w.operator 0 → ((w.router r).places 0 ≡ Vacant) × ((w.router r).entries 0 ≡ map.empty))
+      (λ other. b.elsewhere (λ e. cc)) (λ other. absurd (other (sym b.logged)));
+}
+
+pub solves_of : (w : World) (s : SessionValue) → SolvesBut Own w s → Solves base w
+solves_of w s b = record {
+  best = λ r prefix lt. below_two (λ r. map.get (w.router r).best prefix
+      ≡ choice (candidates 65000 prefix (has_network base r prefix) (session_routes base w r prefix) (router_routes base w r prefix)))
+      (b.best_at_a (λ e. cc) prefix) (b.best_at_b prefix) r lt;
+  tellings = λ r q prefix lr lq. below_two (λ r. r ≢ q → map.get ((w.router q).tellings r) prefix ≡ tell_in (map.get (w.router r).best prefix))
+      (below_two (λ q. 0 ≢ q → map.get ((w.router q).tellings 0) prefix ≡ tell_in (map.get (w.router 0).best prefix))
+      (λ other. absurd (other refl)) (λ other. b.told_to_b (λ e. cc) prefix) q lq)
+      (below_two (λ q. 1 ≢ q → map.get ((w.router q).tellings 1) prefix ≡ tell_in (map.get (w.router 1).best prefix))
+      (λ other. b.told_to_a prefix) (λ other. absurd (other refl)) q lq)
+      r lr;
+  peerings = below_one (SolvesOn base w) (solves_on w s b);
+}
