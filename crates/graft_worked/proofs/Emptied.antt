@@ -11,6 +11,10 @@ use Rattle.graft_model.specs.OperatorRows.{OperatorTaken, OperatorSent, OrderTo,
 use Rattle.graft_model.specs.Steps.{operator_row}
 use Rattle.graft_model.specs.declared.event.OperatorEvent.TheVariants.{Order}
 use Rattle.graft_model.proofs.Numbers.{place_of_graft}
+use Rattle.bgp_story.specs.Legal.{IsPeering}
+use Rattle.session_value.specs.Sessions.{peering_of}
+use Rattle.graft_worked.proofs.Setup.{peering_is_sound}
+use Rattle.graft_worked.proofs.GraftRows.{orders_first}
 use Rattle.graft_worked.specs.Base.{peering_c}
 use Rattle.graft_worked.specs.Emptied.{starting, emptying, with_room, without_room, order_of_c2, with_order}
 
@@ -23,35 +27,25 @@ below_three P x y z (suc (suc zero)) h = z
 below_three P x y z (suc (suc (suc n))) h = absurd (omega arith)
 
 c_is_sound : (p : ℕ) → IsPeeringSetup (emptying 4) p (starting p 0 0x0AFF0001)
-c_is_sound p = record {
-  start = lit< tt;
-  number = refl;
-  home_as = refl;
-  identifier = refl;
-  valid = peering_is 0 (lit< tt) refl;
-  policies = refl;
-  next_hop = refl;
-  opening = lit≤ tt;
-  said = lit≤ tt;
-  beats = λ h. absurd (omega arith);
+c_is_sound p = peering_is_sound (emptying 4) p 0 0x0AFF0001 (lit< tt) refl refl (peering_is 0 (lit< tt) refl) (lit≤ tt)
+
+d_is_valid : IsPeering (peering_of (starting 3 1 0x0AFF0002).config)
+d_is_valid = record {
+  home = record {
+    home_as = 65000;
+    offered = false;
+    unicast = false;
+    is = refl;
+    as_number = record { some = lit≤ tt; fits = lit< tt };
+    hold_fits = lit< tt;
+    hold_time = refl;
+    host = refl;
+  };
+  remote_as = record { some = lit≤ tt; fits = lit< tt };
 }
 
 d_is_sound : IsPeeringSetup (emptying 4) 3 (starting 3 1 0x0AFF0002)
-d_is_sound = record {
-  start = lit< tt;
-  number = refl;
-  home_as = refl;
-  identifier = refl;
-  valid = record {
-    home = record { home_as = 65000; offered = false; unicast = false; is = refl; as_number = record { some = lit≤ tt; fits = lit< tt }; hold_fits = lit< tt; hold_time = refl; host = refl };
-    remote_as = record { some = lit≤ tt; fits = lit< tt };
-  };
-  policies = refl;
-  next_hop = refl;
-  opening = lit≤ tt;
-  said = lit≤ tt;
-  beats = λ h. absurd (omega arith);
-}
+d_is_sound = peering_is_sound (emptying 4) 3 1 0x0AFF0002 (lit< tt) refl refl d_is_valid (lit≤ tt)
 
 the_peering : (p : ℕ) (known peering : PeeringSetup) → IsPeeringSetup (emptying 4) p known → Some known ≡ Some peering → IsPeeringSetup (emptying 4) p peering
 the_peering p known peering sound e = subst (λ x. IsPeeringSetup (emptying 4) p x) (ap (λ o. unwrap_or o peering_c) e) sound
@@ -82,21 +76,7 @@ none_earlier other known peering before = let t = place_of_graft (emptying 4) ot
   by_place (suc i) number at = omega (arith, number, before)
 
 pub orders_second : OrdersGraft (emptying 4) 0 2 with_room None (OrderTo 0 order_of_c2 ∷ []) with_order
-orders_second = record {
-  graft = record { graft = 2; peering = 1; step = 0 };
-  known = refl;
-  by_step = refl;
-  named = refl;
-  group = refl;
-  target = 1;
-  is = refl;
-  unordered = refl;
-  unended = refl;
-  earlier = λ other known peering before made. absurd (none_earlier other known peering before);
-  takes = refl;
-  sends = refl;
-  effect = refl;
-}
+orders_second = orders_first (emptying 4) 2 (record { graft = 2; peering = 1; step = 0 }) 1 with_room refl refl refl refl refl refl none_earlier
 
 says_nothing : (router p : ℕ) (bytes : List ℕ) → Some (EvacuateStep router) ≡ Some (SayStep p bytes) → ⊥
 says_nothing router p bytes e = cc

@@ -1,6 +1,6 @@
 -- The rows of the worked graft, each computed.
 use Rattle.std.proofs.Common.{◌≡◌, ◌≢◌, ◌⊎◌, ℕ, zero, suc, ◌<◌, ◌==◌, ◌&&◌, ◌||◌, Bool, true, false, cond, [], ◌∷◌, ◌++◌, Option, Some, None, is_some, refl, sym, ap, ◌∙◌, inl, inr, lit<, arith}
-use Rattle.std.specs.Prelude.{option_map}
+use Rattle.std.specs.Prelude.{option_map, slice_get}
 use Rattle.std.specs.FinMap as map
 use Rattle.std.specs.List.{filter_map}
 use Rattle.bgp_types.specs.declared.attrs.Attrs.{Attrs}
@@ -24,14 +24,15 @@ use Rattle.graft_steps.specs.Refusals.{freeze_refusal}
 use Rattle.session_value.specs.Sessions.{SessionValue, state, hold_time}
 use Rattle.session_value.specs.Sets.{has}
 use Rattle.graft_model.specs.Points.{at}
-use Rattle.graft_model.specs.Setups.{Setup, routers_in}
-use Rattle.graft_model.specs.Parts.{Place, Vacant, Live, Frozen, Shadow, Entry, RouterPart, Told, Moved, Done, PointAt, Leaving, Owing}
+use Rattle.graft_model.specs.Setups.{Setup, ScriptGraft, routers_in, graft_at, group_of}
+use Rattle.graft_model.specs.Placements.{placement}
+use Rattle.graft_model.specs.Parts.{Place, Vacant, Live, Frozen, Shadow, Entry, RouterPart, OperatorPart, Told, Moved, Done, PointAt, Leaving, Owing}
 use Rattle.graft_model.specs.Decisions.{entry_candidate, telling_candidate, session_route, chosen, to_tell, out_side, remote_identifier}
 use Rattle.graft_model.specs.RouterRows.{OrderIn, MeshIn, MeshTo, OutwardTo, ReportOut, BringsIn, PutsNothing}
 use Rattle.graft_model.specs.TableRows.{Decides, Tells, Hears, DueEverywhere, holds_established}
 use Rattle.graft_model.specs.GraftRows.{Admits, Freezes, Leaves, Lands, Confirms, Clears}
 use Rattle.graft_model.specs.FarRows.{OutwardIn, TurnsLink}
-use Rattle.graft_model.specs.OperatorRows.{ReportIn, OrderTo, OrdersGraft, Notes, BeginsGroup}
+use Rattle.graft_model.specs.OperatorRows.{ReportIn, number_by, target_in, OrderTo, OrdersGraft, Notes, BeginsGroup}
 use Rattle.graft_worked.specs.Base.{base, config}
 use Rattle.graft_worked.specs.Places.{holding}
 use Rattle.graft_worked.specs.Graft.{at_ten, ten_alone, heard_attrs, route, entry, over_peering, over_router, session, b_before, far_before, operator_before, to_b, a_left, a_cleared, a_decided, a_after, b_landed, b_decided, b_put, b_told, b_heard, b_after, far_after, operator_begun, operator_ordered, operator_after, a_heard, a_kept, to_a, b_confirmed}
@@ -59,22 +60,33 @@ identifier_is = refl
 pub goes : BeginsGroup base operator_before None [] operator_begun
 goes = record { further = lit< tt; takes = refl; sends = refl; effect = sym (nothing_given base operator_begun base_empties) }
 
-pub orders : OrdersGraft base 2 0 operator_begun None (OrderTo 0 (record { graft = 1; peering = 0; target = 1 }) ∷ []) operator_ordered
-orders = record {
-  graft = record { graft = 1; peering = 0; step = 2 };
-  known = refl;
+-- the first graft of its peering is ordered
+pub orders_first : (setup : Setup) (number : ℕ) (graft : ScriptGraft) (target : ℕ) (before : OperatorPart)
+    → graft_at setup graft.graft ≡ Some graft → number ≡ number_by (slice_get setup.steps graft.step) graft.graft → group_of setup graft.step ≡ before.group
+    → target_in setup before graft ≡ Some target → before.source graft.graft ≡ None → before.outcome graft.graft ≡ None
+    → ((other : ScriptGraft) → graft_at setup other.graft ≡ Some other → other.peering ≡ graft.peering → other.graft < graft.graft → ⊥)
+    → OrdersGraft setup graft.step number before None
+    (OrderTo (placement setup before graft.peering) (record { graft = graft.graft; peering = graft.peering; target = target }) ∷ [])
+    (record before { source = at before.source graft.graft (Some (placement setup before graft.peering)) })
+orders_first setup number graft target before known named group is unordered unended first = record {
+  graft = graft;
+  known = known;
   by_step = refl;
-  named = refl;
-  group = refl;
-  target = 1;
-  is = refl;
-  unordered = refl;
-  unended = refl;
-  earlier = λ other known peering before made. absurd (none_before base other known before);
+  named = named;
+  group = group;
+  target = target;
+  is = is;
+  unordered = unordered;
+  unended = unended;
+  earlier = λ other known peering before made. absurd (first other known peering before);
   takes = refl;
   sends = refl;
   effect = refl;
 }
+
+pub orders : OrdersGraft base 2 0 operator_begun None (OrderTo 0 (record { graft = 1; peering = 0; target = 1 }) ∷ []) operator_ordered
+orders = orders_first base 0 (record { graft = 1; peering = 0; step = 2 }) 1 operator_begun refl refl refl refl refl refl
+    (λ other known peering before. none_before base other known before)
 
 pub notes : Notes 0 operator_ordered (Some (ReportIn 0 (record { graft = 1; outcome = Accepted }))) [] operator_after
 notes = record { report = record { graft = 1; outcome = Accepted }; takes = refl; sends = refl; ordered = λ e. cc; unended = refl; effect = refl }

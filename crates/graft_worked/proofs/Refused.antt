@@ -1,6 +1,6 @@
 -- Grafts that are refused, from the first world on.
-use Rattle.std.proofs.Common.{◌≡◌, ℕ, zero, suc, ◌≤◌, ◌||◌, Bool, true, false, [], ◌∷◌, Some, None, is_some, refl, sym, ap, ◌∙◌, subst, inr, lit<, lit≤, arith}
-use Rattle.std.specs.Prelude.{All, slice_get, unwrap_or}
+use Rattle.std.proofs.Common.{◌≡◌, ℕ, zero, suc, ◌≤◌, ◌||◌, Bool, true, false, [], ◌∷◌, Some, None, is_some, refl, sym, ap, ◌∙◌, subst, inr, lit<, lit≤}
+use Rattle.std.specs.Prelude.{All, slice_get}
 use Rattle.std.specs.FinMap as map
 use Rattle.std.proofs.lemmas.List.Elements.{All-from_recursion, All-nil}
 use Rattle.bgp_types.specs.declared.message.SessionState.TheVariants.{OpenSent}
@@ -14,7 +14,7 @@ use Rattle.graft_steps.specs.declared.refusal.Refusal.TheVariants.{NotEstablishe
 use Rattle.graft_steps.specs.Refusals.{freeze_refusal}
 use Rattle.session_value.specs.Sessions.{state, hold_time}
 use Rattle.session_value.specs.Sets.{has}
-use Rattle.graft_model.specs.Setups.{PeeringSetup, IsPeeringSetup, IsSetup, IsStep, starting_at, room_of}
+use Rattle.graft_model.specs.Setups.{IsSetup, IsStep, starting_at, room_of}
 use Rattle.graft_model.specs.First.{first_router, first_operator, first_world}
 use Rattle.graft_model.specs.Points.{at}
 use Rattle.graft_model.specs.Parts.{Vacant, Live, Frozen, Shadow, OperatorPart, Moved, Back, World, Leaving}
@@ -24,7 +24,7 @@ use Rattle.graft_model.specs.OperatorRows.{OrderTo, OrdersGraft}
 use Rattle.graft_model.specs.declared.event.RouterEvent.TheVariants.{Admit, Refuse, Freeze, Leave, TurnBack, Return}
 use Rattle.graft_model.specs.declared.event.OperatorEvent.TheVariants.{Order}
 use Rattle.graft_model.specs.Steps.{Run}
-use Rattle.graft_worked.specs.Base.{peering_c, base}
+use Rattle.graft_worked.specs.Base.{base}
 use Rattle.graft_worked.specs.Places.{idle_router, holding, nothing}
 use Rattle.graft_worked.specs.First.{session_first, a_first, far_first, operator_first, first}
 use Rattle.graft_worked.specs.Graft.{to_b, operator_before}
@@ -32,11 +32,11 @@ use Rattle.graft_worked.specs.Start.{a_with, session_joined, far_emitted, joined
 use Rattle.graft_worked.specs.Refused.{refusing, operator_moved, refusal_report, refused_events, with_refusal, away_events, returned_events, with_returned}
 use Rattle.graft_worked.proofs.Points.{at-at, at-same}
 use Rattle.graft_worked.proofs.Tens.{empty, some_in_none}
-use Rattle.graft_worked.proofs.Setup.{below_two}
+use Rattle.graft_worked.proofs.Setup.{below_two, peering_is_sound, one_peering}
 use Rattle.graft_worked.proofs.First.{base_empties, first_is}
 use Rattle.graft_worked.proofs.Ungiven.{empties, nothing_given, none_before}
 use Rattle.graft_worked.proofs.Moves.{IsSmall, a_alone, a_to_b, a_ordered_by, a_ends, a_reports, b_sends_back, operator_orders}
-use Rattle.graft_worked.proofs.GraftRows.{admits, freezes, leaves}
+use Rattle.graft_worked.proofs.GraftRows.{orders_first, admits, freezes, leaves}
 use Rattle.graft_worked.proofs.StartRun.{joins, joined}
 
 -- ---- the laboratory
@@ -44,27 +44,9 @@ use Rattle.graft_worked.proofs.StartRun.{joins, joined}
 small : IsSmall refusing
 small = record { a = lit< tt; b = lit< tt; c = lit< tt }
 
-peering_is_sound : IsPeeringSetup refusing 0 peering_c
-peering_is_sound = record {
-  start = lit< tt;
-  number = refl;
-  home_as = refl;
-  identifier = refl;
-  valid = peering_is 0 (lit< tt) refl;
-  policies = refl;
-  next_hop = refl;
-  opening = lit≤ tt;
-  said = lit≤ tt;
-  beats = λ h. absurd (omega arith);
-}
-
-peerings_are_sound : (p : ℕ) (peering : PeeringSetup) → slice_get refusing.peerings p ≡ Some peering → IsPeeringSetup refusing p peering
-peerings_are_sound zero peering e = subst (λ x. IsPeeringSetup refusing 0 x) (ap (λ o. unwrap_or o peering_c) e) peering_is_sound
-peerings_are_sound (suc p) peering e = absurd cc
-
 pub refusing_is_sound : IsSetup refusing
 refusing_is_sound = record {
-  peerings = peerings_are_sound;
+  peerings = one_peering refusing (peering_is_sound refusing 0 0 0x0AFF0001 (lit< tt) refl refl (peering_is 0 (lit< tt) refl) (lit≤ tt));
   room = below_two (λ r. starting_at refusing r ≤ room_of refusing r) (lit≤ tt) (lit≤ tt);
   networks = All-from_recursion (λ router. All IsPrefix router.networks) refusing.routers (All-nil IsPrefix, (All-nil IsPrefix, tt));
   steps = All-from_recursion (IsStep refusing) refusing.steps (lit< tt, ((lit< tt, lit< tt), (tt, tt)));
@@ -93,21 +75,8 @@ begins = (λ i. record (first_world base) { router = λ r. same_router r i; oper
 
 orders : (issued : ℕ → Bool)
     → OrdersGraft refusing 1 0 (record operator_first { issued = issued }) None (OrderTo 0 (record { graft = 1; peering = 0; target = 1 }) ∷ []) (operator_moved issued)
-orders issued = record {
-  graft = record { graft = 1; peering = 0; step = 1 };
-  known = refl;
-  by_step = refl;
-  named = refl;
-  group = refl;
-  target = 1;
-  is = refl;
-  unordered = refl;
-  unended = refl;
-  earlier = λ other known peering before made. absurd (none_before refusing other known before);
-  takes = refl;
-  sends = refl;
-  effect = refl;
-}
+orders issued = orders_first refusing 0 (record { graft = 1; peering = 0; step = 1 }) 1 (record operator_first { issued = issued })
+    refl refl refl refl refl refl (λ other known peering before. none_before refusing other known before)
 
 -- ---- refused at the source
 
