@@ -11,4 +11,5 @@ pub mod EmitSteps
 pub mod BeatSteps
 pub mod Begins
 pub mod Takings
+pub mod Goes
 pub mod TurnSteps

@@ -6,18 +6,20 @@ use Rattle.tcp_seq.specs.Endpoint.{Endpoint}
 use Rattle.link_bag.specs.declared.plan.Fate.{Fate}
 use Rattle.link_bag.specs.Planned.{fate_in}
 use Rattle.session_value.specs.Sessions.{SessionValue}
+use Rattle.graft_model.specs.Parts.{FarPart}
 use Rattle.graft_model.specs.declared.event.FarEvent.{FarEvent}
 use Rattle.graft_actors.specs.Emissions.{nothing, Tally, reach_of}
 use Rattle.far_side.specs.Remotes.{RemoteValue}
 use Rattle.far_side.specs.Links.{LinkValue, home_events, remote_events, left_of}
 use Rattle.far_side.specs.Parts.{far_part}
-use Rattle.far_side.specs.Turns.{Did}
+use Rattle.far_side.specs.Turns.{SendsOld, SendsNew, SendsAnswer, SendsNone, FarGoes, Did}
 use Rattle.far_side.specs.Passes.{fates_in, plans_put, SameRemote, HomePass, RemotePass, Sent, SentAgain, SentFresh, SentAnswer, Beats, Beaten, again_events, answer_events, SameLink}
 use Rattle.far_side.specs.Turned.{TurnsOnce}
 use Rattle.far_side.specs.declared.fields.Fields.{Fields}
 use Rattle.far_side.specs.declared.link.InLink.{InLink}
 use Rattle.far_side.proofs.Dids.{did_same, did_then}
 use Rattle.far_side.proofs.EmitSteps.{plans_put-append}
+use Rattle.far_side.proofs.Goes.{silent_goes, silent_deliveries, silent_beats, again_goes, fresh_goes, answer_goes, round_by}
 
 -- what a beat leaves alone
 beats_same : (f g : Fields) (events : List FarEvent) → Beats f events g → (g.homeward ≡ f.homeward) × (g.remoteward ≡ f.remoteward) × (g.plan ≡ f.plan) × (g.pointer ≡ f.pointer) × (g.turns ≡ f.turns) × (g.remote.at_turn ≡ f.remote.at_turn)
@@ -178,6 +180,39 @@ module _ {C : Type 0} (session : C → SessionValue) (f0 b c d e g h : Fields) (
       link_then f0.remoteward b.remoteward h.remoteward (link_is f0.remoteward b.remoteward b_remoteward)
       (link_then b.remoteward c.remoteward h.remoteward remote.link (link_is c.remoteward h.remoteward (ap (λ (k : Fields). k.remoteward) h_same)))
 
+  -- what is sent at each stage
+  abbrev GoesBy : (FarPart → FarEvent → Type 0) → Fields → List FarEvent → Fields → Type 0
+  GoesBy Allowed k events m = FarGoes f0.known.setup f0.peering.0 Allowed (far_part k) events (far_part m)
+
+  delivers : GoesBy SendsNone f0 (home_events f0.pointer.0 f0.homeward.plans ++ remote_events f0.remoteward.plans) c
+  delivers =
+      let homes : List FarEvent = home_events f0.pointer.0 f0.homeward.plans in
+      let first : Fields = record f0 { turns = f0.turns + 1 } in
+      let did : Did session first p0 nothing (homes ++ remote_events b.remoteward.plans) c p2 nothing =
+      did_then session first b c p0 p1 p2 nothing nothing nothing homes (remote_events b.remoteward.plans) (home.did nothing) (remote.did nothing) in
+      subst (λ (l : LinkValue). GoesBy SendsNone f0 (homes ++ remote_events l.plans) c) b_remoteward
+      (silent_goes f0.known.setup f0.peering.0 (far_part f0) (far_part c) nothing nothing (homes ++ remote_events b.remoteward.plans) (silent_deliveries f0.pointer.0 f0.homeward.plans b.remoteward.plans) did.round)
+
+  resends : GoesBy SendsOld c (again_events c.remote) d
+  resends =
+      let u : Tally = record { again = 0 + length (again_events c.remote); answers = 0 } in
+      again_goes f0.known.setup f0.peering.0 (far_part c) (far_part d) c.remote u
+      (round_by session f0 c d p2 p3 nothing u (again_events c.remote) (ap (λ (k : Fields). k.known.setup) c_same) (ap (λ (k : Fields). k.peering) c_same) (again.sent nothing).did) (omega arith)
+
+  says : GoesBy SendsNone d beaten.events e
+  says = silent_goes f0.known.setup f0.peering.0 (far_part d) (far_part e) nothing nothing beaten.events (silent_beats d e beaten.events beaten.beats)
+      (round_by session f0 d e p3 p4 nothing nothing beaten.events (ap (λ (k : Fields). k.known.setup) d_same) (ap (λ (k : Fields). k.peering) d_same) (beaten.did nothing))
+
+  sends : GoesBy SendsNew e fresh.events g
+  sends = (fresh_goes f0.known.setup f0.peering.0 e.remote.end g.remote.end (far_part e) (far_part g) nothing nothing fresh.events fresh.fresh
+      (round_by session f0 e g p4 p5 nothing nothing fresh.events (ap (λ (k : Fields). k.known.setup) e_same) (ap (λ (k : Fields). k.peering) e_same) (fresh.sent nothing).did)).1 (omega arith)
+
+  answers : GoesBy SendsAnswer g (answer_events g.remote.end) h
+  answers =
+      let u : Tally = record { again = 0; answers = 0 + length (answer_events g.remote.end) } in
+      answer_goes f0.known.setup f0.peering.0 (far_part g) (far_part h) nothing u g.remote.end
+      (round_by session f0 g h p5 p6 nothing u (answer_events g.remote.end) (ap (λ (k : Fields). k.known.setup) g_same) (ap (λ (k : Fields). k.peering) g_same) (answer.sent nothing).did)
+
   -- the whole turn
   pub turns_once : TurnsOnce session f0 p0 h p6
   turns_once =
@@ -205,7 +240,15 @@ module _ {C : Type 0} (session : C → SessionValue) (f0 b c d e g h : Fields) (
             is_beat = beaten.beats;
             is_fresh = fresh.fresh;
             events = did.coded;
-            round = did.round;
+            delivered = far_part c;
+            resent = far_part d;
+            said = far_part e;
+            level = far_part g;
+            delivers = delivers;
+            resends = resends;
+            says = says;
+            sends = sends;
+            answers = answers;
             end = end_is;
             rested = record { emitted = ap (λ (x : Endpoint). x.emitted) end_is ∙ fresh.all ∙ sym (ap reach_of end_is); answered = ap (λ (x : Endpoint). x.owed) end_is };
             at_turn = ap (λ (v : RemoteValue). v.at_turn) answer.remote ∙ fresh.at_turn ∙ (beats_same d e beaten.events beaten.beats).5 ∙ ap (λ (v : RemoteValue). v.at_turn) again.remote;

@@ -6,13 +6,14 @@ use Rattle.ring_net.specs.declared.post.Post.{Post}
 use Rattle.graft_steps.specs.declared.item.Item.{Item}
 use Rattle.tcp_seq.specs.Endpoint.{Endpoint}
 use Rattle.session_value.specs.Sessions.{SessionValue}
+use Rattle.graft_model.specs.Parts.{FarPart}
 use Rattle.graft_model.specs.declared.event.FarEvent.{FarEvent}
 use Rattle.graft_actors.specs.Acts.{acts}
-use Rattle.graft_actors.specs.Emissions.{nothing, IsRested}
+use Rattle.graft_actors.specs.Emissions.{IsRested}
 use Rattle.far_side.specs.Remotes.{RemoteValue}
 use Rattle.far_side.specs.Links.{home_events, remote_events, left_of}
 use Rattle.far_side.specs.Parts.{far_part, own_part, Keeps}
-use Rattle.far_side.specs.Turns.{FarRound, AreOf}
+use Rattle.far_side.specs.Turns.{SendsOld, SendsNew, SendsAnswer, SendsNone, FarGoes, AreOf}
 use Rattle.far_side.specs.Passes.{fates_in, plans_put, SameLink, SameRemote, again_events, FreshEvents, answer_events, Beats}
 use Rattle.far_side.specs.declared.fields.Fields.{Fields}
 
@@ -31,9 +32,16 @@ pub record Turned {C : Type 0} (old : Fields) (deeds : List (Deed (Item C))) (ne
   pub is_beat : Beats before beats beaten
   pub is_fresh : FreshEvents beaten.remote.end fresh sent
   pub events : AreOf (home_events old.pointer.0 old.homeward.plans ++ (remote_events old.remoteward.plans ++ (again_events reached ++ (beats ++ (fresh ++ answer_events sent))))) deeds
-  pub round : FarRound old.known.setup old.peering.0 (far_part old) nothing
-      (home_events old.pointer.0 old.homeward.plans ++ (remote_events old.remoteward.plans ++ (again_events reached ++ (beats ++ (fresh ++ answer_events sent)))))
-      (far_part new) (record { again = length (again_events reached); answers = length (answer_events sent) })
+  -- behind what is delivered only an old slice is sent; behind the beat only new slices, and then only the owed answer
+  pub delivered : FarPart
+  pub resent : FarPart
+  pub said : FarPart
+  pub level : FarPart
+  pub delivers : FarGoes old.known.setup old.peering.0 SendsNone (far_part old) (home_events old.pointer.0 old.homeward.plans ++ remote_events old.remoteward.plans) delivered
+  pub resends : FarGoes old.known.setup old.peering.0 SendsOld delivered (again_events reached) resent
+  pub says : FarGoes old.known.setup old.peering.0 SendsNone resent beats said
+  pub sends : FarGoes old.known.setup old.peering.0 SendsNew said fresh level
+  pub answers : FarGoes old.known.setup old.peering.0 SendsAnswer level (answer_events sent) (far_part new)
   -- At its end all is emitted that may be, and no answer is owed.
   pub end : new.remote.end ≡ record sent { owed = false }
   pub rested : IsRested new.remote.end

@@ -1,5 +1,5 @@
 -- What a far side does in one call: the events that it makes of its part, and what becomes of what it keeps beside it.
-use Rattle.std.specs.Prelude.{ℕ, ◌≡◌, List, [], ◌∷◌, Option}
+use Rattle.std.specs.Prelude.{ℕ, zero, suc, ◌≡◌, true, List, [], ◌∷◌, Option}
 use Rattle.std.specs.List.{AllByRecursion}
 use Rattle.ring_net.specs.Deeds.{Deed, Replay, TakesNone}
 use Rattle.ring_net.specs.Posts.{actor_of, Wrote}
@@ -15,7 +15,7 @@ use Rattle.graft_model.specs.declared.event.FarEvent.TheVariants.{Send}
 use Rattle.graft_model.specs.Steps.{far_row}
 use Rattle.graft_runs.specs.Makes.{HasCode}
 use Rattle.graft_actors.specs.Acts.{acts}
-use Rattle.graft_actors.specs.Emissions.{IsCareful, Tally, counted}
+use Rattle.graft_actors.specs.Emissions.{IsOld, IsNew, IsCareful, Tally, counted}
 use Rattle.far_side.specs.Parts.{far_part, own_part}
 use Rattle.far_side.specs.declared.fields.Fields.{Fields}
 
@@ -36,6 +36,34 @@ FarRound setup p before t [] after u = (after ≡ before) × (u ≡ t)
 FarRound setup p before t (event ∷ events) after u =
     (taken : Option FarTaken) × (sent : List FarSent) × (mid : FarPart) × far_row setup p event before taken sent mid × CarefulFar before event
     × FarRound setup p mid (far_tally before event t) events after u
+
+-- ---- what is sent at one stage of a turn
+
+-- the first outstanding slice
+abbrev pub SendsOld : FarPart → FarEvent → Type 0
+SendsOld part (Send from len) = IsOld part.end from len
+SendsOld part event = ⊥
+
+-- a slice that was never sent
+abbrev pub SendsNew : FarPart → FarEvent → Type 0
+SendsNew part (Send from (suc n)) = IsNew part.end from (suc n)
+SendsNew part event = ⊥
+
+-- an answer that is owed: a segment without bytes
+abbrev pub SendsAnswer : FarPart → FarEvent → Type 0
+SendsAnswer part (Send from zero) = part.end.owed ≡ true
+SendsAnswer part event = ⊥
+
+-- no segment
+abbrev pub SendsNone : FarPart → FarEvent → Type 0
+SendsNone part (Send from len) = ⊥
+SendsNone part event = Unit {0}
+
+-- The events lead from one part to another, each by its row, and each is what the stage allows.
+abbrev pub FarGoes : Setup → ℕ → (FarPart → FarEvent → Type 0) → FarPart → List FarEvent → FarPart → Type 0
+FarGoes setup p Allowed before [] after = after ≡ before
+FarGoes setup p Allowed before (event ∷ events) after =
+    (taken : Option FarTaken) × (sent : List FarSent) × (mid : FarPart) × far_row setup p event before taken sent mid × Allowed before event × FarGoes setup p Allowed mid events after
 
 -- the entries of what was done are those of these events
 abbrev pub AreOf : {I : Type 0} → List FarEvent → List (Deed I) → Type 0

@@ -5,27 +5,19 @@ use Rattle.graft_steps.specs.declared.item.Item.{Item}
 use Rattle.router_core.specs.declared.place.Errand.{Errand}
 use Rattle.bgp_session.specs.Running.{RunningSession}
 use Rattle.bgp_session.specs.Steps.{MayPass}
-use Rattle.graft_actors.specs.Acts.{IsWelcome}
-use Rattle.router_core.specs.Parts.{own_part, carried}
 use Rattle.router_core.specs.Places.{RunsAt}
-use Rattle.router_core.specs.Takes as router_takes
 use Rattle.router_core.specs.Turned as router_turns
-use Rattle.router_core.specs.Turned.{NoRounds, NoPuts, rounds_on}
+use Rattle.router_core.specs.Turned.{rounds_on}
 use Rattle.router_core.specs.declared.fields as router_fields
 use Rattle.far_side.specs.Takes as far_takes
 use Rattle.far_side.specs.Turned as far_turns
 use Rattle.far_side.specs.Passes.{SameLink}
 use Rattle.far_side.specs.declared.fields as far_fields
 
--- while a router takes an item, no round passes on a session, and no UPDATE is put
-abbrev pub TakesAreCalm : Type 0
-TakesAreCalm = (old new : router_fields.Fields.Fields) (from : ℕ) (item : Item RunningSession) (deeds : List (Deed (Item RunningSession))) (took : router_takes.Took old from item deeds new)
-    (welcome : IsWelcome carried (own_part old) from item) → NoRounds (took.rows welcome).events × NoPuts (took.rows welcome).events
-
 -- a router's turn passes one round on each session that is live at its start, where one may pass, and else none
 abbrev pub TurnsPassOne : Type 0
 TurnsPassOne = (old new : router_fields.Fields.Fields) (deeds : List (Deed (Item RunningSession))) (turned : router_turns.Turned old deeds new) (p : ℕ) (s : RunningSession) (o : Option Errand) → RunsAt old.places.places p s o
-    → (MayPass s.session new.turns × (rounds_on p turned.events ≡ new.turns ∷ [])) ⊎ ((¬ MayPass s.session new.turns) × (rounds_on p turned.events ≡ []))
+    → (MayPass s.session new.turns × (rounds_on p turned.work ≡ new.turns ∷ [])) ⊎ ((¬ MayPass s.session new.turns) × (rounds_on p turned.work ≡ []))
 
 -- a far side's take is one event
 abbrev pub FarTakesAreOne : Type 0
@@ -39,7 +31,6 @@ abbrev pub FarTurnsKeepLinks : Type 0
 FarTurnsKeepLinks = (old new : far_fields.Fields.Fields) (deeds : List (Deed (Item RunningSession))) → far_turns.Turned old deeds new → SameLink old.homeward new.homeward × SameLink old.remoteward new.remoteward
 
 pub record CallsSay : Type 0 where
-  pub takes : TakesAreCalm
   pub turns : TurnsPassOne
   pub far_takes : FarTakesAreOne
   pub links_taking : FarTakesKeepLinks
@@ -47,7 +38,6 @@ pub record CallsSay : Type 0 where
 
 pub calls_say : CallsSay
 calls_say = record {
-  takes = λ old new from item deeds took welcome. ((took.rows welcome).no_rounds, (took.rows welcome).no_puts);
   turns = λ old new deeds turned p s o runs. turned.passes p s o runs;
   far_takes = λ old new from item deeds took. took.one;
   links_taking = λ old new from item deeds took. took.link;

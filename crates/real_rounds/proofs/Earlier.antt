@@ -119,13 +119,13 @@ module _ (law : CallsSay) (setup : Setup) (faults : List Fault) (a b : Stand) (b
       let (x, x_is) = actors.router_at law setup faults a b begins fresh d d_fresh legs journal merge b_ran worlds dropped k (omega (arith, k_in)) r r_in in
       let (c, c_is, ph) = actors.router_leg law setup faults a b begins fresh d d_fresh legs journal merge b_ran worlds dropped k in_leg r r_in x x_is in
       let at = actors.router_level law setup faults a b begins fresh d d_fresh legs journal merge b_ran worlds dropped k (omega (arith, k_in)) r r_in x x_is in
-      let events : List RouterEvent = ph.takes.events ++ ph.turns.events in
+      let events : List RouterEvent = ph.takes.events ++ (ph.turns.again ++ ph.turns.work) in
       let coded : AreCoded router_code events (entries_of ((legs.phase k in_leg).notes r)) =
       subst (λ (es : List JournalEntry). AreCoded router_code events es) (entries_in_deeds ((legs.phase k in_leg).notes r))
       (router_coded events (deeds ((legs.phase k in_leg).notes r)) (subst⁻¹ (λ (ds : List (Deed Mail)). router_rounds.AreOf events ds) ph.split
       (router_proofs.router_coded law.turns x.fields ph.mid c.fields ph.first ph.second ph.takes ph.turns ph.calm k at))) in
       let new : AllByRecursion (TickBelow ((k + 1) + 1)) (entries_of ((legs.phase k in_leg).notes r)) =
-      coded_below (k + 1) events (entries_of ((legs.phase k in_leg).notes r)) coded (router_proofs.numbered law.turns x.fields ph.mid c.fields ph.first ph.second ph.takes ph.turns ph.calm k at) in
+      coded_below (k + 1) events (entries_of ((legs.phase k in_leg).notes r)) coded (router_proofs.all_numbered law.turns x.fields ph.mid c.fields ph.first ph.second ph.takes ph.turns ph.calm k at) in
       let old : AllByRecursion (TickBelow ((k + 1) + 1)) ((legs.from k).journal r) =
       subst⁻¹ (λ (es : List JournalEntry). AllByRecursion (TickBelow ((k + 1) + 1)) es) ((legs.pause k in_leg).journals r (λ e. absurd (omega (arith, r_in, e))))
       (below_more (k + 1) ((k + 1) + 1) ((legs.at k).journal r) (omega arith) (ticks_below k (omega (arith, k_in)) r r_in)) in

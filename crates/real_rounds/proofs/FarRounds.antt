@@ -1,8 +1,6 @@
 -- Takes of a far side, one after another, and then its turn are a real round.
-use Rattle.std.proofs.Common.{◌≡◌, ◌≤◌, ◌<◌, ◌+◌, ◌∙◌, ℕ, zero, suc, Bool, true, false, List, [], ◌∷◌, ◌++◌, length, nat_lt, if◌then◌else◌, refl, ap, sym, subst, inl, inr, arith}
+use Rattle.std.proofs.Common.{◌≡◌, ◌≤◌, ◌<◌, ◌+◌, ◌∙◌, ℕ, zero, suc, Bool, true, false, List, [], ◌∷◌, ◌++◌, length, nat_lt, if◌then◌else◌, ap, sym, subst, inl, inr, arith}
 use Rattle.std.specs.Prelude.{◌%◌, ◌^◌, Some, option_map, slice_get, filter}
-use Rattle.std.specs.List.{AllByRecursion}
-use Rattle.std.proofs.Math.Path.{subst⁻¹}
 use Rattle.std.proofs.lemmas.Bool.{lt-ltb, le-ltb}
 use Rattle.ring_net.specs.Deeds.{Deed}
 use Rattle.link_bag.specs.declared.plan.Fault.{Fault}
@@ -11,25 +9,25 @@ use Rattle.link_bag.specs.Planned.{fate_in, fate_of}
 use Rattle.tcp_seq.specs.Endpoint.{Endpoint, next_length, again_length}
 use Rattle.tcp_seq.specs.declared.segment.Way.{Way}
 use Rattle.tcp_seq.specs.declared.segment.Way.TheVariants.{Home, Remote}
-use Rattle.graft_model.specs.Setups.{Setup, beat_of}
+use Rattle.graft_model.specs.Setups.{beat_of}
+use Rattle.graft_model.specs.Parts.{FarPart}
 use Rattle.graft_model.specs.declared.event.FarEvent.{FarEvent}
 use Rattle.graft_model.specs.declared.event.FarEvent.TheVariants.{Send, Beat}
-use Rattle.graft_actors.specs.Emissions.{Tally, nothing}
 use Rattle.far_side.specs.Links.{home_events, remote_events, left_of, LinkValue}
 use Rattle.far_side.specs.Parts.{far_part, HasLinks}
 use Rattle.far_side.specs.Passes as passes
 use Rattle.far_side.specs.Passes.{fates_in, plans_put, SameRemote, SameLink, again_events, FreshEvents, answer_events}
 use Rattle.far_side.specs.Remotes.{RemoteValue}
 use Rattle.far_side.specs.Turned.{Turned}
-use Rattle.far_side.specs.Turns.{FarRound, AreOf}
+use Rattle.far_side.specs.Turns.{SendsOld, SendsNew, SendsAnswer, SendsNone, FarGoes, AreOf}
 use Rattle.far_side.specs.declared.fields.Fields.{Fields}
 use Rattle.far_side.specs.declared.link.InLink.{InLink}
 use Rattle.world_nodes.specs.Nodes.{Mail}
 use Rattle.real_rounds.proofs.Calls.{FarTurnsKeepLinks}
 use Rattle.real_rounds.specs.Ends.{GoesOn}
-use Rattle.real_rounds.specs.Fars.{IsSending, Links, ArePut, PointAt, IsDue, Beats, FarTurn, RealFar, is_take}
+use Rattle.real_rounds.specs.Fars.{Links, ArePut, PointAt, IsDue, Beats, RealFar, is_take}
 use Rattle.real_rounds.proofs.Goes.{goes_on}
-use Rattle.real_rounds.proofs.FarTakes.{TookFar, far_coded-append, fates_by, fates_put}
+use Rattle.real_rounds.proofs.FarTakes.{TookFar, far_coded-append, far_goes_at, fates_by, fates_put}
 
 -- ---- what stands in links
 
@@ -55,14 +53,6 @@ point_all fate router pointer from (suc n) is = (is, point_all fate router point
 
 -- ---- what is sent
 
-again_sends : (r : RemoteValue) → AllByRecursion IsSending (again_events r)
-again_sends r = by_flags (nat_lt r.at_turn r.end.acked) (nat_lt 0 (again_length r.end))
-  where
-    by_flags : (b c : Bool) → AllByRecursion IsSending (if b then [] else (if c then Send r.end.acked (again_length r.end) ∷ [] else []))
-    by_flags true c = tt
-    by_flags false true = (tt, tt)
-    by_flags false false = tt
-
 again_few : (r : RemoteValue) → length (again_events r) ≤ 1
 again_few r = by_flags (nat_lt r.at_turn r.end.acked) (nat_lt 0 (again_length r.end)) (Send r.end.acked (again_length r.end))
   where
@@ -76,24 +66,6 @@ again_once : (r : RemoteValue) → r.at_turn ≡ r.end.acked → r.end.acked < r
 again_once r level out =
     ap (λ (b : Bool). length (if b then [] else (if nat_lt 0 (again_length r.end) then Send r.end.acked (again_length r.end) ∷ [] else []))) (le-ltb r.at_turn r.end.acked (omega (arith, level)))
     ∙ ap (λ (b : Bool). length (if b then Send r.end.acked (again_length r.end) ∷ [] else [])) (lt-ltb 0 (again_length r.end) (omega (arith, out)))
-
-answer_sends : (e : Endpoint) → AllByRecursion IsSending (answer_events e)
-answer_sends e = by_flag e.owed
-  where
-    by_flag : (b : Bool) → AllByRecursion IsSending (if b then Send e.emitted 0 ∷ [] else [])
-    by_flag true = (tt, tt)
-    by_flag false = tt
-
-answer_few : (e : Endpoint) → length (answer_events e) ≤ 1
-answer_few e = by_flag e.owed (Send e.emitted 0)
-  where
-    by_flag : (b : Bool) (x : FarEvent) → length (if b then x ∷ [] else []) ≤ 1
-    by_flag true x = omega arith
-    by_flag false x = omega arith
-
-fresh_sends : (e f : Endpoint) (events : List FarEvent) → FreshEvents e events f → AllByRecursion IsSending events
-fresh_sends e f [] fresh = tt
-fresh_sends e f (event ∷ events) fresh = (subst⁻¹ IsSending fresh.1 tt, fresh_sends (record e { emitted = e.emitted + next_length e }) f events fresh.2)
 
 fresh_acked : (e f : Endpoint) (events : List FarEvent) → FreshEvents e events f → f.acked ≡ e.acked
 fresh_acked e f [] fresh = ap (λ (x : Endpoint). x.acked) fresh.1
@@ -112,15 +84,12 @@ module _ (keep : FarTurnsKeepLinks) (faults : List Fault) (a b c : Fields) (ds e
   abbrev pub turn : List FarEvent
   turn = home_events b.pointer.0 b.homeward.plans ++ (remote_events b.remoteward.plans ++ rest)
 
-  abbrev pub tally : Tally
-  tally = record { again = length (again_events turned.reached); answers = length (answer_events turned.sent) }
-
   abbrev count : ℕ
   count = length (again_events turned.reached) + (length turned.fresh + length (answer_events turned.sent))
 
-  second : FarRound a.known.setup a.peering.0 (far_part b) nothing turn (far_part c) tally
-  second = subst (λ (s : Setup). FarRound s a.peering.0 (far_part b) nothing turn (far_part c) tally) took.setup
-      (subst (λ (k : ℕ). FarRound b.known.setup k (far_part b) nothing turn (far_part c) tally) (ap (λ k. k.0) took.peering) turned.round)
+  -- a piece of the turn
+  piece : (Allowed : FarPart → FarEvent → Type 0) (x y : FarPart) (events : List FarEvent) → FarGoes b.known.setup b.peering.0 Allowed x events y → FarGoes a.known.setup a.peering.0 Allowed x events y
+  piece Allowed x y events h = far_goes_at Allowed a b x y events took.setup took.peering h
 
   number_is : c.turns ≡ n + 1
   number_is = omega (arith, turned.turns, took.turns, at.turns)
@@ -138,8 +107,8 @@ module _ (keep : FarTurnsKeepLinks) (faults : List Fault) (a b c : Fields) (ds e
   end_acked = ap (λ (x : Endpoint). x.acked) turned.end ∙ fresh_acked turned.beaten.remote.end turned.sent turned.fresh turned.is_fresh ∙ beaten_acked turned.before turned.beaten turned.beats turned.is_beat
       ∙ ap (λ (x : RemoteValue). x.end.acked) turned.is_before.0
 
-  stood : GoesOn a.remote.end c.remote.end tally
-  stood = goes_on a.remote.end turned.reached.end c.remote.end tally (omega (arith, turned.is_reached.acked, took.acked)) (turned.is_reached.emitted ∙ took.emitted) end_acked
+  stood : GoesOn a.remote.end c.remote.end (length (again_events turned.reached))
+  stood = goes_on a.remote.end turned.reached.end c.remote.end (length (again_events turned.reached)) (omega (arith, turned.is_reached.acked, took.acked)) (turned.is_reached.emitted ∙ took.emitted) end_acked
       (λ same out. again_once turned.reached (reached_at_turn ∙ same) out)
 
   -- the timer
@@ -181,8 +150,8 @@ module _ (keep : FarTurnsKeepLinks) (faults : List Fault) (a b c : Fields) (ds e
       stream_is : length turned.before.remote.end.stream ≡ length b.remote.end.stream
       stream_is = ap (λ (x : RemoteValue). length x.end.stream) turned.is_before.0 ∙ ap (λ (xs : List ℕ). length xs) turned.is_reached.stream
 
-  said : Beats a.known.setup a.peering.0 (n + 1) (far_part b) turned.beats
-  said = elim (turned.is_beat) [
+  beats_due : Beats a.known.setup a.peering.0 (n + 1) (far_part b) turned.beats
+  beats_due = elim (turned.is_beat) [
     | inl h ↦ inl (due h.0, h.1 ∙ ap (λ (k : ℕ). Beat k ∷ []) (let e : turned.before.turns ≡ n + 1 = omega (arith, turned.is_before.1, took.turns, at.turns) in e))
     | inr h ↦ inr (λ d. h.0 (undue d), h.1)
   ]
@@ -190,18 +159,13 @@ module _ (keep : FarTurnsKeepLinks) (faults : List Fault) (a b c : Fields) (ds e
   turn_is : turn ≡ home_events c.pointer.0 a.homeward.plans ++ (remote_events (a.remoteward.plans ++ took.took) ++ rest)
   turn_is = λ i. home_events (pointer_is i) (took.homeward i).plans ++ (remote_events (took.plans i) ++ rest)
 
-  turns : FarTurn a.known.setup a.peering.0 (n + 1) (far_part b) c.pointer.0 a.homeward.plans (a.remoteward.plans ++ took.took) turn
-  turns = record {
-    again = again_events turned.reached;
-    beats = turned.beats;
-    fresh = turned.fresh;
-    answers = answer_events turned.sent;
-    is = turn_is;
-    sends = (again_sends turned.reached, fresh_sends turned.beaten.remote.end turned.sent turned.fresh turned.is_fresh, answer_sends turned.sent);
-    said = said;
-    count = count;
-    count_is = refl;
-  }
+  -- the plans of the links, as they stood at the start and with what was taken
+  delivered_is : home_events b.pointer.0 b.homeward.plans ++ remote_events b.remoteward.plans ≡ home_events c.pointer.0 a.homeward.plans ++ remote_events (a.remoteward.plans ++ took.took)
+  delivered_is = λ i. home_events (pointer_is i) (took.homeward i).plans ++ remote_events (took.plans i)
+
+  delivers : FarGoes a.known.setup a.peering.0 SendsNone (far_part b) (home_events c.pointer.0 a.homeward.plans ++ remote_events (a.remoteward.plans ++ took.took)) turned.delivered
+  delivers = subst (λ (events : List FarEvent). FarGoes a.known.setup a.peering.0 SendsNone (far_part b) events turned.delivered) delivered_is
+      (piece SendsNone (far_part b) turned.delivered (home_events b.pointer.0 b.homeward.plans ++ remote_events b.remoteward.plans) turned.delivers)
 
   -- the links
   abbrev sent : List InLink
@@ -217,23 +181,31 @@ module _ (keep : FarTurnsKeepLinks) (faults : List Fault) (a b c : Fields) (ds e
   are_taken = record { fates = took.fates ∙ (λ i. fates_by (fates_are faults a a.remoteward Remote (at.fates Remote) at.links.remoteward.0 at.links.remoteward.1 i) a.remoteward.put (length (filter is_take took.events))) }
 
   pub real_far : RealFar a.known.setup faults a.peering.0 (n + 1) (far_part a) (links_of a) (took.events ++ turn) (far_part c) (links_of c)
-  unfolding turns
   real_far = record {
     taken = took.events;
-    turn = turn;
-    parts = refl;
-    takes = took.takes;
-    mid = far_part b;
-    tally = tally;
-    first = took.round;
-    second = second;
-    rested = turned.rested;
-    few = record { again = again_few turned.reached; answers = answer_few turned.sent };
-    sends = stood;
+    again = again_events turned.reached;
+    beats = turned.beats;
+    fresh = turned.fresh;
+    answers = answer_events turned.sent;
     took = took.took;
-    are_taken = are_taken;
-    turns = turns;
     sent = sent;
+    is = ap (λ (events : List FarEvent). took.events ++ events) turn_is;
+    turning = far_part b;
+    delivered = turned.delivered;
+    resent = turned.resent;
+    said = turned.said;
+    level = turned.level;
+    takes = took.goes;
+    delivers = delivers;
+    resends = piece SendsOld turned.delivered turned.resent (again_events turned.reached) turned.resends;
+    says = piece SendsNone turned.resent turned.said turned.beats turned.says;
+    sends = piece SendsNew turned.said turned.level turned.fresh turned.sends;
+    replies = piece SendsAnswer turned.level (far_part c) (answer_events turned.sent) turned.answers;
+    due = beats_due;
+    rested = turned.rested;
+    few = again_few turned.reached;
+    goes_on = stood;
+    are_taken = are_taken;
     are_sent = (are_sent, point_all (fates_in b.plan b.homeward) b.pointer.0 c.pointer.0 b.homeward.put count pointer_is);
     home = λ i. record { plans = (turned.homeward ∙ (λ j. left_of (took.homeward j).plans ++ sent)) i; put = (turned.put ∙ (λ j. (took.homeward j).put + count)) i };
     remote = λ i. record { plans = (turned.remoteward.0 ∙ (λ j. left_of (took.plans j))) i; put = (turned.remoteward.1 ∙ took.put) i };

@@ -6,7 +6,6 @@ use Rattle.std.proofs.Math.Path.{subst⁻¹}
 use Rattle.std.proofs.lemmas.List.{append-nil, map-append}
 use Rattle.std.proofs.lemmas.List.Elements.{filter-append}
 use Rattle.ring_net.specs.Deeds.{Deed, Replay, TakesFirst}
-use Rattle.ring_net.proofs.Replays.{all-append}
 use Rattle.link_bag.specs.declared.plan.Fate.{Fate}
 use Rattle.link_bag.specs.Planned.{fate_in}
 use Rattle.graft_model.specs.Codes.{far_code}
@@ -18,24 +17,23 @@ use Rattle.graft_model.specs.declared.event.FarEvent.TheVariants.{Say, Send, Tak
 use Rattle.graft_model.specs.Steps.{far_row}
 use Rattle.graft_runs.specs.Makes.{HasCode}
 use Rattle.graft_actors.specs.Acts.{OwnPart, ActsAs, acts}
-use Rattle.graft_actors.specs.Emissions.{Tally, nothing}
 use Rattle.router_core.specs.Parts.{carried}
 use Rattle.far_side.specs.Parts.{far_part, own_part}
 use Rattle.far_side.specs.Passes.{SameLink, fates_in, plans_put}
 use Rattle.far_side.specs.Takes.{Took, taken_in}
-use Rattle.far_side.specs.Turns.{FarRound, AreOf, CarefulFar, far_tally}
+use Rattle.far_side.specs.Turns.{FarGoes, AreOf}
 use Rattle.far_side.specs.declared.fields.Fields.{Fields}
 use Rattle.far_side.specs.declared.link.InLink.{InLink}
 use Rattle.world_nodes.specs.Nodes.{Mail}
 use Rattle.real_rounds.proofs.Calls.{FarTakesAreOne, FarTakesKeepLinks}
-use Rattle.real_rounds.specs.Fars.{IsTaking, is_take}
+use Rattle.real_rounds.specs.Fars.{Takes, is_take}
 use Rattle.real_rounds.proofs.RouterDeeds.{IsKept}
 
 -- ---- events after events
 
-pub far_append : (setup : Setup) (p : ℕ) (a b c : FarPart) (t u w : Tally) (es fs : List FarEvent) → FarRound setup p a t es b u → FarRound setup p b u fs c w → FarRound setup p a t (es ++ fs) c w
-far_append setup p a b c t u w [] fs h k = subst (λ (x : FarPart). FarRound setup p x t fs c w) h.0 (subst (λ (x : Tally). FarRound setup p b x fs c w) h.1 k)
-far_append setup p a b c t u w (e ∷ es) fs (taken, sent, m, row, careful, rest) k = (taken, sent, m, row, careful, far_append setup p m b c (far_tally a e t) u w es fs rest k)
+pub far_append : (Allowed : FarPart → FarEvent → Type 0) (setup : Setup) (p : ℕ) (a b c : FarPart) (es fs : List FarEvent) → FarGoes setup p Allowed a es b → FarGoes setup p Allowed b fs c → FarGoes setup p Allowed a (es ++ fs) c
+far_append Allowed setup p a b c [] fs h k = subst (λ (x : FarPart). FarGoes setup p Allowed x fs c) h k
+far_append Allowed setup p a b c (e ∷ es) fs (taken, sent, m, row, allowed, rest) k = (taken, sent, m, row, allowed, far_append Allowed setup p m b c es fs rest k)
 
 pub far_coded-append : {I : Type 0} (es fs : List FarEvent) (ds gs : List (Deed I)) → AreOf es ds → AreOf fs gs → AreOf (es ++ fs) (ds ++ gs)
 far_coded-append [] fs [] gs h k = k
@@ -70,7 +68,7 @@ counts (Lose way index) d coded = rw (coded.kind) refl
 counts (Point router) d coded = rw (coded.kind) refl
 counts (Beat round) d coded = rw (coded.kind) refl
 
-taking_row : (setup : Setup) (p : ℕ) (event : FarEvent) (a b : FarPart) (taken : Option FarTaken) (sent : List FarSent) → far_row setup p event a taken sent b → taken ≢ None → IsTaking event
+taking_row : (setup : Setup) (p : ℕ) (event : FarEvent) (a b : FarPart) (taken : Option FarTaken) (sent : List FarSent) → far_row setup p event a taken sent b → taken ≢ None → Takes a event
 taking_row setup p (Say step) a b taken sent row some = tt
 taking_row setup p (Send from len) a b taken sent row some = absurd (some row.takes)
 taking_row setup p (Take router) a b taken sent row some = tt
@@ -80,27 +78,6 @@ taking_row setup p (Lose way index) a b taken sent row some = absurd (some row.t
 taking_row setup p (Point router) a b taken sent row some = tt
 taking_row setup p (Beat round) a b taken sent row some = absurd (some row.takes)
 
--- a taking event sends nothing, so that there is nothing to be careful of, nor to count
-taking_careful : (event : FarEvent) (a : FarPart) → IsTaking event → CarefulFar a event
-taking_careful (Say step) a taking = tt
-taking_careful (Send from len) a taking = absurd taking
-taking_careful (Take router) a taking = tt
-taking_careful (Pass index keep router) a taking = absurd taking
-taking_careful (Reach index keep) a taking = absurd taking
-taking_careful (Lose way index) a taking = absurd taking
-taking_careful (Point router) a taking = tt
-taking_careful (Beat round) a taking = absurd taking
-
-taking_tally : (event : FarEvent) (a : FarPart) (t : Tally) → IsTaking event → t ≡ far_tally a event t
-taking_tally (Say step) a t taking = refl
-taking_tally (Send from len) a t taking = absurd taking
-taking_tally (Take router) a t taking = refl
-taking_tally (Pass index keep router) a t taking = absurd taking
-taking_tally (Reach index keep) a t taking = absurd taking
-taking_tally (Lose way index) a t taking = absurd taking
-taking_tally (Point router) a t taking = refl
-taking_tally (Beat round) a t taking = absurd taking
-
 -- ---- several takes
 
 -- What takes leave: their events, each of which takes an item, and what is put into the link to the remote.
@@ -109,8 +86,7 @@ pub record TookFar (a : Fields) (ds : List (Deed Mail)) (b : Fields) : Type 0 wh
   pub peering : b.peering ≡ a.peering
   pub events : List FarEvent
   pub coded : AreOf events ds
-  pub round : FarRound a.known.setup a.peering.0 (far_part a) nothing events (far_part b) nothing
-  pub takes : AllByRecursion IsTaking events
+  pub goes : FarGoes a.known.setup a.peering.0 Takes (far_part a) events (far_part b)
   pub took : List InLink
   pub fates : map (λ (x : InLink). (x.fate, x.turns)) took ≡ fates_by (fates_in a.plan a.remoteward) a.remoteward.put (length (filter is_take events))
   pub plans : b.remoteward.plans ≡ a.remoteward.plans ++ took
@@ -130,8 +106,7 @@ far_none a = record {
   peering = refl;
   events = [];
   coded = tt;
-  round = (refl, refl);
-  takes = tt;
+  goes = refl;
   took = [];
   fates = refl;
   plans = sym (append-nil a.remoteward.plans);
@@ -153,7 +128,7 @@ some_taken f x (Some y) e h = absurd cc
 -- the row of the one event of a take
 module _ (a b : Fields) (d : Deed Mail) (from : ℕ) (item : Mail) (first : d.taken ≡ Some (from, item)) (act : ActsAs carried (own_part a) d.entry d.taken d.sent (own_part b)) (kept : d.entry.kind ≢ 0) where
   abbrev Row : Type 0
-  Row = (event : FarEvent) × (taken : Option FarTaken) × (sent : List FarSent) × HasCode (far_code event) d.entry × far_row a.known.setup a.peering.0 event (far_part a) taken sent (far_part b) × IsTaking event
+  Row = (event : FarEvent) × (taken : Option FarTaken) × (sent : List FarSent) × HasCode (far_code event) d.entry × far_row a.known.setup a.peering.0 event (far_part a) taken sent (far_part b) × Takes (far_part a) event
 
   row_of : (o : Option (ℕ × Mail)) → o ≡ Some (from, item) → ActsAs carried (own_part a) d.entry o d.sent (own_part b) → Row
   row_of None e act = absurd cc
@@ -181,8 +156,7 @@ one_more a b from item d links took first act kept =
       peering = ap (λ (x : Fields). x.peering) took.same;
       events = event ∷ [];
       coded = (code, tt);
-      round = (taken, sent, far_part b, row, taking_careful event (far_part a) taking, (refl, taking_tally event (far_part a) nothing taking));
-      takes = (taking, tt);
+      goes = (taken, sent, far_part b, row, taking, refl);
       took = plans_put (fates_in a.plan a.remoteward) a.pointer.0 a.remoteward.put (taken_in (d ∷ []));
       fates = fates_put (fates_in a.plan a.remoteward) a.pointer.0 a.remoteward.put (taken_in (d ∷ [])) ∙ ap (λ (k : ℕ). fates_by (fates_in a.plan a.remoteward) a.remoteward.put k) n;
       plans = took.plans;
@@ -208,16 +182,19 @@ far_one law links a b n from item (d ∷ e ∷ ds) took first replay kept = absu
 same_fates : (a b : Fields) → b.plan ≡ a.plan → SameLink a.remoteward b.remoteward → fates_in b.plan b.remoteward ≡ fates_in a.plan a.remoteward
 same_fates a b plan link = λ i n. fate_in (plan i) (record { 0 = link.peering i }) (link.way i) n
 
+-- what a far side does is the same of what it was
+pub far_goes_at : (Allowed : FarPart → FarEvent → Type 0) (a b : Fields) (x y : FarPart) (es : List FarEvent) → b.known.setup ≡ a.known.setup → b.peering ≡ a.peering → FarGoes b.known.setup b.peering.0 Allowed x es y
+    → FarGoes a.known.setup a.peering.0 Allowed x es y
+far_goes_at Allowed a b x y es setup peering h =
+    subst (λ (s : Setup). FarGoes s a.peering.0 Allowed x es y) setup (subst (λ (k : ℕ). FarGoes b.known.setup k Allowed x es y) (ap (λ k. k.0) peering) h)
+
 pub far_then : (a b c : Fields) (ds es : List (Deed Mail)) → TookFar a ds b → TookFar b es c → TookFar a (ds ++ es) c
 far_then a b c ds es x y = record {
   setup = y.setup ∙ x.setup;
   peering = y.peering ∙ x.peering;
   events = x.events ++ y.events;
   coded = far_coded-append x.events y.events ds es x.coded y.coded;
-  round = far_append a.known.setup a.peering.0 (far_part a) (far_part b) (far_part c) nothing nothing nothing x.events y.events x.round
-      (subst (λ (s : Setup). FarRound s a.peering.0 (far_part b) nothing y.events (far_part c) nothing) x.setup
-      (subst (λ (k : ℕ). FarRound b.known.setup k (far_part b) nothing y.events (far_part c) nothing) (ap (λ k. k.0) x.peering) y.round));
-  takes = all-append IsTaking x.events y.events x.takes y.takes;
+  goes = far_append Takes a.known.setup a.peering.0 (far_part a) (far_part b) (far_part c) x.events y.events x.goes (far_goes_at Takes a b (far_part b) (far_part c) y.events x.setup x.peering y.goes);
   took = x.took ++ y.took;
   fates = map-append (λ (l : InLink). (l.fate, l.turns)) x.took y.took
       ∙ (λ i. x.fates i ++ (y.fates ∙ ap (λ (f : ℕ → Fate). fates_by f b.remoteward.put (length (filter is_take y.events))) (same_fates a b x.plan x.link)) i)

@@ -57,7 +57,7 @@ use Rattle.real_rounds.proofs.Lists.{all_at}
 use Rattle.real_rounds.proofs.Legs.{Paused, Legs, entry_in}
 use Rattle.real_rounds.proofs.NodeRounds.{RouterPhase, router_phase, FarPhase, far_phase, operator_phase, operator_events, replay_setup}
 use Rattle.real_rounds.proofs.RouterDeeds.{IsKept}
-use Rattle.real_rounds.proofs.RouterRounds.{RouterAt, MayPassThen, turn_parts, real_router, router_after}
+use Rattle.real_rounds.proofs.RouterRounds.{RouterAt, MayPassThen, real_router, router_after}
 use Rattle.real_rounds.proofs.RouterRounds as router_proofs
 use Rattle.real_rounds.proofs.Slices.{entries_in_deeds, router_coded, far_coded, operator_coded}
 
@@ -142,9 +142,8 @@ abbrev pub HasEarlier : ℕ → router_fields.Fields.Fields → Type 0
 HasEarlier round f = (p : ℕ) (s : RunningSession) (o : Option Errand) → RunsAt f.places.places p s o → All (IsEarlier round) s.session.story
 
 -- On a session that stands through a round, with a hold time that runs, the round may pass in the turn.
-abbrev pub Ticking : CallsSay → Type 0
-Ticking law = (x c : router_fields.Fields.Fields) (ds : List (Deed Mail)) (ph : RouterPhase x c ds) (n : ℕ) (at : RouterAt n x) → HasEarlier (n + 1) x
-    → MayPassThen x ph.mid c (ph.takes.moments ++ (turn_parts law.turns x ph.mid c ph.first ph.second ph.takes ph.turns ph.calm n at).0)
+abbrev pub Ticking : Type 0
+Ticking = (x c : router_fields.Fields.Fields) (ds : List (Deed Mail)) (ph : RouterPhase x c ds) (n : ℕ) → RouterAt n x → HasEarlier (n + 1) x → MayPassThen x ph.mid c (ph.takes.moments ++ (ph.turns.first ++ ph.turns.later))
 
 -- ---- on the way
 
@@ -189,7 +188,7 @@ module _ (law : CallsSay) (setup : Setup) (faults : List Fault) (a b : Stand) (b
 
   pub router_leg : (k : ℕ) (k_in : k < legs.made) (r : ℕ) → r < routers_in setup → (x : router_type.Router.Router) → at_mark k r ≡ Router x
       → (c : router_type.Router.Router) × (at_mark (k + 1) r ≡ Router c) × RouterPhase x.fields c.fields (deeds (notes k k_in r))
-  router_leg k k_in r r_in x is = router_phase law r (get_or (legs.from k).actors r d) (at_mark (k + 1) r) ((legs.from k).clock r) ((legs.at (k + 1)).clock r) (notes k k_in r)
+  router_leg k k_in r r_in x is = router_phase r (get_or (legs.from k).actors r d) (at_mark (k + 1) r) ((legs.from k).clock r) ((legs.at (k + 1)).clock r) (notes k k_in r)
       ((legs.phase k k_in).actors r d (let n = leading.size_from setup a b begins legs journal merge b_ran worlds dropped k k_in in omega (arith, r_in, n)))
       (leading.leg_kept setup a b begins legs journal merge b_ran worlds dropped k k_in r [] (leading.no_front setup a b begins legs journal merge b_ran worlds dropped k k_in r (router_apart r r_in))).1
       x ((legs.pause k k_in).others r d (router_apart r r_in) ∙ is)
@@ -214,7 +213,7 @@ module _ (law : CallsSay) (setup : Setup) (faults : List Fault) (a b : Stand) (b
       subst (λ (z : router_type.Router.Router). RouterAt (suc k) z.fields) same (subst (λ (i : ℕ). RouterAt i c.fields) (next_is k)
       (router_after law.turns y.fields ph.mid c.fields ph.first ph.second ph.takes ph.turns ph.calm k (router_level k (omega (arith, k_in)) r r_in y y_is)))
 
-  module _ (ticking : Ticking law) (earlier : TicksAreEarlier) (k : ℕ) (k_in : k < legs.made) where
+  module _ (ticking : Ticking) (earlier : TicksAreEarlier) (k : ℕ) (k_in : k < legs.made) where
     abbrev slices : ℕ → List JournalEntry
     slices = between journal (legs.mark k) (legs.mark (k + 1))
 
@@ -229,17 +228,17 @@ module _ (law : CallsSay) (setup : Setup) (faults : List Fault) (a b : Stand) (b
         let had : HasEarlier (k + 1) x.fields = λ p s o runs. earlier k (omega (arith, k_in)) r p s.session _ (sym (ap (λ (part : RouterPart). part.places p) start) ∙ ap place_of runs.is) in
         let real = real_router law.turns x.fields ph.mid c.fields ph.first ph.second ph.takes ph.turns ph.calm k at (ticking x.fields c.fields (deeds (notes k k_in r)) ph k at had) in
         record {
-          events = ph.takes.events ++ ph.turns.events;
-          coded = subst⁻¹ (λ (es : List JournalEntry). AreCoded router_code (ph.takes.events ++ ph.turns.events) es)
+          events = ph.takes.events ++ (ph.turns.again ++ ph.turns.work);
+          coded = subst⁻¹ (λ (es : List JournalEntry). AreCoded router_code (ph.takes.events ++ (ph.turns.again ++ ph.turns.work)) es)
               (leading.slice_is setup a b begins legs journal merge b_ran worlds dropped k k_in r [] (leading.no_front setup a b begins legs journal merge b_ran worlds dropped k k_in r (router_apart r r_in)))
-              (subst (λ (es : List JournalEntry). AreCoded router_code (ph.takes.events ++ ph.turns.events) es) (entries_in_deeds (notes k k_in r))
-              (router_coded (ph.takes.events ++ ph.turns.events) (deeds (notes k k_in r))
-              (subst⁻¹ (λ (ds : List (Deed Mail)). router_rounds.AreOf (ph.takes.events ++ ph.turns.events) ds) ph.split
+              (subst (λ (es : List JournalEntry). AreCoded router_code (ph.takes.events ++ (ph.turns.again ++ ph.turns.work)) es) (entries_in_deeds (notes k k_in r))
+              (router_coded (ph.takes.events ++ (ph.turns.again ++ ph.turns.work)) (deeds (notes k k_in r))
+              (subst⁻¹ (λ (ds : List (Deed Mail)). router_rounds.AreOf (ph.takes.events ++ (ph.turns.again ++ ph.turns.work)) ds) ph.split
               (router_proofs.router_coded law.turns x.fields ph.mid c.fields ph.first ph.second ph.takes ph.turns ph.calm k at))));
-          real = subst (λ (s : Setup). RealRouter s r (k + 1) ((world k).router r) (ph.takes.events ++ ph.turns.events) ((world (k + 1)).router r)) (ap (λ (o : OwnPart). o.setup) before)
-              (subst (λ (i : ℕ). RealRouter x.fields.known.setup i (k + 1) ((world k).router r) (ph.takes.events ++ ph.turns.events) ((world (k + 1)).router r)) (router_number (ap (λ (o : OwnPart). o.name) before))
-              (subst (λ (part : RouterPart). RealRouter x.fields.known.setup x.fields.number.0 (k + 1) part (ph.takes.events ++ ph.turns.events) ((world (k + 1)).router r)) start
-              (subst (λ (part : RouterPart). RealRouter x.fields.known.setup x.fields.number.0 (k + 1) (router_part x.fields) (ph.takes.events ++ ph.turns.events) part) (router_is (ap (λ (o : OwnPart). o.part) after)) real)));
+          real = subst (λ (s : Setup). RealRouter s r (k + 1) ((world k).router r) (ph.takes.events ++ (ph.turns.again ++ ph.turns.work)) ((world (k + 1)).router r)) (ap (λ (o : OwnPart). o.setup) before)
+              (subst (λ (i : ℕ). RealRouter x.fields.known.setup i (k + 1) ((world k).router r) (ph.takes.events ++ (ph.turns.again ++ ph.turns.work)) ((world (k + 1)).router r)) (router_number (ap (λ (o : OwnPart). o.name) before))
+              (subst (λ (part : RouterPart). RealRouter x.fields.known.setup x.fields.number.0 (k + 1) part (ph.takes.events ++ (ph.turns.again ++ ph.turns.work)) ((world (k + 1)).router r)) start
+              (subst (λ (part : RouterPart). RealRouter x.fields.known.setup x.fields.number.0 (k + 1) (router_part x.fields) (ph.takes.events ++ (ph.turns.again ++ ph.turns.work)) part) (router_is (ap (λ (o : OwnPart). o.part) after)) real)));
         }
 
   -- ---- far sides
@@ -315,7 +314,7 @@ module _ (law : CallsSay) (setup : Setup) (faults : List Fault) (a b : Stand) (b
             (far_coded events (deeds (notes k k_in (routers_in setup + p)))
             (subst⁻¹ (λ (ds : List (Deed Mail)). far_turns.AreOf events ds) ph.split
             (far_rounds.far_coded law.links_turning faults x.fields ph.mid c.fields ph.first ph.second ph.takes ph.turns k at))));
-        real = real_at x c before after (far_links k p x x_is) (far_links (k + 1) p c c_is) real;
+        real = real_at x c {events = events} before after (far_links k p x x_is) (far_links (k + 1) p c c_is) real;
       }
     where
       real_at : (x c : far_type.Far.Far) {start end : FarPart} {l m : Links} {events : List FarEvent} → own (Far x) ≡ record { setup = setup; name = names.FarSide p; part = FarIs start } → own (Far c) ≡ record { setup = setup; name = names.FarSide p; part = FarIs end }

@@ -1,11 +1,12 @@
 -- A leg of a way is a run from the world at its mark to the one at the next mark.
-use Rattle.std.proofs.Common.{◌≡◌, ◌<◌, ◌+◌, ◌∙◌, ℕ, Bool, true, false, List, [], ◌∷◌, ◌++◌, length, map, refl, ap, sym, subst, arith}
-use Rattle.std.specs.Prelude.{Some}
+use Rattle.std.proofs.Common.{◌≡◌, ◌≤◌, ◌<◌, ◌+◌, ◌∙◌, ℕ, Bool, true, false, List, [], ◌∷◌, ◌++◌, length, map, refl, ap, sym, subst, inl, inr, arith}
+use Rattle.std.specs.Prelude.{◌⊎◌, Some}
 use Rattle.std.proofs.Math.Path.{subst⁻¹}
 use Rattle.ring_net.specs.declared.entry.JournalEntry.{JournalEntry}
 use Rattle.ring_net.specs.Deeds.{entries_of}
 use Rattle.ring_net.specs.Phases.{View}
-use Rattle.journal_merge.specs.Merges.{Interleaves, entries_by, upto}
+use Rattle.journal_merge.specs.Merges.{Interleaves, upto}
+use Rattle.journal_merge.proofs.Pieces.{phase_grows}
 use Rattle.graft_model.specs.First.{first_world}
 use Rattle.graft_model.specs.Setups.{Setup, IsSetup}
 use Rattle.graft_model.specs.Parts.{World}
@@ -17,14 +18,14 @@ use Rattle.graft_runs.specs.Laws.{AreEntriesOf, OneWorldIsSeen}
 use Rattle.graft_runs.specs.Seen.{part_of, channel_of}
 use Rattle.graft_runs.proofs.Numbers.{of_number}
 use Rattle.graft_actors.specs.Items.{thing_of}
-use Rattle.graft_actors.specs.Acts.{OwnPart}
+use Rattle.graft_actors.specs.Acts.{OwnPart, acts}
 use Rattle.router_core.specs.Parts.{carried}
 use Rattle.run_marks.specs.Marks.{before, MarksStandForWorlds, IsWorldAtMark}
 use Rattle.world_runs.specs.Labs.{actors_in, net_of}
 use Rattle.world_runs.specs.Runs.{IsSeenAs, Ran}
 use Rattle.world_runs.specs.Laws.{ActsAreARun, NobodyWritesToItself, NothingWasDropped}
 use Rattle.world_nodes.specs.Edges.{has_channel}
-use Rattle.world_nodes.specs.Nodes.{Mail, own}
+use Rattle.world_nodes.specs.Nodes.{Mail, own, took, turned}
 use Rattle.world_nodes.specs.Ways.{Stand, Begins}
 use Rattle.world_nodes.specs.declared.node.Node.{Node}
 use Rattle.real_rounds.specs.Entries.{between}
@@ -33,8 +34,8 @@ use Rattle.real_rounds.proofs.Channels.{silent}
 use Rattle.real_rounds.proofs.Leading as leading
 use Rattle.real_rounds.proofs.Leading.{number_below}
 use Rattle.real_rounds.proofs.Legs.{Legs}
+use Rattle.real_rounds.proofs.Joins.{below_or_past, IsAhead, level_ahead}
 use Rattle.real_rounds.proofs.RunsBetween.{RunFrom, run_then, merge_between, phase_runs}
-use Rattle.real_rounds.proofs.Slices.{between_is}
 
 -- ---- a net is seen as one world on the way of a run
 
@@ -91,15 +92,26 @@ module _ (setup : Setup) (a b : Stand) (begins : Begins setup a) (legs : Legs se
     abbrev more : ℕ → List JournalEntry
     more j = ((legs.is_mark (k + 1)).later j).0
 
+    -- what the journals got at the mark, and in the phase behind it
+    abbrev at_mark : ℕ → List JournalEntry
+    at_mark j = entries_of ((legs.pause k k_in).notes j)
+
+    abbrev behind : ℕ → List JournalEntry
+    behind j = entries_of ((legs.phase k k_in).notes j)
+
     phase_merge : (es : List JournalEntry) × Interleaves (λ j. entries_of ((legs.phase k k_in).notes j)) es
     phase_merge = merge_between b.view.journal (legs.from k).journal (λ j. entries_of ((legs.phase k k_in).notes j)) more journal merge
         (λ j. ((legs.is_mark (k + 1)).later j).1 ∙ ap (λ (es : List JournalEntry). es ++ more j) ((legs.phase k k_in).journals j))
 
-    paused : RunFrom setup here.0 (legs.at k) (legs.from k)
+    paused : RunFrom setup here.0 (legs.from k) at_mark
     paused = (legs.pause k k_in).runs here.0 (leading.size setup a b begins legs journal merge b_ran worlds dropped k (omega (arith, k_in))) here_reached here.2
 
-    whole : RunFrom setup here.0 (legs.at k) (legs.at (k + 1))
-    whole = run_then setup here.0 (legs.at k) (legs.from k) (legs.at (k + 1)) paused
+    ahead : IsAhead at_mark behind
+    ahead = level_ahead own (acts carried) (legs.at k) (legs.from k) (legs.at (k + 1)) (legs.pause k k_in).levels [] (legs.pause k k_in).notes (legs.phase k k_in).notes (legs.pause k k_in).grew
+        (phase_grows own (acts carried) took turned (legs.from k) (legs.at (k + 1)) (legs.phase k k_in)) (legs.pause k k_in).levelled
+
+    whole : RunFrom setup here.0 (legs.at (k + 1)) (λ j. at_mark j ++ behind j)
+    whole = run_then setup here.0 (legs.from k) (legs.at (k + 1)) at_mark behind ahead paused
         (phase_runs setup sound law d (legs.from k) (legs.at (k + 1)) (legs.phase k k_in) phase_merge.0 phase_merge.1 paused.after
         (leading.size_from setup a b begins legs journal merge b_ran worlds dropped k k_in) (reached_run setup paused.events here.0 paused.after here_reached paused.run) paused.seen)
 
@@ -108,13 +120,37 @@ module _ (setup : Setup) (a b : Stand) (begins : Begins setup a) (legs : Legs se
         (leading.edges setup a b begins legs journal merge b_ran worlds dropped (k + 1) (omega (arith, k_in))) whole.after next.0 whole.seen next.2
         (λ r. itself setup whole.after r sound (reached_run setup whole.events here.0 whole.after here_reached whole.run)) (λ r. itself setup next.0 r sound (record { events = next.1.events; run = next.1.run }))
 
-    pub leg_goes : RoundGoes setup here.0 (between journal (legs.mark k) (legs.mark (k + 1))) next.0
+    leg_goes : RoundGoes setup here.0 (between journal (legs.mark k) (legs.mark (k + 1))) whole.events next.0
     leg_goes = record {
-      events = whole.events;
       entries = whole.entries;
+      merged = record {
+        each = λ j. whole.merged.each j
+            ∙ sym (leading.slice_is setup a b begins legs journal merge b_ran worlds dropped k k_in j (at_mark j) ((legs.pause k k_in).grew.journals j));
+        sorted = whole.merged.sorted;
+      };
       entries_of = whole.entries_of;
-      of_actors = λ j. sym (between_is journal (legs.mark k) (legs.mark (k + 1)) j ((legs.at k).journal j) (entries_by j whole.entries) (more j)
-          (merge.each j ∙ ((legs.is_mark (k + 1)).later j).1 ∙ ap (λ (es : List JournalEntry). es ++ more j) (whole.journals j)) ((legs.is_mark k).lengths j)
-          ((legs.is_mark (k + 1)).lengths j ∙ ap (λ (es : List JournalEntry). length es) (whole.journals j)));
       run = subst⁻¹ (λ (u : World). Run setup here.0 whole.events u) same_end whole.run;
     }
+
+  -- ---- all legs
+
+  module _ (d : Node) (sound : IsSetup setup) (itself : NobodyWritesToItself) (one : OneWorldIsSeen) (law : ActsAreARun carried) where
+    events_where : (k : ℕ) → (k < legs.made) ⊎ (legs.made ≤ k) → List Event
+    events_where k (inl k_in) = (whole d sound itself one law k k_in).events
+    events_where k (inr past) = []
+
+    -- the events of each round
+    pub leg_events : ℕ → List Event
+    leg_events k = events_where k (below_or_past k legs.made)
+
+    abbrev at : ℕ → World
+    at k = leading.world setup a b begins legs journal merge b_ran worlds dropped k
+
+    goes_where : (k : ℕ) (there : (k < legs.made) ⊎ (legs.made ≤ k)) → k < legs.made → RoundGoes setup (at k) (between journal (legs.mark k) (legs.mark (k + 1))) (events_where k there) (at (k + 1))
+    unfolding events_where
+    goes_where k (inl k_in) there = leg_goes d sound itself one law k k_in
+    goes_where k (inr past) there = absurd (omega (arith, past, there))
+
+    pub each_goes : (k : ℕ) → k < legs.made → RoundGoes setup (at k) (between journal (legs.mark k) (legs.mark (k + 1))) (leg_events k) (at (k + 1))
+    unfolding leg_events
+    each_goes k k_in = goes_where k (below_or_past k legs.made) k_in

@@ -1,14 +1,16 @@
 -- The way of a laboratory's net, leg by leg: from each mark, past what groups begin there, through a round to the next mark.
 use Rattle.std.proofs.Common.{◌≡◌, ◌≢◌, ◌≤◌, ◌<◌, ◌+◌, ◌∙◌, ℕ, zero, suc, true, List, [], ◌∷◌, ◌++◌, length, get_or, map, refl, ap, sym, subst, inl, inr, arith, append_assoc, length-append}
-use Rattle.std.specs.Prelude.{◌⊎◌, nat_lt, if◌then◌else◌, Some, slice_get}
+use Rattle.std.specs.Prelude.{nat_lt, if◌then◌else◌, Some, slice_get}
 use Rattle.std.proofs.Math.Path.{subst⁻¹}
 use Rattle.std.proofs.lemmas.Bool.{lt-ltb, le-ltb}
 use Rattle.std.proofs.lemmas.Bool.Decides.{eqb_tells}
 use Rattle.std.proofs.lemmas.List.{append-nil, map-append, get_or_past}
 use Rattle.std.proofs.lemmas.Option.{same_Some, slice_get_within}
 use Rattle.ring_net.specs.declared.entry.JournalEntry.{JournalEntry}
-use Rattle.ring_net.specs.Deeds.{Deed, Replay, entries_of, sent_by}
+use Rattle.ring_net.specs.Deeds.{Deed, Noted, Replay, entries_of, sent_by}
 use Rattle.ring_net.specs.Phases.{View, Phase, Marked, Between, InOrder, OnlyClocks}
+use Rattle.journal_merge.specs.Growth.{Grew}
+use Rattle.journal_merge.proofs.Pieces.{grows_on}
 use Rattle.ring_net.proofs.EdgeReads.{slice_get-append_left, slice_get-append_head}
 use Rattle.ring_net.proofs.Replays.{replay-append}
 use Rattle.graft_model.specs.Setups.{Setup}
@@ -16,12 +18,14 @@ use Rattle.graft_actors.specs.Acts.{acts}
 use Rattle.router_core.specs.Parts.{carried}
 use Rattle.operator_core.specs.declared.operator as operator_type
 use Rattle.run_marks.specs.Marks.{before, operator_in, IsMarkOf}
+use Rattle.world_runs.specs.Labs.{actors_in}
 use Rattle.world_runs.specs.Runs.{Ran, QuietAt}
 use Rattle.world_nodes.specs.Nodes.{Mail, own, took, turned, paused}
 use Rattle.world_nodes.specs.Ways.{Stand, Begins, Round, Pause, Way, Here, Rounds, Groups}
 use Rattle.world_nodes.specs.declared.node.Node.{Node}
 use Rattle.world_nodes.specs.declared.node.Node.TheVariants.{Router, Far, Operator}
-use Rattle.real_rounds.proofs.RunsBetween.{HasRuns, stays, runs_then}
+use Rattle.real_rounds.proofs.Joins.{below_or_past, IsLevelled, still, at_level, level_ahead, level_then, grew_none}
+use Rattle.real_rounds.proofs.RunsBetween.{HasRuns, stays, runs_then, pause_levels, pause_notes, pause_grew}
 
 -- ---- at a mark
 
@@ -40,7 +44,12 @@ pub record Paused (setup : Setup) (u v : View Node Mail) : Type 0 where
   pub edges : (a b : ℕ) → v.edge a b ≡ u.edge a b
   pub grows : (a b : ℕ) → u.edge a b ≡ true → length (u.channel a b) ≤ length (v.channel a b)
   pub rings : (a b : ℕ) → v.in_ring a b ≡ u.in_ring a b
-  pub runs : HasRuns setup u v
+  -- what it noted, at which levels, and that all clocks are level at its end, if it did anything
+  pub levels : List ℕ
+  pub notes : ℕ → List (Noted Mail)
+  pub grew : Grew own (acts carried) u v levels notes
+  pub levelled : IsLevelled u v notes
+  pub runs : HasRuns setup u v (λ k. entries_of (notes k))
 
 pub no_pause : (setup : Setup) (v : View Node Mail) → Paused setup v v
 no_pause setup v = record {
@@ -54,6 +63,10 @@ no_pause setup v = record {
   edges = λ a b. refl;
   grows = λ a b e. omega arith;
   rings = λ a b. refl;
+  levels = [];
+  notes = λ k. [];
+  grew = grew_none own (acts carried) v;
+  levelled = still refl (λ k. refl);
   runs = stays setup v;
 }
 
@@ -70,7 +83,12 @@ pause_then setup u v w x y = record {
   edges = λ a b. y.edges a b ∙ x.edges a b;
   grows = λ a b e. (let first = x.grows a b e in let last = y.grows a b (x.edges a b ∙ e) in omega (arith, first, last));
   rings = λ a b. y.rings a b ∙ x.rings a b;
-  runs = runs_then setup u v w x.size x.runs y.runs;
+  levels = x.levels ++ y.levels;
+  notes = λ k. x.notes k ++ y.notes k;
+  grew = grows_on own (acts carried) u v w x.levels y.levels x.notes y.notes x.grew y.grew;
+  levelled = level_then u v w x.notes y.notes x.levelled y.levelled;
+  runs = subst⁻¹ (λ (new : ℕ → List JournalEntry). HasRuns setup u w new) (λ i k. map-append (λ (n : Noted Mail). n.deed.entry) (x.notes k) (y.notes k) i)
+      (runs_then setup u v w (λ k. entries_of (x.notes k)) (λ k. entries_of (y.notes k)) (level_ahead own (acts carried) u v w x.levels y.levels x.notes y.notes x.grew y.grew x.levelled) x.size x.runs y.runs);
 }
 
 still_operator : (a : operator_type.Operator.Operator) (n : Node) (ds : List (Deed Mail)) → paused (Operator a) ds n → (b : operator_type.Operator.Operator) × (n ≡ Operator b)
@@ -78,8 +96,8 @@ still_operator a (Operator b) ds p = (b, refl)
 still_operator a (Router b) ds p = absurd p
 still_operator a (Far b) ds p = absurd p
 
-one_pause : (setup : Setup) (b c : Stand) → Pause (operator_in setup) b c true → HasRuns setup b.view c.view → Paused setup b.view c.view
-one_pause setup b c pause runs = record {
+one_pause : (setup : Setup) (b c : Stand) (pause : Pause (operator_in setup) b c true) → length b.view.actors ≡ actors_in setup → HasRuns setup b.view c.view (λ k. entries_of (pause_notes setup b c pause k)) → Paused setup b.view c.view
+one_pause setup b c pause in_all runs = record {
   deeds = did.deeds;
   size = did.size ∙ ap (λ (xs : List Node). length xs) only.actors;
   others = λ j d ne. did.others j d ne ∙ ap (λ (xs : List Node). get_or xs j d) only.actors;
@@ -96,6 +114,10 @@ one_pause setup b c pause runs = record {
     | inr ne ↦ (let size : length (c.view.channel x y) ≡ length (b.view.channel x y) = ap (λ items. length items) (did.channels x y ne.1 ∙ only.channels x y) in omega (arith, size))
   ];
   rings = λ x y. did.rings x y ∙ only.rings x y;
+  levels = pause_levels setup b c pause;
+  notes = pause_notes setup b c pause;
+  grew = pause_grew setup b c pause in_all;
+  levelled = at_level did.to did.level;
   runs = runs;
 }
   where
@@ -122,9 +144,6 @@ chosen_old n old new k l = rw (lt-ltb k n l) refl
 
 chosen_new : {A : Type 0} (n : ℕ) (old : ℕ → A) (new : A) (k : ℕ) → n ≤ k → choose n old new k ≡ new
 chosen_new n old new k h = rw (le-ltb k n h) refl
-
-below_or_past : (k n : ℕ) → (k < n) ⊎ (n ≤ k)
-below_or_past k n = grind arith
 
 -- ---- the legs of a way
 
@@ -160,7 +179,7 @@ mark_now v old new marked order = record {
 }
 
 module _ (setup : Setup) (a : Stand) (ran : (b : Stand) (rounds : List ℕ) → Way setup a rounds b → Ran own carried setup b.view) (ordered : (b : Stand) (rounds : List ℕ) → Way setup a rounds b → InOrder b.view)
-    (pauses : (b c : Stand) → QuietAt own carried setup b.view → Pause (operator_in setup) b c true → HasRuns setup b.view c.view) (begins : Begins setup a) where
+    (pauses : (b c : Stand) → QuietAt own carried setup b.view → (pause : Pause (operator_in setup) b c true) → HasRuns setup b.view c.view (λ k. entries_of (pause_notes setup b c pause k))) (begins : Begins setup a) where
   no_legs : Legs setup a a
   no_legs = record {
     made = 0;
@@ -181,20 +200,20 @@ module _ (setup : Setup) (a : Stand) (ran : (b : Stand) (rounds : List ℕ) → 
       only_one zero m is = sym (same_Some begins.marked.mark m is)
       only_one (suc k) m is = absurd cc
 
-  groups_legs : (b c : Stand) → Legs setup a b → Pause (operator_in setup) b c true → HasRuns setup b.view c.view → Legs setup a c
-  groups_legs b c legs pause runs = record {
+  groups_legs : (b c : Stand) → Legs setup a b → Pause (operator_in setup) b c true → Paused setup b.view c.view → Legs setup a c
+  groups_legs b c legs pause paused = record {
     made = legs.made;
     at = legs.at;
     mark = legs.mark;
     from = legs.from;
-    is_mark = λ k. mark_grows (legs.at k) b.view c.view (legs.mark k) (legs.is_mark k) (pause_more setup b.view c.view (one_pause setup b c pause runs));
+    is_mark = λ k. mark_grows (legs.at k) b.view c.view (legs.mark k) (legs.is_mark k) (pause_more setup b.view c.view paused);
     ran = legs.ran;
     count = ap (λ (ms : List (List ℕ)). length ms) pause.marks ∙ legs.count;
     marks = λ k m is. legs.marks k m (ap (λ (ms : List (List ℕ)). slice_get ms k) (sym pause.marks) ∙ is);
     first = legs.first;
     pause = legs.pause;
     phase = legs.phase;
-    last = pause_then setup (legs.at legs.made) b.view c.view legs.last (one_pause setup b c pause runs);
+    last = pause_then setup (legs.at legs.made) b.view c.view legs.last paused;
   }
 
   module _ (b c : Stand) (legs : Legs setup a b) (round : Round b c) (c_ran : Ran own carried setup c.view) (c_ordered : InOrder c.view) where
@@ -265,8 +284,13 @@ module _ (setup : Setup) (a : Stand) (ran : (b : Stand) (rounds : List ℕ) → 
       last = subst⁻¹ (λ (v : View Node Mail). Paused setup v c.view) (chosen_new (legs.made + 1) legs.at c.view (legs.made + 1) (omega arith)) (no_pause setup c.view);
     }
 
+  all_there : (b : Stand) (rounds : List ℕ) → Way setup a rounds b → length b.view.actors ≡ actors_in setup
+  all_there b rounds Here = ap (λ (xs : List Node). length xs) begins.new.all ∙ begins.first.all
+  all_there c rounds (Rounds past n {b = b} way round) = round.phase.size ∙ all_there b (past ++ n ∷ []) way
+  all_there c rounds (Groups before {b = b} way quiet pause) = pause.between.size ∙ ap (λ (xs : List Node). length xs) pause.levelled.only.actors ∙ all_there b before way
+
   pub legs_of : (b : Stand) (rounds : List ℕ) → Way setup a rounds b → Legs setup a b
   legs_of b rounds Here = no_legs
   legs_of c rounds (Rounds past n {b = b} way round) =
       round_legs b c (legs_of b (past ++ n ∷ []) way) round (ran c (past ++ (n + 1) ∷ []) (Rounds past n way round)) (ordered c (past ++ (n + 1) ∷ []) (Rounds past n way round))
-  legs_of c rounds (Groups before {b = b} way quiet pause) = groups_legs b c (legs_of b before way) pause (pauses b c quiet pause)
+  legs_of c rounds (Groups before {b = b} way quiet pause) = groups_legs b c (legs_of b before way) pause (one_pause setup b c pause (all_there b before way) (pauses b c quiet pause))

@@ -11,6 +11,8 @@ pub mod NodeRounds
 pub mod Slices
 pub mod Senders
 pub mod Channels
+pub mod Chain
+pub mod Joins
 pub mod RunsBetween
 pub mod Legs
 pub mod Leading

@@ -48,38 +48,38 @@ pub record RouterPhase (a c : router_fields.Fields.Fields) (ds : List (Deed Mail
   pub split : ds ≡ first ++ second
   pub takes : TookRouter a first mid
   pub turns : router_turns.Turned mid second c
-  pub calm : AllByRecursion LandsNobody turns.events
+  pub calm : AllByRecursion LandsNobody (turns.again ++ turns.work)
 
-router_took : (law : CallsSay) (a : router_type.Router.Router) (n : Node) (from : ℕ) (item : Mail) (ds : List (Deed Mail)) → took (Router a) from item ds n → AllByRecursion IsKept ds
+router_took : (a : router_type.Router.Router) (n : Node) (from : ℕ) (item : Mail) (ds : List (Deed Mail)) → took (Router a) from item ds n → AllByRecursion IsKept ds
     → (b : router_type.Router.Router) × (n ≡ Router b) × TookRouter a.fields ds b.fields
-router_took law a (Router b) from item ds t kept = (b, refl, took_one law.takes a.fields b.fields 0 from item ds t.0.0 t.1 t.2 kept)
-router_took law a (Far b) from item ds t kept = absurd t.0
-router_took law a (Operator b) from item ds t kept = absurd t.0
+router_took a (Router b) from item ds t kept = (b, refl, took_one a.fields b.fields 0 from item ds t.0.0 t.1 t.2 kept)
+router_took a (Far b) from item ds t kept = absurd t.0
+router_took a (Operator b) from item ds t kept = absurd t.0
 
-router_tooks : (law : CallsSay) (old new : Node) (ds : List (Deed Mail)) → Tooks took old ds new → AllByRecursion IsKept ds → (a : router_type.Router.Router) → old ≡ Router a
+router_tooks : (old new : Node) (ds : List (Deed Mail)) → Tooks took old ds new → AllByRecursion IsKept ds → (a : router_type.Router.Router) → old ≡ Router a
     → (b : router_type.Router.Router) × (new ≡ Router b) × TookRouter a.fields ds b.fields
-router_tooks law old new ds (stays x) kept a is = (a, is, took_none a.fields)
-router_tooks law old new ds (takes x y z before more from item tooks t) kept a is =
-    let (m, m_is, first) = router_tooks law x y before tooks (all_front IsKept before more kept) a is in
-    let (b, b_is, last) = router_took law m z from item more (subst (λ (n : Node). took n from item more z) m_is t) (all_back IsKept before more kept) in
+router_tooks old new ds (stays x) kept a is = (a, is, took_none a.fields)
+router_tooks old new ds (takes x y z before more from item tooks t) kept a is =
+    let (m, m_is, first) = router_tooks x y before tooks (all_front IsKept before more kept) a is in
+    let (b, b_is, last) = router_took m z from item more (subst (λ (n : Node). took n from item more z) m_is t) (all_back IsKept before more kept) in
     (b, b_is, took_then a.fields m.fields b.fields before more first last)
 
-router_turn : (law : CallsSay) (m : router_type.Router.Router) (n : Node) (es : List (Deed Mail)) → turned (Router m) es n → AllByRecursion TakesNone es
-    → (c : router_type.Router.Router) × (n ≡ Router c) × (t : router_turns.Turned m.fields es c.fields) × AllByRecursion LandsNobody t.events
-router_turn law m (Router c) es t none = (c, refl, t.0.0, nobody_lands m.fields.number.0 0 (routers.own m) (routers.own c) t.0.0.events es refl t.0.0.coded t.1 none)
-router_turn law m (Far c) es t none = absurd t.0
-router_turn law m (Operator c) es t none = absurd t.0
+router_turn : (m : router_type.Router.Router) (n : Node) (es : List (Deed Mail)) → turned (Router m) es n → AllByRecursion TakesNone es
+    → (c : router_type.Router.Router) × (n ≡ Router c) × (t : router_turns.Turned m.fields es c.fields) × AllByRecursion LandsNobody (t.again ++ t.work)
+router_turn m (Router c) es t none = (c, refl, t.0.0, nobody_lands m.fields.number.0 0 (routers.own m) (routers.own c) (t.0.0.again ++ t.0.0.work) es refl t.0.0.coded t.1 none)
+router_turn m (Far c) es t none = absurd t.0
+router_turn m (Operator c) es t none = absurd t.0
 
 deeds_split : (notes first second : List (Noted Mail)) → notes ≡ first ++ second → deeds notes ≡ deeds first ++ deeds second
 deeds_split notes first second split = ap (λ (ns : List (Noted Mail)). deeds ns) split ∙ map-append (λ (n : Noted Mail). n.deed) first second
 
-pub router_phase : CallsSay → (k : ℕ) (old new : Node) (before after : ℕ) (notes : List (Noted Mail)) → ActorDid own (acts carried) took turned k old before notes new after → AllByRecursion IsKept (deeds notes)
+pub router_phase : (k : ℕ) (old new : Node) (before after : ℕ) (notes : List (Noted Mail)) → ActorDid own (acts carried) took turned k old before notes new after → AllByRecursion IsKept (deeds notes)
     → (a : router_type.Router.Router) → old ≡ Router a → (c : router_type.Router.Router) × (new ≡ Router c) × RouterPhase a.fields c.fields (deeds notes)
-router_phase law k old new before after notes did kept a is =
+router_phase k old new before after notes did kept a is =
     let split = deeds_split notes did.first did.second did.split in
     let kept_both : AllByRecursion IsKept (deeds did.first ++ deeds did.second) = subst (λ (ds : List (Deed Mail)). AllByRecursion IsKept ds) split kept in
-    let (m, m_is, first) = router_tooks law old did.mid (deeds did.first) did.tooks (all_front IsKept (deeds did.first) (deeds did.second) kept_both) a is in
-    let (c, c_is, turn, calm) = router_turn law m new (deeds did.second) (subst (λ (n : Node). turned n (deeds did.second) new) m_is did.turn) did.none in
+    let (m, m_is, first) = router_tooks old did.mid (deeds did.first) did.tooks (all_front IsKept (deeds did.first) (deeds did.second) kept_both) a is in
+    let (c, c_is, turn, calm) = router_turn m new (deeds did.second) (subst (λ (n : Node). turned n (deeds did.second) new) m_is did.turn) did.none in
     (c, c_is, record { mid = m.fields; first = deeds did.first; second = deeds did.second; split = split; takes = first; turns = turn; calm = calm })
 
 -- ---- a far side

@@ -11,6 +11,7 @@ use Rattle.ring_net.specs.Turns.{ActorDid}
 use Rattle.journal_merge.specs.Merges.{Interleaves}
 use Rattle.graft_model.specs.Setups.{Setup, IsSetup}
 use Rattle.graft_model.specs.Parts.{World}
+use Rattle.graft_model.specs.Steps.{Event}
 use Rattle.graft_runs.specs.Actors.{ActorName, number_in, IsActor}
 use Rattle.graft_runs.specs.Laws.{OneWorldIsSeen}
 use Rattle.graft_runs.specs.Seen.{channel_of}
@@ -87,7 +88,7 @@ module _ (setup : Setup) (a b : Stand) (begins : Begins setup a) (d : Node) (leg
 
 module _ (law : CallsSay) (setup : Setup) (faults : List Fault) (a b : Stand) (sound : IsSetup setup) (begins : Begins setup a) (fresh : AllByRecursion (IsFresh setup faults) begins.actors) (d : Node)
     (d_fresh : IsFresh setup faults d) (legs : Legs setup a b) (journal : List JournalEntry) (merge : Interleaves b.view.journal journal) (b_ran : Ran own carried setup b.view) (worlds : MarksStandForWorlds own carried)
-    (dropped : NothingWasDropped) (itself : NobodyWritesToItself) (one : OneWorldIsSeen) (acts_run : ActsAreARun carried) (ticking : Ticking law)
+    (dropped : NothingWasDropped) (itself : NobodyWritesToItself) (one : OneWorldIsSeen) (acts_run : ActsAreARun carried) (ticking : Ticking)
     (earlier : TicksAreEarlier law setup faults a b begins fresh d d_fresh legs journal merge b_ran worlds dropped) where
   one_round : (k : ℕ) → k < legs.made → RealRound setup faults (k + 1) (leading.world setup a b begins legs journal merge b_ran worlds dropped k)
       (legs_actors.links_at law setup faults a b begins fresh d d_fresh legs journal merge b_ran worlds dropped k) (between journal (legs.mark k) (legs.mark (k + 1)))
@@ -101,9 +102,11 @@ module _ (law : CallsSay) (setup : Setup) (faults : List Fault) (a b : Stand) (s
   pub rounds_real : RealRounds setup faults journal b.marks
   rounds_real = record {
     world = leading.world setup a b begins legs journal merge b_ran worlds dropped;
+    events = leg_runs.leg_events setup a b begins legs journal merge b_ran worlds dropped d sound itself one acts_run;
     links = legs_actors.links_at law setup faults a b begins fresh d d_fresh legs journal merge b_ran worlds dropped;
     worlds = λ k mark is. subst⁻¹ (λ (m : List ℕ). IsWorldAtMark setup journal m (leading.world setup a b begins legs journal merge b_ran worlds dropped k)) (legs.marks k mark is)
         (leading.world_at setup a b begins legs journal merge b_ran worlds dropped k).1;
+    within = λ k mark is. (leading.world_at setup a b begins legs journal merge b_ran worlds dropped k).2.sees.sees.within;
     begins = λ mark is. leg_runs.world_first setup a b begins legs journal merge b_ran worlds dropped;
     empty = legs_actors.links_first law setup faults a b begins fresh d d_fresh legs journal merge b_ran worlds dropped;
     each = λ k mark next is at_next. (
@@ -120,9 +123,10 @@ module _ (law : CallsSay) (setup : Setup) (faults : List Fault) (a b : Stand) (s
         let size = slice_get_within b.marks (k + 1) next at_next in
         let w : World = leading.world setup a b begins legs journal merge b_ran worlds dropped k in
         let u : World = leading.world setup a b begins legs journal merge b_ran worlds dropped (k + 1) in
-        subst⁻¹ (λ (m : List ℕ). RoundGoes setup w (between journal m next) u) (legs.marks k mark is)
-        (subst⁻¹ (λ (m : List ℕ). RoundGoes setup w (between journal (legs.mark k) m) u) (legs.marks (k + 1) next at_next)
-        (leg_runs.leg_goes setup a b begins legs journal merge b_ran worlds dropped d sound itself one acts_run k (omega (arith, size, legs.count)))));
+        let events : List Event = leg_runs.leg_events setup a b begins legs journal merge b_ran worlds dropped d sound itself one acts_run k in
+        subst⁻¹ (λ (m : List ℕ). RoundGoes setup w (between journal m next) events u) (legs.marks k mark is)
+        (subst⁻¹ (λ (m : List ℕ). RoundGoes setup w (between journal (legs.mark k) m) events u) (legs.marks (k + 1) next at_next)
+        (leg_runs.each_goes setup a b begins legs journal merge b_ran worlds dropped d sound itself one acts_run k (omega (arith, size, legs.count)))));
     drains = λ k mark next last is at_next at_last. (
         let size = slice_get_within b.marks (k + 2) last at_last in
         let two : (k + 1) + 1 ≡ k + 2 = omega arith in

@@ -4,7 +4,6 @@ use Rattle.std.specs.Prelude.{Option, None}
 use Rattle.std.specs.List.{AllByRecursion}
 use Rattle.std.proofs.lemmas.Bool.Decides.{eqb_tells}
 use Rattle.session_value.specs.Sessions.{SessionValue}
-use Rattle.graft_actors.specs.Emissions.{Tally}
 use Rattle.graft_model.specs.Codes.{router_code}
 use Rattle.graft_model.specs.Points.{at}
 use Rattle.graft_model.specs.Setups.{Setup}
@@ -13,7 +12,7 @@ use Rattle.graft_model.specs.RouterRows.{RouterTaken, RouterSent, IsLive}
 use Rattle.graft_model.specs.declared.event.RouterEvent.{RouterEvent}
 use Rattle.graft_model.specs.declared.event.RouterEvent.TheVariants.{Put, Emit, Arrive, Got, Decide, Tell, Hear, Admit, Refuse, Freeze, Leave, Land, Return, Clear, Ask, Collect, Confirm, Tick}
 use Rattle.graft_model.specs.Steps.{router_row}
-use Rattle.router_core.specs.Rounds.{RouterRound, router_tally}
+use Rattle.router_core.specs.Rounds.{RouterGoes}
 use Rattle.router_core.specs.Turned.{rounds_on}
 use Rattle.real_rounds.specs.Routers.{HasLive}
 
@@ -86,16 +85,20 @@ live_before setup r _ a b taken sent row calm p live = same_at a b p (ap (λ (x 
 
 -- ---- several events
 
-pub live_start : (setup : Setup) (r : ℕ) (a b : RouterPart) (t u : ℕ → Tally) (es : List RouterEvent) → RouterRound setup r a t es b u → AllByRecursion LandsNobody es → (p : ℕ) → HasLive p b → HasLive p a
-live_start setup r a b t u [] h calm p live = same_at a b p (ap (λ (x : RouterPart). x.places p) h.0) live
-live_start setup r a b t u (e ∷ es) (taken, sent, m, row, careful, rest) calm p live =
-    live_before setup r e a m taken sent row calm.0 p (live_start setup r m b (router_tally a e t) u es rest calm.1 p live)
+pub live_start : (Allowed : RouterPart → RouterEvent → Type 0) (setup : Setup) (r : ℕ) (a b : RouterPart) (es : List RouterEvent) (ms : List RouterPart) → RouterGoes setup r Allowed a es ms b → AllByRecursion LandsNobody es → (p : ℕ) → HasLive p b
+    → HasLive p a
+live_start Allowed setup r a b [] [] h calm p live = same_at a b p (ap (λ (x : RouterPart). x.places p) h) live
+live_start Allowed setup r a b [] (m ∷ ms) h calm p live = absurd h
+live_start Allowed setup r a b (e ∷ es) [] h calm p live = absurd h
+live_start Allowed setup r a b (e ∷ es) (m ∷ ms) (taken, sent, row, allowed, rest) calm p live = live_before setup r e a m taken sent row calm.0 p (live_start Allowed setup r m b es ms rest calm.1 p live)
 
 -- on a session that isn't live no round passes
-pub no_rounds_there : (setup : Setup) (r : ℕ) (a b : RouterPart) (t u : ℕ → Tally) (es : List RouterEvent) → RouterRound setup r a t es b u → AllByRecursion LandsNobody es → (p : ℕ) → ¬ HasLive p a → rounds_on p es ≡ []
-no_rounds_there setup r a b t u [] h calm p absent = refl
-no_rounds_there setup r a b t u (e ∷ es) (taken, sent, m, row, careful, rest) calm p absent =
-    one e row ∙ no_rounds_there setup r m b (router_tally a e t) u es rest calm.1 p (λ live. absent (live_before setup r e a m taken sent row calm.0 p live))
+pub no_rounds_there : (Allowed : RouterPart → RouterEvent → Type 0) (setup : Setup) (r : ℕ) (a b : RouterPart) (es : List RouterEvent) (ms : List RouterPart) → RouterGoes setup r Allowed a es ms b → AllByRecursion LandsNobody es → (p : ℕ)
+    → ¬ HasLive p a → rounds_on p es ≡ []
+no_rounds_there Allowed setup r a b [] ms h calm p absent = refl
+no_rounds_there Allowed setup r a b (e ∷ es) [] h calm p absent = absurd h
+no_rounds_there Allowed setup r a b (e ∷ es) (m ∷ ms) (taken, sent, row, allowed, rest) calm p absent =
+    one e row ∙ no_rounds_there Allowed setup r m b es ms rest calm.1 p (λ live. absent (live_before setup r e a m taken sent row calm.0 p live))
   where
     one : (event : RouterEvent) → router_row setup r event a taken sent m → rounds_on p (event ∷ es) ≡ rounds_on p es
     one (Tick q round) row = elim (eqb_tells q p) [

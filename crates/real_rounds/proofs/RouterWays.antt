@@ -1,40 +1,67 @@
 -- The events of a router, one after another, through its parts.
-use Rattle.std.proofs.Common.{ℕ, List, [], ◌∷◌, ◌++◌, subst}
+use Rattle.std.proofs.Common.{◌≡◌, ◌∙◌, ℕ, List, [], ◌∷◌, ◌++◌, refl, ap, subst, arith}
 use Rattle.std.proofs.Math.Path.{subst⁻¹}
 use Rattle.std.specs.List.{AllByRecursion}
-use Rattle.graft_actors.specs.Emissions.{Tally}
 use Rattle.graft_model.specs.Parts.{RouterPart}
 use Rattle.graft_model.specs.Setups.{Setup}
 use Rattle.graft_model.specs.declared.event.RouterEvent.{RouterEvent}
-use Rattle.router_core.specs.Rounds.{RouterRound, router_tally}
-use Rattle.real_rounds.specs.Routers.{RouterGoes}
+use Rattle.graft_model.specs.declared.event.RouterEvent.TheVariants.{Emit, Tick}
+use Rattle.router_core.specs.Rounds.{RouterGoes, SendsOld}
+use Rattle.router_core.specs.Turned.{Takes, round_on, rounds_on}
 use Rattle.real_rounds.proofs.Lists.{all_front, all_back}
 
--- the parts of a round, named
-pub goes_of : (setup : Setup) (r : ℕ) (a b : RouterPart) (t u : ℕ → Tally) (es : List RouterEvent) → RouterRound setup r a t es b u → (parts : List RouterPart) × RouterGoes setup r a t es parts b u
-goes_of setup r a b t u [] h = ([], h)
-goes_of setup r a b t u (e ∷ es) (taken, sent, m, row, careful, rest) =
-    let more = goes_of setup r m b (router_tally a e t) u es rest in (m ∷ more.0, (taken, sent, row, careful, more.1))
+-- whatever a stage allows
+abbrev pub Anything : RouterPart → RouterEvent → Type 0
+Anything part event = Unit {0}
 
-pub goes_append : (setup : Setup) (r : ℕ) (a b c : RouterPart) (t u w : ℕ → Tally) (es fs : List RouterEvent) (ms ns : List RouterPart) → RouterGoes setup r a t es ms b u → RouterGoes setup r b u fs ns c w
-    → RouterGoes setup r a t (es ++ fs) (ms ++ ns) c w
-goes_append setup r a b c t u w [] fs [] ns h k = subst (λ (x : RouterPart). RouterGoes setup r x t fs ns c w) h.0 (subst (λ (x : ℕ → Tally). RouterGoes setup r b x fs ns c w) h.1 k)
-goes_append setup r a b c t u w [] fs (m ∷ ms) ns h k = absurd h
-goes_append setup r a b c t u w (e ∷ es) fs [] ns h k = absurd h
-goes_append setup r a b c t u w (e ∷ es) fs (m ∷ ms) ns (taken, sent, row, careful, rest) k =
-    (taken, sent, row, careful, goes_append setup r m b c (router_tally a e t) u w es fs ms ns rest k)
+pub goes_anyhow : (Allowed : RouterPart → RouterEvent → Type 0) (setup : Setup) (r : ℕ) (a b : RouterPart) (es : List RouterEvent) (ms : List RouterPart) → RouterGoes setup r Allowed a es ms b → RouterGoes setup r Anything a es ms b
+goes_anyhow Allowed setup r a b [] [] h = h
+goes_anyhow Allowed setup r a b [] (m ∷ ms) h = absurd h
+goes_anyhow Allowed setup r a b (e ∷ es) [] h = absurd h
+goes_anyhow Allowed setup r a b (e ∷ es) (m ∷ ms) (taken, sent, row, allowed, rest) = (taken, sent, row, tt, goes_anyhow Allowed setup r m b es ms rest)
+
+pub goes_append : (Allowed : RouterPart → RouterEvent → Type 0) (setup : Setup) (r : ℕ) (a b c : RouterPart) (es fs : List RouterEvent) (ms ns : List RouterPart) → RouterGoes setup r Allowed a es ms b → RouterGoes setup r Allowed b fs ns c
+    → RouterGoes setup r Allowed a (es ++ fs) (ms ++ ns) c
+goes_append Allowed setup r a b c [] fs [] ns h k = subst (λ (x : RouterPart). RouterGoes setup r Allowed x fs ns c) h k
+goes_append Allowed setup r a b c [] fs (m ∷ ms) ns h k = absurd h
+goes_append Allowed setup r a b c (e ∷ es) fs [] ns h k = absurd h
+goes_append Allowed setup r a b c (e ∷ es) fs (m ∷ ms) ns (taken, sent, row, allowed, rest) k = (taken, sent, row, allowed, goes_append Allowed setup r m b c es fs ms ns rest k)
 
 -- ---- what holds of each part
 
-holds_last : (P : RouterPart → Type 0) (setup : Setup) (r : ℕ) (a b : RouterPart) (t u : ℕ → Tally) (es : List RouterEvent) (ms : List RouterPart) → RouterGoes setup r a t es ms b u → AllByRecursion P (a ∷ ms) → P b
-holds_last P setup r a b t u [] [] h all = subst⁻¹ P h.0 all.0
-holds_last P setup r a b t u [] (m ∷ ms) h all = absurd h
-holds_last P setup r a b t u (e ∷ es) [] h all = absurd h
-holds_last P setup r a b t u (e ∷ es) (m ∷ ms) h all = holds_last P setup r m b (router_tally a e t) u es ms h.4 all.1
+holds_last : (P : RouterPart → Type 0) (Allowed : RouterPart → RouterEvent → Type 0) (setup : Setup) (r : ℕ) (a b : RouterPart) (es : List RouterEvent) (ms : List RouterPart) → RouterGoes setup r Allowed a es ms b → AllByRecursion P (a ∷ ms) → P b
+holds_last P Allowed setup r a b [] [] h all = subst⁻¹ P h all.0
+holds_last P Allowed setup r a b [] (m ∷ ms) h all = absurd h
+holds_last P Allowed setup r a b (e ∷ es) [] h all = absurd h
+holds_last P Allowed setup r a b (e ∷ es) (m ∷ ms) h all = holds_last P Allowed setup r m b es ms h.4 all.1
 
 -- of two pieces, each has it throughout
-pub through_both : (P : RouterPart → Type 0) (setup : Setup) (r : ℕ) (a b : RouterPart) (t u : ℕ → Tally) (es : List RouterEvent) (ms ns : List RouterPart) → RouterGoes setup r a t es ms b u → AllByRecursion P (a ∷ (ms ++ ns))
-    → AllByRecursion P (a ∷ ms) × AllByRecursion P (b ∷ ns)
-through_both P setup r a b t u es ms ns h all =
+pub through_both : (P : RouterPart → Type 0) (Allowed : RouterPart → RouterEvent → Type 0) (setup : Setup) (r : ℕ) (a b : RouterPart) (es : List RouterEvent) (ms ns : List RouterPart) → RouterGoes setup r Allowed a es ms b
+    → AllByRecursion P (a ∷ (ms ++ ns)) → AllByRecursion P (a ∷ ms) × AllByRecursion P (b ∷ ns)
+through_both P Allowed setup r a b es ms ns h all =
     let first : AllByRecursion P (a ∷ ms) = (all.0, all_front P ms ns all.1) in
-    (first, (holds_last P setup r a b t u es ms h first, all_back P ms ns all.1))
+    (first, (holds_last P Allowed setup r a b es ms h first, all_back P ms ns all.1))
+
+-- ---- where no round passes
+
+taking_quiet : (part : RouterPart) (event : RouterEvent) → Takes part event → (p : ℕ) → round_on p event ≡ []
+taking_quiet part (Tick q round) takes p = absurd (omega (arith, takes))
+taking_quiet part _ takes p = refl
+
+sending_quiet : (part : RouterPart) (event : RouterEvent) → SendsOld part event → (p : ℕ) → round_on p event ≡ []
+sending_quiet part (Emit q from len) sends p = refl
+sending_quiet part _ sends p = absurd sends
+
+none_pass : (Allowed : RouterPart → RouterEvent → Type 0) → ((part : RouterPart) (event : RouterEvent) → Allowed part event → (p : ℕ) → round_on p event ≡ []) → (setup : Setup) (r : ℕ) (a b : RouterPart) (es : List RouterEvent) (ms : List RouterPart)
+    → RouterGoes setup r Allowed a es ms b → (p : ℕ) → rounds_on p es ≡ []
+none_pass Allowed quiet setup r a b [] ms h p = refl
+none_pass Allowed quiet setup r a b (e ∷ es) [] h p = absurd h
+none_pass Allowed quiet setup r a b (e ∷ es) (m ∷ ms) (taken, sent, row, allowed, rest) p = ap (λ (xs : List ℕ). xs ++ rounds_on p es) (quiet a e allowed p) ∙ none_pass Allowed quiet setup r m b es ms rest p
+
+-- while items are taken
+pub none_taking : (setup : Setup) (r : ℕ) (a b : RouterPart) (es : List RouterEvent) (ms : List RouterPart) → RouterGoes setup r Takes a es ms b → (p : ℕ) → rounds_on p es ≡ []
+none_taking = none_pass Takes taking_quiet
+
+-- while old slices are sent again
+pub none_sending : (setup : Setup) (r : ℕ) (a b : RouterPart) (es : List RouterEvent) (ms : List RouterPart) → RouterGoes setup r SendsOld a es ms b → (p : ℕ) → rounds_on p es ≡ []
+none_sending = none_pass SendsOld sending_quiet

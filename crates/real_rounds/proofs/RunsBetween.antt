@@ -1,12 +1,11 @@
 -- What a net did at a mark, and in a round, is a run of the world, from whichever it was seen as.
-use Rattle.std.proofs.Common.{◌≡◌, ◌≢◌, ◌≤◌, ◌<◌, ◌-◌, ◌∙◌, ℕ, zero, suc, Bool, true, false, List, [], ◌∷◌, ◌++◌, ◌==◌, if◌then◌else◌, length, map, take, drop, refl, ap, sym, subst, inl, inr, arith, append_assoc, take_at}
+use Rattle.std.proofs.Common.{◌≡◌, ◌≢◌, ◌≤◌, ◌<◌, ◌-◌, ◌∙◌, ℕ, zero, suc, Bool, true, false, List, [], ◌∷◌, ◌++◌, ◌==◌, if◌then◌else◌, length, map, take, drop, refl, ap, sym, subst, inl, inr, arith, take_at}
 use Rattle.std.specs.Prelude.{◌⊎◌, Some}
 use Rattle.std.specs.List.{AllByRecursion}
 use Rattle.std.proofs.Math.Path.{subst⁻¹}
 use Rattle.std.proofs.Math.Seq.{drop-append_seam}
 use Rattle.std.proofs.lemmas.Bool.Decides.{nat_tests}
-use Rattle.std.proofs.lemmas.List.{append-nil, length-map}
-use Rattle.std.proofs.lemmas.List.Elements.{filter-append}
+use Rattle.std.proofs.lemmas.List.{length-map}
 use Rattle.ring_net.specs.declared.entry.JournalEntry.{JournalEntry}
 use Rattle.ring_net.specs.Deeds.{Deed, Noted, IsOwn, deeds, noted, entries_of}
 use Rattle.ring_net.specs.Phases.{View, Phase, Between}
@@ -21,7 +20,7 @@ use Rattle.graft_model.specs.Parts.{World}
 use Rattle.graft_model.specs.Quiet.{Quiet}
 use Rattle.graft_model.specs.Steps.{Event, Run}
 use Rattle.graft_laws.specs.Keeps.{Reached}
-use Rattle.graft_laws.proofs.Runs.{run_more, with_events, reached_more, reached_run}
+use Rattle.graft_laws.proofs.Runs.{reached_more, reached_run}
 use Rattle.graft_runs.specs.Actors as names
 use Rattle.graft_runs.specs.Laws.{IsGo, AreEntriesOf}
 use Rattle.graft_runs.proofs.Numbers.{at_operator}
@@ -35,6 +34,8 @@ use Rattle.world_nodes.specs.Nodes.{Mail, own, took, turned, paused}
 use Rattle.world_nodes.specs.Ways.{Stand, Pause}
 use Rattle.world_nodes.specs.declared.node.Node.{Node}
 use Rattle.world_nodes.proofs.WayRuns.{round_no_go, pause_few}
+use Rattle.real_rounds.proofs.Chain.{run_join}
+use Rattle.real_rounds.proofs.Joins.{below_or_past, IsAhead, all_each, merge_join}
 use Rattle.real_rounds.proofs.Slices.{entries_in_deeds}
 
 -- ---- entries behind a mark
@@ -111,35 +112,24 @@ merge_between journals first new last merged merge whole = (
     ahead : Interleaves (λ k. take (length (first k ++ new k)) (journals k)) (upto (λ k. length (first k ++ new k)) merged)
     ahead = merged_upto journals merged (λ k. length (first k ++ new k)) merge
 
--- what holds of each actor's entries holds of all
-all_each : (P : JournalEntry → Type 0) (es : List JournalEntry) → ((k : ℕ) → AllByRecursion P (entries_by k es)) → AllByRecursion P es
-all_each P [] each = tt
-all_each P (e ∷ es) each = ((subst (λ (xs : List JournalEntry). AllByRecursion P xs) (by_here e.actor e es refl) (each e.actor)).0, all_each P es rest)
-  where
-    rest : (k : ℕ) → AllByRecursion P (entries_by k es)
-    rest k = elim (equal_or_not e.actor k) [
-      | inl s ↦ (subst (λ (xs : List JournalEntry). AllByRecursion P xs) (by_here k e es s) (each k)).1
-      | inr ne ↦ subst (λ (xs : List JournalEntry). AllByRecursion P xs) (by_else k e es ne) (each k)
-    ]
-
 -- ---- runs from a world that a net is seen as
 
--- What a net did between two moments is a run from this world to one that it is seen as then.
-pub record RunFrom (setup : Setup) (w : World) (u v : View Node Mail) : Type 0 where
+-- What a net did between two moments, in which its journals got these entries, is a run from this world to one that it is seen as then: its events are those of the merged entries.
+pub record RunFrom (setup : Setup) (w : World) (v : View Node Mail) (new : ℕ → List JournalEntry) : Type 0 where
   pub events : List Event
   pub entries : List JournalEntry
+  pub merged : Interleaves new entries
   pub entries_of : AreEntriesOf setup events entries
-  pub journals : (k : ℕ) → v.journal k ≡ u.journal k ++ entries_by k entries
   pub after : World
   pub run : Run setup w events after
   pub seen : IsSeenAs own carried setup v after
 
 -- the same from each world that it was seen as
-abbrev pub HasRuns : Setup → View Node Mail → View Node Mail → Type 0
-HasRuns setup u v = (w : World) → length u.actors ≡ actors_in setup → Reached setup w → IsSeenAs own carried setup u w → RunFrom setup w u v
+abbrev pub HasRuns : Setup → View Node Mail → View Node Mail → (ℕ → List JournalEntry) → Type 0
+HasRuns setup u v new = (w : World) → length u.actors ≡ actors_in setup → Reached setup w → IsSeenAs own carried setup u w → RunFrom setup w v new
 
-pub stays : (setup : Setup) (v : View Node Mail) → HasRuns setup v v
-stays setup v w size reached seen = record { events = []; entries = []; entries_of = tt; journals = λ k. sym (append-nil (v.journal k)); after = w; run = refl; seen = seen }
+pub stays : (setup : Setup) (v : View Node Mail) → HasRuns setup v v (λ k. [])
+stays setup v w size reached seen = record { events = []; entries = []; merged = record { each = λ k. refl; sorted = tt }; entries_of = tt; after = w; run = refl; seen = seen }
 
 entries_join : (setup : Setup) (first second : List Event) (xs ys : List JournalEntry) → AreEntriesOf setup first xs → AreEntriesOf setup second ys → AreEntriesOf setup (first ++ second) (xs ++ ys)
 entries_join setup [] second [] ys are more = more
@@ -147,22 +137,21 @@ entries_join setup [] second (x ∷ xs) ys are more = absurd are
 entries_join setup (event ∷ first) second [] ys are more = absurd are
 entries_join setup (event ∷ first) second (x ∷ xs) ys are more = (are.0, entries_join setup first second xs ys are.1 more)
 
-pub run_then : (setup : Setup) (w : World) (u v t : View Node Mail) (x : RunFrom setup w u v) → RunFrom setup x.after v t → RunFrom setup w u t
-run_then setup w u v t x y = record {
+pub run_then : (setup : Setup) (w : World) (v t : View Node Mail) (first second : ℕ → List JournalEntry) → IsAhead first second → (x : RunFrom setup w v first) → RunFrom setup x.after t second → RunFrom setup w t (λ k. first k ++ second k)
+run_then setup w v t first second ahead x y = record {
   events = x.events ++ y.events;
   entries = x.entries ++ y.entries;
+  merged = merge_join first second x.entries y.entries ahead x.merged y.merged;
   entries_of = entries_join setup x.events y.events x.entries y.entries x.entries_of y.entries_of;
-  journals = λ k. y.journals k ∙ ap (λ (es : List JournalEntry). es ++ entries_by k y.entries) (x.journals k) ∙ append_assoc (u.journal k) (entries_by k x.entries) (entries_by k y.entries)
-      ∙ ap (λ (es : List JournalEntry). u.journal k ++ es) (sym (filter-append (λ (e : JournalEntry). e.actor == k) x.entries y.entries));
   after = y.after;
-  run = with_events setup (λ (es : List Event) (m : World). Run setup w es m) w (λ done event before after run step same. run_more setup done event w before after run step) x.events y.events x.after y.after x.run y.run x.run;
+  run = run_join setup w x.after y.after x.events y.events x.run y.run;
   seen = y.seen;
 }
 
-pub runs_then : (setup : Setup) (u v t : View Node Mail) → length v.actors ≡ length u.actors → HasRuns setup u v → HasRuns setup v t → HasRuns setup u t
-runs_then setup u v t same x y w size reached seen =
-    let first : RunFrom setup w u v = x w size reached seen in
-    run_then setup w u v t first (y first.after (same ∙ size) (reached_run setup first.events w first.after reached first.run) first.seen)
+pub runs_then : (setup : Setup) (u v t : View Node Mail) (first second : ℕ → List JournalEntry) → IsAhead first second → length v.actors ≡ length u.actors → HasRuns setup u v first → HasRuns setup v t second → HasRuns setup u t (λ k. first k ++ second k)
+runs_then setup u v t first second ahead same x y w size reached seen =
+    let before : RunFrom setup w v first = x w size reached seen in
+    run_then setup w v t first second ahead before (y before.after (same ∙ size) (reached_run setup before.events w before.after reached before.run) before.seen)
 
 -- ---- a piece of what a net did
 
@@ -174,12 +163,12 @@ module _ (setup : Setup) (u v : View Node Mail) (levels : List ℕ) (notes : ℕ
   piece_entries : map (λ (d : Deed Mail). d.entry) (deeds piece.events) ≡ entries
   piece_entries = entries_in_deeds piece.events ∙ piece.same
 
-  run_of_piece : IsRunOfLab carried setup w (map (λ (d : Deed Mail). d.entry) (deeds piece.events)) piece.last → RunFrom setup w u v
+  run_of_piece : IsRunOfLab carried setup w (map (λ (d : Deed Mail). d.entry) (deeds piece.events)) piece.last → RunFrom setup w v (λ k. entries_of (notes k))
   run_of_piece r = record {
     events = r.events;
     entries = entries;
+    merged = merge;
     entries_of = subst (AreEntriesOf setup r.events) piece_entries r.entries_of;
-    journals = λ k. grew.journals k ∙ ap (λ (es : List JournalEntry). u.journal k ++ es) (sym (merge.each k));
     after = r.after;
     run = r.run;
     seen = record { lab = piece.last; is = piece.is; sees = r.lab };
@@ -199,11 +188,9 @@ deeds_in_round : (setup : Setup) (ds : List (Deed Mail)) → AllByRecursion (IsI
 deeds_in_round setup [] all = (tt, tt)
 deeds_in_round setup (d ∷ ds) all = let rest = deeds_in_round setup ds all.1 in ((all.0.0, rest.0), (all.0.1, rest.1))
 
-below_or_past : (k n : ℕ) → (k < n) ⊎ (n ≤ k)
-below_or_past k n = grind arith
-
 -- what a round did is a run, by the merge of its entries
-pub phase_runs : (setup : Setup) → IsSetup setup → ActsAreARun carried → (d : Node) (u v : View Node Mail) (phase : Phase own (acts carried) took turned u v) (entries : List JournalEntry) → Interleaves (λ k. entries_of (phase.notes k)) entries → HasRuns setup u v
+pub phase_runs : (setup : Setup) → IsSetup setup → ActsAreARun carried → (d : Node) (u v : View Node Mail) (phase : Phase own (acts carried) took turned u v) (entries : List JournalEntry) → Interleaves (λ k. entries_of (phase.notes k)) entries
+    → HasRuns setup u v (λ k. entries_of (phase.notes k))
 phase_runs setup sound law d u v phase entries merge w size reached seen =
     run_of_piece setup u v [] phase.notes grew entries merge w seen (law setup seen.lab done.last (deeds done.events) w sound reached seen.sees alone.0 alone.1 done.run)
   where
@@ -262,8 +249,21 @@ few_run setup sound step law n x is lab last (d ∷ []) w reached is_lab quiet o
     record { events = s.event ∷ r.events; entries_of = (s.entry_of, r.entries_of); after = r.after; run = (s.after, s.step, r.run); lab = r.lab }
 few_run setup sound step law n x is lab last (d ∷ other ∷ ds) w reached is_lab quiet owned few run = absurd (omega (arith, few))
 
+-- at a mark all clocks are level, and then at that of what the operator did
+abbrev pub pause_levels : (setup : Setup) (b c : Stand) → Pause (operator_in setup) b c true → List ℕ
+pause_levels setup b c pause = pause.levelled.clock ∷ pause.between.from ∷ pause.between.to ∷ []
+
+abbrev pub pause_notes : (setup : Setup) (b c : Stand) → Pause (operator_in setup) b c true → ℕ → List (Noted Mail)
+pause_notes setup b c pause = at_mark own (acts carried) (operator_in setup) pause.between.deeds
+
+pub pause_grew : (setup : Setup) (b c : Stand) (pause : Pause (operator_in setup) b c true) → length b.view.actors ≡ actors_in setup → Grew own (acts carried) b.view c.view (pause_levels setup b c pause) (pause_notes setup b c pause)
+pause_grew setup b c pause size = grows_on own (acts carried) b.view pause.level c.view (pause.levelled.clock ∷ []) (pause.between.from ∷ pause.between.to ∷ []) (λ k. []) (pause_notes setup b c pause)
+    (level_grows own (acts carried) b.view pause.level pause.levelled)
+    (between_grows own (acts carried) paused pause.level c.view (operator_in setup) true (omega (arith, size, ap (λ (xs : List Node). length xs) pause.levelled.only.actors)) pause.between)
+
 -- what the operator did at a mark, in a quiet world, is a run
-pub pause_runs : (setup : Setup) → IsSetup setup → AnActIsAStep carried → ActsAreARun carried → (d : Node) (b c : Stand) → QuietAt own carried setup b.view → Pause (operator_in setup) b c true → HasRuns setup b.view c.view
+pub pause_runs : (setup : Setup) → IsSetup setup → AnActIsAStep carried → ActsAreARun carried → (d : Node) (b c : Stand) → QuietAt own carried setup b.view → (pause : Pause (operator_in setup) b c true)
+    → HasRuns setup b.view c.view (λ k. entries_of (pause_notes setup b c pause k))
 pause_runs setup sound step law d b c quiet pause w size reached seen =
     run_of_piece setup b.view c.view levels notes grew entries merge w seen
     (few_run setup sound step law (operator_in setup) names.Operator (at_operator setup) seen.lab done.last (deeds done.events) w reached seen.sees (quiet w seen reached)
@@ -274,10 +274,10 @@ pause_runs setup sound step law d b c quiet pause w size reached seen =
     did = pause.between
 
     levels : List ℕ
-    levels = pause.levelled.clock ∷ did.from ∷ did.to ∷ []
+    levels = pause_levels setup b c pause
 
     notes : ℕ → List (Noted Mail)
-    notes = at_mark own (acts carried) (operator_in setup) did.deeds
+    notes = pause_notes setup b c pause
 
     entries : List JournalEntry
     entries = map (λ (x : Deed Mail). x.entry) did.deeds
@@ -285,12 +285,8 @@ pause_runs setup sound step law d b c quiet pause w size reached seen =
     few : length did.deeds ≤ 1
     few = pause_few _ _ did.deeds (did.paused d)
 
-    in_level : operator_in setup < length pause.level.actors
-    in_level = omega (arith, size, ap (λ (xs : List Node). length xs) pause.levelled.only.actors)
-
     grew : Grew own (acts carried) b.view c.view levels notes
-    grew = grows_on own (acts carried) b.view pause.level c.view (pause.levelled.clock ∷ []) (did.from ∷ did.to ∷ []) (λ k. []) notes (level_grows own (acts carried) b.view pause.level pause.levelled)
-        (between_grows own (acts carried) paused pause.level c.view (operator_in setup) true in_level did)
+    grew = pause_grew setup b c pause size
 
     merge : Interleaves (λ k. entries_of (notes k)) entries
     merge = merge_at_mark (operator_in setup) did.deeds did.own few

@@ -31,17 +31,16 @@ use Rattle.graft_model.specs.declared.event.RouterEvent.TheVariants as events
 use Rattle.graft_model.specs.declared.event.RouterEvent.{RouterEvent}
 use Rattle.graft_model.specs.declared.event.RouterEvent.TheVariants.{Emit, Arrive, Decide, Tell, Hear, Admit, Refuse, Freeze, Leave, Land, Return, Clear, Ask, Answer, Collect, Confirm}
 use Rattle.graft_model.specs.Steps.{router_row}
-use Rattle.graft_actors.specs.Emissions.{Tally, nothing}
 use Rattle.bgp_session.specs.Steps.{MayPass}
 use Rattle.router_core.specs.Parts.{router_part}
 use Rattle.router_core.specs.Places.{place_of}
-use Rattle.router_core.specs.Rounds.{router_tally}
-use Rattle.router_core.specs.Turned.{IsNoPut, NoPuts, round_on, rounds_on}
+use Rattle.router_core.specs.Rounds.{RouterGoes}
+use Rattle.router_core.specs.Turned.{Takes, stage_of}
 use Rattle.real_rounds.proofs.Calls.{CallsSay}
-use Rattle.real_rounds.specs.Routers.{RouterGoes, HasLive}
+use Rattle.real_rounds.specs.Routers.{HasLive}
 use Rattle.real_rounds.proofs.LegActors.{Ticking}
-use Rattle.real_rounds.proofs.RouterRounds.{turn_parts, runs_at}
-use Rattle.real_rounds.proofs.RouterWays.{through_both}
+use Rattle.real_rounds.proofs.RouterRounds.{turn_goes, runs_at}
+use Rattle.real_rounds.proofs.RouterWays.{Anything, through_both}
 
 -- ---- what an event does to a session that is live before and after it
 
@@ -49,8 +48,8 @@ pub data Step (event : RouterEvent) (p : ℕ) (s u : SessionValue) : Type 0 wher
   stays : u ≡ s → Step event p s u
   ends : (end : Endpoint) → u ≡ record s { end = end } → end.stream ≡ s.end.stream → Step event p s u
   gets : (bytes : List ℕ) → GetsFrame s bytes u → Step event p s u
-  puts : (update : Update) → PutsUpdate s update u → ¬ IsNoPut event → Step event p s u
-  passes : (round : ℕ) → PassesRound s round u → rounds_on p (event ∷ []) ≢ [] → Step event p s u
+  puts : (update : Update) → PutsUpdate s update u → stage_of event ≢ 0 → Step event p s u
+  passes : (round : ℕ) → PassesRound s round u → stage_of event ≢ 0 → Step event p s u
 
 same_live : (s u : SessionValue) (o q : Option Errand) → Live s o ≡ Live u q → u ≡ s
 same_live s u o q e = cc
@@ -118,7 +117,7 @@ pub step_of : (setup : Setup) (r : ℕ) (event : RouterEvent) (a b : RouterPart)
 step_of setup r (events.Put q zero) a b taken sent row p s u o w before ends_at = place_same (events.Put q zero) a b p s u o w before ends_at (ap (λ (x : RouterPart). x.places p) row.effect)
 step_of setup r (events.Put q (suc n)) a b taken sent row p s u o w before ends_at =
     changes (events.Put q (suc n)) a b q p row.session row.next s u row.errand row.errand o w row.live before ends_at (ap (λ (x : RouterPart). x.places) row.effect)
-    (λ e is to. puts (update_for row.attrs row.prefixes) (subst (λ (x : SessionValue). PutsUpdate x (update_for row.attrs row.prefixes) u) is (subst (λ (x : SessionValue). PutsUpdate row.session (update_for row.attrs row.prefixes) x) to row.puts)) (λ h. h))
+    (λ e is to. puts (update_for row.attrs row.prefixes) (subst (λ (x : SessionValue). PutsUpdate x (update_for row.attrs row.prefixes) u) is (subst (λ (x : SessionValue). PutsUpdate row.session (update_for row.attrs row.prefixes) x) to row.puts)) (λ h. absurd (omega (arith, h))))
 step_of setup r (Emit q from len) a b taken sent row p s u o w before ends_at =
     changes (Emit q from len) a b q p row.session (record row.session { end = row.end }) s u row.errand row.errand o w row.live before ends_at (ap (λ (x : RouterPart). x.places) row.effect)
     (λ e is to. ends row.end (sym to ∙ ap (λ (x : SessionValue). let y : SessionValue = record x { end = row.end } in y) is)
@@ -149,13 +148,7 @@ step_of setup r (Collect q) a b taken sent (inr row) p s u o w before ends_at = 
 step_of setup r (Confirm k) a b taken sent row p s u o w before ends_at = order_changes (Confirm k) a b row.peering p row.session s u _ None o w row.live before ends_at (ap (λ (x : RouterPart). x.places) row.effect)
 step_of setup r (events.Tick q round) a b taken sent row p s u o w before ends_at =
     changes (events.Tick q round) a b q p row.session row.next s u row.errand row.errand o w row.live before ends_at (ap (λ (x : RouterPart). x.places) row.follows.effect)
-    (λ e is to. passes round (subst (λ (x : SessionValue). PassesRound x round u) is (subst (λ (x : SessionValue). PassesRound row.session round x) to row.passes)) (there q e))
-  where
-    there : (q : ℕ) → p ≡ q → rounds_on p (events.Tick q round ∷ []) ≢ []
-    there q e = elim (eqb_tells q p) [
-      | inl same ↦ (λ none. absurd (let h : round ∷ [] ≡ [] = sym (rw (same.0) refl) ∙ none in cc))
-      | inr ne ↦ absurd (ne.1 (sym e))
-    ]
+    (λ e is to. passes round (subst (λ (x : SessionValue). PassesRound x round u) is (subst (λ (x : SessionValue). PassesRound row.session round x) to row.passes)) (λ h. absurd (omega (arith, h))))
 step_of setup r event a b taken sent row p s u o w before ends_at = place_same event a b p s u o w before ends_at (ap (λ (x : RouterPart). x.places p) row.stays)
 
 -- ---- a closed session stays closed
@@ -170,15 +163,15 @@ closed_step event p s u (gets bytes g) closed = absurd (g.unclosed closed)
 closed_step event p s u (puts update g is) closed = absurd (let h : Closed ≡ Established = sym closed ∙ g.established in cc)
 closed_step event p s u (passes round g is) closed = absurd (closed_up (state s) closed g.up)
 
-closed_on : (setup : Setup) (r : ℕ) (a b : RouterPart) (t v : ℕ → Tally) (es : List RouterEvent) (ms : List RouterPart) → RouterGoes setup r a t es ms b v → (p : ℕ) → AllByRecursion (HasLive p) (a ∷ ms) → (s u : SessionValue) (o w : Option Errand)
-    → IsLive a p s o → IsLive b p u w → state s ≡ Closed → state u ≡ Closed
-closed_on setup r a b t v [] [] goes p all s u o w before ends_at closed =
-    ap (λ (x : SessionValue). state x) (same_live s u o w (sym before.is ∙ ap (λ (x : RouterPart). x.places p) (sym goes.0) ∙ ends_at.is)) ∙ closed
-closed_on setup r a b t v [] (m ∷ ms) goes p all s u o w before ends_at closed = absurd goes
-closed_on setup r a b t v (e ∷ es) [] goes p all s u o w before ends_at closed = absurd goes
-closed_on setup r a b t v (e ∷ es) (m ∷ ms) goes p all s u o w before ends_at closed =
+closed_on : (Allowed : RouterPart → RouterEvent → Type 0) (setup : Setup) (r : ℕ) (a b : RouterPart) (es : List RouterEvent) (ms : List RouterPart) → RouterGoes setup r Allowed a es ms b → (p : ℕ) → AllByRecursion (HasLive p) (a ∷ ms)
+    → (s u : SessionValue) (o w : Option Errand) → IsLive a p s o → IsLive b p u w → state s ≡ Closed → state u ≡ Closed
+closed_on Allowed setup r a b [] [] goes p all s u o w before ends_at closed =
+    ap (λ (x : SessionValue). state x) (same_live s u o w (sym before.is ∙ ap (λ (x : RouterPart). x.places p) (sym goes) ∙ ends_at.is)) ∙ closed
+closed_on Allowed setup r a b [] (m ∷ ms) goes p all s u o w before ends_at closed = absurd goes
+closed_on Allowed setup r a b (e ∷ es) [] goes p all s u o w before ends_at closed = absurd goes
+closed_on Allowed setup r a b (e ∷ es) (m ∷ ms) goes p all s u o w before ends_at closed =
     let (x, y, live) = all.1.0 in
-    closed_on setup r m b (router_tally a e t) v es ms goes.4 p all.1 x u y w live ends_at (closed_step e p s x (step_of setup r e a m goes.0 goes.1 goes.2 p s x o y before live) closed)
+    closed_on Allowed setup r m b es ms goes.4 p all.1 x u y w live ends_at (closed_step e p s x (step_of setup r e a m goes.0 goes.1 goes.2 p s x o y before live) closed)
 
 -- ---- what is got
 
@@ -236,46 +229,38 @@ may_get s u bytes round g may unclosed =
     one_got : (round : ℕ) (bytes : List ℕ) → All (IsEarlier round) (Got bytes ∷ [])
     one_got round bytes = search rules
 
-may_step : (event : RouterEvent) (p : ℕ) (s u : SessionValue) (round : ℕ) → Step event p s u → IsNoPut event → rounds_on p (event ∷ []) ≡ [] → MayPass s round → state u ≢ Closed → MayPass u round
-may_step event p s u round (stays e) calm quiet may unclosed = subst⁻¹ (λ (x : SessionValue). MayPass x round) e may
-may_step event p s u round (ends end e stream) calm quiet may unclosed = subst⁻¹ (λ (x : SessionValue). MayPass x round) e
+may_step : (event : RouterEvent) (p : ℕ) (s u : SessionValue) (round : ℕ) → Step event p s u → stage_of event ≡ 0 → MayPass s round → state u ≢ Closed → MayPass u round
+may_step event p s u round (stays e) takes may unclosed = subst⁻¹ (λ (x : SessionValue). MayPass x round) e may
+may_step event p s u round (ends end e stream) takes may unclosed = subst⁻¹ (λ (x : SessionValue). MayPass x round) e
     (record { up = may.up; runs = may.runs; later = may.later; room = omega (arith, may.room, ap (λ (xs : List ℕ). length xs) stream) })
-may_step event p s u round (gets bytes g) calm quiet may unclosed = may_get s u bytes round g may unclosed
-may_step event p s u round (puts update g is) calm quiet may unclosed = absurd (is calm)
-may_step event p s u round (passes n g is) calm quiet may unclosed = absurd (is quiet)
+may_step event p s u round (gets bytes g) takes may unclosed = may_get s u bytes round g may unclosed
+may_step event p s u round (puts update g is) takes may unclosed = absurd (is takes)
+may_step event p s u round (passes n g is) takes may unclosed = absurd (is takes)
 
-no_round_first : (p : ℕ) (e : RouterEvent) (es : List RouterEvent) → rounds_on p (e ∷ es) ≡ [] → (rounds_on p (e ∷ []) ≡ []) × (rounds_on p es ≡ [])
-no_round_first p e es none = split (round_on p e) (rounds_on p es) none
-  where
-    split : (xs ys : List ℕ) → xs ++ ys ≡ [] → (xs ++ [] ≡ []) × (ys ≡ [])
-    split [] ys h = (refl, h)
-    split (x ∷ xs) ys h = absurd cc
-
-may_on : (setup : Setup) (r : ℕ) (a b : RouterPart) (t v : ℕ → Tally) (es : List RouterEvent) (ms : List RouterPart) (round : ℕ) → RouterGoes setup r a t es ms b v → NoPuts es → (p : ℕ) → rounds_on p es ≡ [] → AllByRecursion (HasLive p) (a ∷ ms)
+may_on : (setup : Setup) (r : ℕ) (a b : RouterPart) (es : List RouterEvent) (ms : List RouterPart) (round : ℕ) → RouterGoes setup r Takes a es ms b → (p : ℕ) → AllByRecursion (HasLive p) (a ∷ ms)
     → (s u : SessionValue) (o w : Option Errand) → IsLive a p s o → IsLive b p u w → state u ≢ Closed → MayPass s round → MayPass u round
-may_on setup r a b t v [] [] round goes calm p quiet all s u o w before ends_at unclosed may =
-    subst⁻¹ (λ (x : SessionValue). MayPass x round) (same_live s u o w (sym before.is ∙ ap (λ (x : RouterPart). x.places p) (sym goes.0) ∙ ends_at.is)) may
-may_on setup r a b t v [] (m ∷ ms) round goes calm p quiet all s u o w before ends_at unclosed may = absurd goes
-may_on setup r a b t v (e ∷ es) [] round goes calm p quiet all s u o w before ends_at unclosed may = absurd goes
-may_on setup r a b t v (e ∷ es) (m ∷ ms) round goes calm p quiet all s u o w before ends_at unclosed may =
+may_on setup r a b [] [] round goes p all s u o w before ends_at unclosed may =
+    subst⁻¹ (λ (x : SessionValue). MayPass x round) (same_live s u o w (sym before.is ∙ ap (λ (x : RouterPart). x.places p) (sym goes) ∙ ends_at.is)) may
+may_on setup r a b [] (m ∷ ms) round goes p all s u o w before ends_at unclosed may = absurd goes
+may_on setup r a b (e ∷ es) [] round goes p all s u o w before ends_at unclosed may = absurd goes
+may_on setup r a b (e ∷ es) (m ∷ ms) round goes p all s u o w before ends_at unclosed may =
     let (x, y, live) = all.1.0 in
-    let none = no_round_first p e es quiet in
-    may_on setup r m b (router_tally a e t) v es ms round goes.4 calm.1 p none.1 all.1 x u y w live ends_at unclosed
-    (may_step e p s x round (step_of setup r e a m goes.0 goes.1 goes.2 p s x o y before live) calm.0 none.0 may
-    (λ closed. unclosed (closed_on setup r m b (router_tally a e t) v es ms goes.4 p all.1 x u y w live ends_at closed)))
+    may_on setup r m b es ms round goes.4 p all.1 x u y w live ends_at unclosed
+    (may_step e p s x round (step_of setup r e a m goes.0 goes.1 goes.2 p s x o y before live) goes.3 may
+    (λ closed. unclosed (closed_on Takes setup r m b es ms goes.4 p all.1 x u y w live ends_at closed)))
 
 -- ---- the law of one round
 
-pub ticking : (law : CallsSay) → Ticking law
+pub ticking : (law : CallsSay) → Ticking
 ticking law x c ds ph n at earlier p s u stands starts ends_up room m o m_at =
-    let (parts, goes) = turn_parts law.turns x ph.mid c ph.first ph.second ph.takes ph.turns ph.calm n at in
-    let both = through_both (HasLive p) x.known.setup x.number.0 (router_part x) (router_part ph.mid) (λ p. nothing) (λ p. nothing) ph.takes.events ph.takes.moments parts ph.takes.goes stands.throughout in
+    let both = through_both (HasLive p) Takes x.known.setup x.number.0 (router_part x) (router_part ph.mid) ph.takes.events ph.takes.moments (ph.turns.first ++ ph.turns.later) ph.takes.goes stands.throughout in
     let (v, v_order, v_at, v_is) = runs_at x p s stands.first_order stands.starts in
     let number : c.turns ≡ n + 1 = omega (arith, ph.turns.turns, ph.takes.turns, at.turns) in
     let later : All (IsEarlier (n + 1)) s.story = subst (λ (y : SessionValue). All (IsEarlier (n + 1)) y.story) v_is (earlier p v v_order v_at) in
     let live : IsLive (router_part ph.mid) p m.session _ = record { is = ap place_of m_at.is } in
     let unclosed : state m.session ≢ Closed = λ closed. closed_up (state u)
-    (closed_on x.known.setup x.number.0 (router_part ph.mid) (router_part c) (λ p. nothing) ph.turns.tally ph.turns.events parts goes p both.1 m.session u _ stands.last_order live stands.ends closed) ends_up.up in
+    (closed_on Anything x.known.setup x.number.0 (router_part ph.mid) (router_part c) (ph.turns.again ++ ph.turns.work) (ph.turns.first ++ ph.turns.later)
+    (turn_goes law.turns x ph.mid c ph.first ph.second ph.takes ph.turns ph.calm n at) p both.1 m.session u _ stands.last_order live stands.ends closed) ends_up.up in
     subst⁻¹ (λ (k : ℕ). MayPass m.session k) number
-    (may_on x.known.setup x.number.0 (router_part x) (router_part ph.mid) (λ p. nothing) (λ p. nothing) ph.takes.events ph.takes.moments (n + 1) ph.takes.goes ph.takes.no_puts p (ph.takes.no_rounds p) both.0 s m.session stands.first_order _
+    (may_on x.known.setup x.number.0 (router_part x) (router_part ph.mid) ph.takes.events ph.takes.moments (n + 1) ph.takes.goes p both.0 s m.session stands.first_order _
     stands.starts live unclosed (record { up = starts.up; runs = starts.runs; later = later; room = room }))

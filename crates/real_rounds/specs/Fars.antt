@@ -9,12 +9,12 @@ use Rattle.tcp_seq.specs.declared.segment.Way.TheVariants.{Home, Remote}
 use Rattle.graft_model.specs.Setups.{Setup, beat_of}
 use Rattle.graft_model.specs.Parts.{FarPart}
 use Rattle.graft_model.specs.declared.event.FarEvent.{FarEvent}
-use Rattle.graft_model.specs.declared.event.FarEvent.TheVariants.{Say, Send, Take, Point, Beat}
-use Rattle.graft_actors.specs.Emissions.{Tally, nothing, IsRested}
+use Rattle.graft_model.specs.declared.event.FarEvent.TheVariants.{Say, Take, Point, Beat}
+use Rattle.graft_actors.specs.Emissions.{IsRested}
 use Rattle.far_side.specs.Links.{home_events, remote_events, left_of}
-use Rattle.far_side.specs.Turns.{FarRound}
+use Rattle.far_side.specs.Turns.{SendsOld, SendsNew, SendsAnswer, SendsNone, FarGoes}
 use Rattle.far_side.specs.declared.link.InLink.{InLink}
-use Rattle.real_rounds.specs.Ends.{IsFew, GoesOn}
+use Rattle.real_rounds.specs.Ends.{GoesOn}
 
 -- ---- kinds of events
 
@@ -22,16 +22,12 @@ abbrev pub is_take : FarEvent → Bool
 is_take (Take router) = true
 is_take event = false
 
--- one that takes an item
-abbrev pub IsTaking : FarEvent → Type 0
-IsTaking (Say step) = Unit {0}
-IsTaking (Take router) = Unit {0}
-IsTaking (Point router) = Unit {0}
-IsTaking event = ⊥
-
-abbrev pub IsSending : FarEvent → Type 0
-IsSending (Send from len) = Unit {0}
-IsSending event = ⊥
+-- it takes an item
+abbrev pub Takes : FarPart → FarEvent → Type 0
+Takes part (Say step) = Unit {0}
+Takes part (Take router) = Unit {0}
+Takes part (Point router) = Unit {0}
+Takes part event = ⊥
 
 -- ---- what lies in a link
 
@@ -80,40 +76,37 @@ Beats setup p round part events = (IsDue setup p round part × (events ≡ Beat 
 
 -- ---- a round
 
--- What is done in a turn, in this order: the links deliver, keep and lose by the plan, an old slice is sent again, the timer has the remote say a KEEPALIVE, all that is new is sent, and an owed
--- answer is given.
-pub record FarTurn (setup : Setup) (p round : ℕ) (part : FarPart) (pointer : ℕ) (home remote : List InLink) (events : List FarEvent) : Type 0 where
+-- The events of a far side's round, in this order: those of its takes; the links deliver, keep and lose by the plan; an old slice is sent again; the timer has the remote say a KEEPALIVE; all
+-- that is new is sent; and an owed answer is given. Each is by its row. At the end all is sent that may be. The round has this number, counted from 1.
+pub record RealFar (setup : Setup) (faults : List Fault) (p round : ℕ) (start : FarPart) (before : Links) (events : List FarEvent) (end : FarPart) (after : Links) : Type 0 where
+  pub taken : List FarEvent
   pub again : List FarEvent
   pub beats : List FarEvent
   pub fresh : List FarEvent
   pub answers : List FarEvent
-  pub is : events ≡ home_events pointer home ++ (remote_events remote ++ (again ++ (beats ++ (fresh ++ answers))))
-  pub sends : AllByRecursion IsSending again × AllByRecursion IsSending fresh × AllByRecursion IsSending answers
-  pub said : Beats setup p round part beats
-  -- how many segments it puts into the link to home
-  pub count : ℕ
-  pub count_is : count ≡ length again + (length fresh + length answers)
-
--- The events of a far side's round: those of its takes, and then its turn. Each is by its row, and each segment that is sent is an old slice, a new one or an owed answer (`FarRound`). At the end
--- all is sent that may be. The round has this number, counted from 1.
-pub record RealFar (setup : Setup) (faults : List Fault) (p round : ℕ) (start : FarPart) (before : Links) (events : List FarEvent) (end : FarPart) (after : Links) : Type 0 where
-  pub taken : List FarEvent
-  pub turn : List FarEvent
-  pub parts : events ≡ taken ++ turn
-  pub takes : AllByRecursion IsTaking taken
-  pub mid : FarPart
-  pub tally : Tally
-  pub first : FarRound setup p start nothing taken mid nothing
-  pub second : FarRound setup p mid nothing turn end tally
-  pub rested : IsRested end.end
-  pub few : IsFew tally
-  pub sends : GoesOn start.end end.end tally
-  -- segments that were taken in are put into the link to the remote before the turn, and those that the remote sends into the link to home in it
+  -- what was taken in is put into the link to the remote before the turn, and what the remote sends into the link to home in it
   pub took : List InLink
-  pub are_taken : ArePut faults p Remote before.remote.put (length (filter is_take taken)) took
-  pub turns : FarTurn setup p round mid end.pointer before.home.plans (before.remote.plans ++ took) turn
   pub sent : List InLink
-  pub are_sent : ArePut faults p Home before.home.put turns.count sent × PointAt end.pointer sent
+  pub is : events ≡ taken ++ (home_events end.pointer before.home.plans ++ (remote_events (before.remote.plans ++ took) ++ (again ++ (beats ++ (fresh ++ answers)))))
+  -- the parts behind its takes, and behind each piece of its turn
+  pub turning : FarPart
+  pub delivered : FarPart
+  pub resent : FarPart
+  pub said : FarPart
+  pub level : FarPart
+  pub takes : FarGoes setup p Takes start taken turning
+  pub delivers : FarGoes setup p SendsNone turning (home_events end.pointer before.home.plans ++ remote_events (before.remote.plans ++ took)) delivered
+  pub resends : FarGoes setup p SendsOld delivered again resent
+  pub says : FarGoes setup p SendsNone resent beats said
+  pub sends : FarGoes setup p SendsNew said fresh level
+  pub replies : FarGoes setup p SendsAnswer level answers end
+  pub due : Beats setup p round turning beats
+  pub rested : IsRested end.end
+  pub few : length again ≤ 1
+  pub goes_on : GoesOn start.end end.end (length again)
+  -- each segment has the fate of its number, and one that goes home knows the router at which the link pointed
+  pub are_taken : ArePut faults p Remote before.remote.put (length (filter is_take taken)) took
+  pub are_sent : ArePut faults p Home before.home.put (length again + (length fresh + length answers)) sent × PointAt end.pointer sent
   -- what is left of each link
-  pub home : after.home ≡ record { plans = left_of before.home.plans ++ sent; put = before.home.put + turns.count }
+  pub home : after.home ≡ record { plans = left_of before.home.plans ++ sent; put = before.home.put + (length again + (length fresh + length answers)) }
   pub remote : after.remote ≡ record { plans = left_of (before.remote.plans ++ took); put = before.remote.put + length (filter is_take taken) }

@@ -1,7 +1,8 @@
 -- All rounds of a run.
 use Rattle.std.specs.Prelude.{ℕ, ◌≡◌, ◌<◌, ◌≤◌, ◌+◌, List, length, min, Some, slice_get}
+use Rattle.std.specs.List.{flat_map, range_with_len}
 use Rattle.ring_net.specs.declared.entry.JournalEntry.{JournalEntry}
-use Rattle.journal_merge.specs.Merges.{entries_by}
+use Rattle.journal_merge.specs.Merges.{Interleaves}
 use Rattle.link_bag.specs.declared.plan.Fault.{Fault}
 use Rattle.graft_model.specs.Codes.{router_code, far_code, operator_code}
 use Rattle.graft_model.specs.Parts.{World}
@@ -13,7 +14,7 @@ use Rattle.graft_model.specs.declared.event.FarEvent.{FarEvent}
 use Rattle.graft_model.specs.declared.event.OperatorEvent.{OperatorEvent}
 use Rattle.graft_runs.specs.Actors.{ActorName, Router, FarSide, Operator, number_in, IsActor}
 use Rattle.graft_runs.specs.Laws.{AreEntriesOf}
-use Rattle.graft_runs.specs.Seen.{channel_of}
+use Rattle.graft_runs.specs.Seen.{channel_of, IsWithin}
 use Rattle.run_marks.specs.Marks.{IsWorldAtMark}
 use Rattle.real_rounds.specs.Entries.{between, AreCoded, taken_from}
 use Rattle.real_rounds.specs.Routers.{RealRouter, RealOperator}
@@ -46,12 +47,11 @@ pub record RealRound (setup : Setup) (faults : List Fault) (round : ℕ) (start 
   pub far_sides : (p : ℕ) → p < peerings_in setup → FarDid setup faults p round start (before p) slices end (after p)
   pub operator : OperatorDid setup start slices end
 
--- The entries of a round are those of a run from one world to another. Each actor's are its slice, in their order.
-pub record RoundGoes (setup : Setup) (start : World) (slices : Slices) (end : World) : Type 0 where
-  pub events : List Event
+-- The run of a round, from the world at a mark to that at the next one: its events are those of the entries that all actors noted between the two, by clock and actor.
+pub record RoundGoes (setup : Setup) (start : World) (slices : Slices) (events : List Event) (end : World) : Type 0 where
   pub entries : List JournalEntry
+  pub merged : Interleaves slices entries
   pub entries_of : AreEntriesOf setup events entries
-  pub of_actors : (k : ℕ) → entries_by k entries ≡ slices k
   pub run : Run setup start events end
 
 -- Of each channel, the lesser of 256 and what it holds at the start is taken in two rounds, at least.
@@ -61,16 +61,22 @@ Drains setup start one other = (x y : ActorName) → IsActor setup x → IsActor
 
 -- ---- all rounds
 
--- The rounds of a run between its marks, the first of which stands before all entries, by a plan of faults.
+-- the events of so many rounds, one round after another
+abbrev pub round_by_round : (ℕ → List Event) → ℕ → List Event
+round_by_round events n = flat_map events (range_with_len 0 n)
+
+-- The rounds of a run between its marks, the first of which stands before all entries, by a plan of faults: the world at each mark, and the events of the round behind it.
 pub record RealRounds (setup : Setup) (faults : List Fault) (journal : List JournalEntry) (marks : List (List ℕ)) : Type 0 where
   pub world : ℕ → World
+  pub events : ℕ → List Event
   pub links : (k p : ℕ) → Links
   pub worlds : (k : ℕ) (mark : List ℕ) → slice_get marks k ≡ Some mark → IsWorldAtMark setup journal mark (world k)
+  pub within : (k : ℕ) (mark : List ℕ) → slice_get marks k ≡ Some mark → IsWithin setup (world k)
   pub begins : (mark : List ℕ) → slice_get marks 0 ≡ Some mark → world 0 ≡ first_world setup
   pub empty : (p : ℕ) → links 0 p ≡ empty_links
   pub each : (k : ℕ) (mark next : List ℕ) → slice_get marks k ≡ Some mark → slice_get marks (k + 1) ≡ Some next
       → RealRound setup faults (k + 1) (world k) (links k) (between journal mark next) (world (k + 1)) (links (k + 1))
   pub goes : (k : ℕ) (mark next : List ℕ) → slice_get marks k ≡ Some mark → slice_get marks (k + 1) ≡ Some next
-      → RoundGoes setup (world k) (between journal mark next) (world (k + 1))
+      → RoundGoes setup (world k) (between journal mark next) (events k) (world (k + 1))
   pub drains : (k : ℕ) (mark next last : List ℕ) → slice_get marks k ≡ Some mark → slice_get marks (k + 1) ≡ Some next → slice_get marks (k + 2) ≡ Some last
       → Drains setup (world k) (between journal mark next) (between journal next last)

@@ -75,8 +75,7 @@ module _ (f : Fields) (p q : Post (Item RunningSession)) (from k : ℕ) (peering
           still = λ t. refl;
         })
         (λ t. did_same f f q t (same_router f) refl)
-        (λ n. refl)
-        (tt, tt)
+        (refl, tt)
         (all_stay f f refl)
         refl
         keeps
@@ -103,8 +102,7 @@ module _ (f : Fields) (p q : Post (Item RunningSession)) (from k : ℕ) (peering
           still = λ t. refl;
         })
         (λ t. did_same f f q t (same_router f) refl)
-        (λ n. refl)
-        (tt, tt)
+        (refl, tt)
         (all_stay f f refl)
         refl
         keeps
@@ -157,8 +155,7 @@ module _ (f : Fields) (p q : Post (Item RunningSession)) (from k : ℕ) (peering
             still = λ t. refl;
           })
           (λ t. did_same g g q t (same_router g) refl)
-          (λ n. refl)
-          (tt, tt)
+          (refl, tt)
           (λ n u v o w a b. stays_itself u v (elim (one_or_other peering.0 n) [
             | inl e ↦ live_same u v o w (sym a.is ∙ ap (place_at f.places.places) e ∙ is) (sym b.is ∙ ap (place_at g.places.places) e ∙ here f g peering.0 next_place inside same held)
             | inr not ↦ live_is f.places.places n u v o w a (record { is = sym (elsewhere f g peering.0 next_place inside same held n not) ∙ b.is })

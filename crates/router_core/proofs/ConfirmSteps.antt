@@ -77,8 +77,8 @@ module _ (f g : Fields) (p q : Post (Item RunningSession)) (n : ℕ) (s : Runnin
     asked = record {
       events = events.Ask landing.ids.graft k ∷ [];
       did = λ t. subst (λ (u : ℕ → Tally). Did f p t (events.Ask landing.ids.graft k ∷ []) g q u) (λ i m. sym (at_own t n (t n) refl m) i) (did_ask t);
-      no_puts = (tt, tt);
-      goes = (refl, subst (λ (x : Option Place). WordGoes x (place_at g.places.places n)) (sym is) (inl (k, here f g n (Some (Live s (Some (Asking (record landing { next = k }))))) there same items_are)));
+      at = (refl, tt);
+      goes = subst (λ (x : Option Place). WordGoes x (place_at g.places.places n)) (sym is) (inl (k, here f g n (Some (Live s (Some (Asking (record landing { next = k }))))) there same items_are));
       others = λ m not. (elsewhere f g n (Some (Live s (Some (Asking (record landing { next = k }))))) there same items_are m not, refl);
       same = same;
       keeps = keeps_at f g n (Some (Live s (Some (Asking (record landing { next = k }))))) there same items_are keeps (place_is.0, place_is.1, (landing_is, next_is.known), place_is.3);
@@ -121,8 +121,8 @@ module _ (f g : Fields) (p q : Post (Item RunningSession)) (n : ℕ) (s : Runnin
     confirmed = record {
       events = events.Confirm landing.ids.graft ∷ [];
       did = λ t. subst (λ (u : ℕ → Tally). Did f p t (events.Confirm landing.ids.graft ∷ []) g q u) (λ i k. sym (at_own t n (t n) refl k) i) (did_confirm t);
-      no_puts = (tt, tt);
-      goes = (refl, subst (λ (x : Option Place). WordGoes x (place_at g.places.places n)) (sym is) (inr (here f g n (Some (Live s None)) there same items_are)));
+      at = (refl, tt);
+      goes = subst (λ (x : Option Place). WordGoes x (place_at g.places.places n)) (sym is) (inr (here f g n (Some (Live s None)) there same items_are));
       others = λ k not. (elsewhere f g n (Some (Live s None)) there same items_are k not, refl);
       same = same;
       keeps = keeps_at f g n (Some (Live s None)) there same items_are keeps (place_is.0, place_is.1, tt, place_is.3);
@@ -145,7 +145,7 @@ ask_or_confirm ids named r e = let a : Ask named r ≡ Confirm ids = cc in absur
 module _ (f g : Fields) (p q : Post (Item RunningSession)) (n : ℕ) (x : Option Place) (keeps : Keeps f) (there : n < length f.places.places) (same : SameButPlaces f g) (items_are : g.places ≡ with_place f.places n x) where
   idle : (y : Option Place) → place_at f.places.places n ≡ y → x ≡ y → WordGoes y y → Visits confirming n f p g p
   idle y is x_is goes = visits_same f g n x there same items_are confirming p keeps (ap place_of (x_is ∙ sym is))
-      (refl, subst (λ (z : Option Place). WordGoes z x) (sym is) (subst (WordGoes y) (sym x_is) goes)) (λ t. refl) same
+      (subst (λ (z : Option Place). WordGoes z x) (sym is) (subst (WordGoes y) (sym x_is) goes)) (λ t. refl) same
       (subst (KeepsPlace f.known.setup f.number.0 n ((rib_of f.rib).entries n) (table_at f.due_out n)) (is ∙ sym x_is) (keeps.each n))
 
   pub says_nothing : (y : Option Place) → place_at f.places.places n ≡ y → TakesWord f.routers y None x → Visits confirming n f p g p

@@ -43,7 +43,7 @@ use Rattle.router_core.specs.declared.fields.Fields.{Fields}
 use Rattle.router_core.specs.declared.place.Place.{Place}
 use Rattle.router_core.specs.declared.place.Place.TheVariants.{Live, Shadow}
 use Rattle.router_core.proofs.Dids.{did_same, did_then, did_one}
-use Rattle.router_core.proofs.RoundLists.{rounds_on-append}
+use Rattle.router_core.proofs.RoundLists.{at-append}
 use Rattle.router_core.proofs.Standing.{keeps_on}
 use Rattle.router_core.proofs.VisitSteps.{same_or_not, at_here, at_other, place_at_end}
 
@@ -253,14 +253,14 @@ module _ (f h g : Fields) (p q : Post (Item RunningSession)) (prefix : PrefixVal
 -- ---- one after another
 
 pub decides_first : (f : Fields) (p : Post (Item RunningSession)) → Keeps f → DecidesSome f p f p
-decides_first f p keeps = record { events = []; did = λ t. did_same f f p t (record { setup = refl; number = refl }) refl; no_rounds = λ k. refl; same = refl; keeps = keeps }
+decides_first f p keeps = record { events = []; did = λ t. did_same f f p t (record { setup = refl; number = refl }) refl; at = tt; same = refl; keeps = keeps }
 
 module _ (f g h : Fields) (p r s : Post (Item RunningSession)) (prefix : PrefixValue) (before : DecidesSome f p g r) (one : DecidesOne prefix g r h s) where
   pub decides_next : DecidesSome f p h s
   decides_next = record {
     events = before.events ++ Decide prefix ∷ [];
     did = λ t. did_then f g h p r s t t t before.events (Decide prefix ∷ []) (before.did t) (one.did t);
-    no_rounds = λ k. rounds_on-append k before.events (Decide prefix ∷ []) ∙ ap (λ (xs : List ℕ). xs ++ []) (before.no_rounds k);
+    at = at-append 3 before.events (Decide prefix ∷ []) before.at (refl, tt);
     same = one.same ∙ ap (λ (x : Fields). let y : Fields = record x { rib = h.rib; due_in = h.due_in; due_out = h.due_out } in y) before.same;
     keeps = one.keeps;
   }
@@ -270,7 +270,7 @@ module _ (f g h : Fields) (p r s : Post (Item RunningSession)) (prefix : PrefixV
   fewer_dirty there = subst (λ (d : Prefixes). map.len d < map.len g.rib.dirty) (sym one.dirty) (fewer_left g.rib.dirty prefix there)
 
 pub decides_all : (f g : Fields) (p r : Post (Item RunningSession)) → DecidesSome f p g r → g.rib.dirty ≡ map.empty → DecidesAll f p g r
-decides_all f g p r some clean = record { events = some.events; did = some.did; no_rounds = some.no_rounds; clean = clean; same = some.same; keeps = some.keeps }
+decides_all f g p r some clean = record { events = some.events; did = some.did; at = some.at; clean = clean; same = some.same; keeps = some.keeps }
 
 -- ---- where it is due
 

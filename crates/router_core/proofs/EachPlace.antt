@@ -1,5 +1,5 @@
 -- The stages that go from place to place.
-use Rattle.std.proofs.Common.{◌≡◌, ℕ, ◌+◌, ◌-◌, ◌<◌, ◌≤◌, Some, None, set, List, [], ◌++◌, length, refl, sym, ap, subst, ◌∙◌, arith, false, Option}
+use Rattle.std.proofs.Common.{◌≡◌, ℕ, ◌+◌, ◌-◌, ◌<◌, ◌≤◌, Some, None, set, List, length, refl, sym, ap, subst, ◌∙◌, arith, false, Option}
 use Rattle.std.proofs.lemmas.List.{length-set}
 use Rattle.tcp_seq.specs.Endpoint.{Endpoint, next_length}
 use Rattle.tcp_seq.specs.declared.segment.Segment.{Segment}
@@ -12,7 +12,7 @@ use Rattle.session_places.specs.Places.{with_place}
 use Rattle.router_core.specs.Parts.{Keeps}
 use Rattle.router_core.specs.Places.{place_at}
 use Rattle.router_core.specs.Sending.{AtPlace, IsOutletOf, SentNext}
-use Rattle.router_core.specs.Stages.{PlaceGoes, GraftGoes, WordGoes, IsLevel, EmitsAll, SendsAgain, BeginsGrafts, ConfirmsAll, Emits, with_again, with_answers}
+use Rattle.router_core.specs.Stages.{PlaceGoes, GraftGoes, WordGoes, IsLevel, EmitsAll, SendsAgain, BeginsGrafts, ConfirmsAll, Emits, again_at, answer_at, with_again, with_answers}
 use Rattle.router_core.specs.Visits.{Stage, Visits, Visited, Answers, AllNewOut, EmitsNew, SameButLeaving, SameButPlaces, SlicesOut, answering, beginning_grafts, confirming, emitting, sending_again, sending_new, slicing}
 use Rattle.router_core.specs.declared.fields.Fields.{Fields}
 use Rattle.router_core.specs.declared.place.Place.{Place}
@@ -22,7 +22,7 @@ use Rattle.router_core.proofs.PlaceSteps.{here, visits_same}
 use Rattle.router_core.proofs.SendSteps.{WroteBy, next_all, next_none, next_some, some_none}
 use Rattle.router_core.proofs.Standing.{same_places}
 use Rattle.router_core.proofs.PlaceLists.{same_there}
-use Rattle.router_core.proofs.VisitSteps.{all_did, all_places, all_rounds, visits_as, visits_then}
+use Rattle.router_core.proofs.VisitSteps.{all_counts, all_did, all_places, visits_as, visits_then}
 
 pub places_then : (a b c : Fields) → SameButPlaces a b → SameButPlaces b c → SameButPlaces a c
 places_then a b c x y = y ∙ ap (λ (f : Fields). let g : Fields = record f { places = c.places } in g) x
@@ -40,10 +40,10 @@ module _ (f g : Fields) (p q : Post (Item RunningSession)) (n : ℕ) (last : len
   pub sends_again : Visited sending_again n f p g q → SendsAgain f p g q
   sends_again v = record {
     events = v.events;
-    did = all_did (PlaceGoes IsLevel) sending_again.count SameButPlaces refl f g p q n v last (with_again f) (λ t k. refl) plus_again;
-    no_puts = v.no_puts;
-    no_rounds = all_rounds (PlaceGoes IsLevel) sending_again.count SameButPlaces refl f g p q n v last;
-    places = all_places (PlaceGoes IsLevel) sending_again.count SameButPlaces refl f g p q n v last;
+    did = all_did sending_again f g p q n v last (with_again f) (λ t k. refl) plus_again;
+    at = v.at;
+    once = all_counts sending_again f g p q n v last (λ on. on.emits) again_at (λ on x y goes. goes.0) refl;
+    places = all_places sending_again f g p q n v last (PlaceGoes IsLevel) (λ on x y goes. goes.1) refl;
     same = v.same;
     keeps = v.keeps;
   }
@@ -51,9 +51,9 @@ module _ (f g : Fields) (p q : Post (Item RunningSession)) (n : ℕ) (last : len
   pub begins_all : Visited beginning_grafts n f p g q → BeginsGrafts f p g q
   begins_all v = record {
     events = v.events;
-    did = all_did GraftGoes beginning_grafts.count SameButLeaving refl f g p q n v last (λ t. t) (λ t k. refl) (λ t. refl);
-    no_rounds = all_rounds GraftGoes beginning_grafts.count SameButLeaving refl f g p q n v last;
-    places = all_places GraftGoes beginning_grafts.count SameButLeaving refl f g p q n v last;
+    did = all_did beginning_grafts f g p q n v last (λ t. t) (λ t k. refl) (λ t. refl);
+    at = v.at;
+    places = all_places beginning_grafts f g p q n v last GraftGoes (λ on x y goes. goes) refl;
     same = v.same;
     keeps = v.keeps;
   }
@@ -61,9 +61,9 @@ module _ (f g : Fields) (p q : Post (Item RunningSession)) (n : ℕ) (last : len
   pub confirms_all : Visited confirming n f p g q → ConfirmsAll f p g q
   confirms_all v = record {
     events = v.events;
-    did = all_did WordGoes confirming.count SameButPlaces refl f g p q n v last (λ t. t) (λ t k. refl) (λ t. refl);
-    no_rounds = all_rounds WordGoes confirming.count SameButPlaces refl f g p q n v last;
-    places = all_places WordGoes confirming.count SameButPlaces refl f g p q n v last;
+    did = all_did confirming f g p q n v last (λ t. t) (λ t k. refl) (λ t. refl);
+    at = v.at;
+    places = all_places confirming f g p q n v last WordGoes (λ on x y goes. goes) refl;
     same = v.same;
     keeps = v.keeps;
   }
@@ -71,9 +71,10 @@ module _ (f g : Fields) (p q : Post (Item RunningSession)) (n : ℕ) (last : len
   pub emits_all : Visited emitting n f p g q → Emits f p g q
   emits_all v = record {
     events = v.events;
-    did = all_did (PlaceGoes EmitsAll) emitting.count SameButPlaces refl f g p q n v last (with_answers f) (λ t k. refl) plus_answers;
-    no_rounds = all_rounds (PlaceGoes EmitsAll) emitting.count SameButPlaces refl f g p q n v last;
-    places = all_places (PlaceGoes EmitsAll) emitting.count SameButPlaces refl f g p q n v last;
+    did = all_did emitting f g p q n v last (with_answers f) (λ t k. refl) plus_answers;
+    at = v.at;
+    once = all_counts emitting f g p q n v last (λ on. on.answers) answer_at (λ on x y goes. goes.0) refl;
+    places = all_places emitting f g p q n v last (PlaceGoes EmitsAll) (λ on x y goes. goes.1) refl;
     same = v.same;
     keeps = v.keeps;
   }
@@ -92,8 +93,8 @@ goes_with P R both None y goes all = goes
 goes_with P R both (Some (Live s o)) y (u, is, goes) all = (u, is, both s u goes (subst AllNewOut is all))
 goes_with P R both (Some (Shadow away)) y goes all = goes
 
-no_rounds_then : (k l : List ℕ) → k ≡ [] → l ≡ [] → k ++ l ≡ []
-no_rounds_then k l none more = ap (λ (x : List ℕ). x ++ l) none ∙ more
+none_more : (k l m : ℕ) → k ≡ 0 → l ≡ m → k + l ≡ m
+none_more k l m none more = omega (arith, none, more)
 
 slices_then : (s u v : RunningSession) → SlicesOut s u → SlicesOut u v → SlicesOut s v
 slices_then s u v x y = y ∙ ap (λ (r : RunningSession). let w : RunningSession = record r { session = record r.session { end = record r.session.end { emitted = v.session.end.emitted } } } in w) x
@@ -105,22 +106,23 @@ new_then_answer : (s u v : RunningSession) → EmitsNew s u → Answers u v → 
 new_then_answer s u v x y = y ∙ ap (λ (r : RunningSession). let w : RunningSession = record r { session = record r.session { end = record r.session.end { owed = false } } } in w) x
 
 -- the answer that is owed is the one that was owed before
-answer_same : (k : List ℕ) (x y : Option Place) (t : Tally) → (k ≡ []) × PlaceGoes EmitsNew x y → answering.count y t ≡ emitting.count x t
-answer_same k None y t (none, goes) = ap (λ (z : Option Place). answering.count z t) goes
-answer_same k (Some (Live s o)) y t (none, (u, is, out)) = ap (λ (z : Option Place). answering.count z t) (is ∙ ap (λ (r : RunningSession). Some (Live r o)) out)
-answer_same k (Some (Shadow away)) y t (none, goes) = ap (λ (z : Option Place). answering.count z t) goes
+answer_same : (x y : Option Place) → PlaceGoes EmitsNew x y → answer_at y ≡ answer_at x
+answer_same None y goes = ap answer_at goes
+answer_same (Some (Live s o)) y (u, is, out) = ap answer_at (is ∙ ap (λ (r : RunningSession). Some (Live r o)) out)
+answer_same (Some (Shadow away)) y goes = ap answer_at goes
 
 module _ (a b c : Fields) (p q r : Post (Item RunningSession)) (n : ℕ) where
   pub slices_more : Visits slicing n a p b q → Visits slicing n b q c r → Visits slicing n a p c r
-  slices_more x y = visits_then slicing slicing slicing a b c p q r n x y
-      (λ k l u v w first second. (no_rounds_then k l first.0 second.0, goes_then SlicesOut SlicesOut SlicesOut slices_then u v w first.1 second.1)) (λ k u v t first. refl) (places_then a b c x.same y.same)
+  slices_more x y = visits_then slicing slicing slicing a b c p q r n x y refl refl
+      (λ k l u v w first second. (none_more k.answers l.answers 0 first.0 second.0, goes_then SlicesOut SlicesOut SlicesOut slices_then u v w first.1 second.1)) (λ k u v t first. refl) (places_then a b c x.same y.same)
 
   pub emits_both : Visits sending_new n a p b q → Visits answering n b q c r → Visits emitting n a p c r
-  emits_both x y = visits_then sending_new answering emitting a b c p q r n x y
-      (λ k l u v w first second. (no_rounds_then k l first.0 second.0, goes_then EmitsNew Answers EmitsAll new_then_answer u v w first.1 second.1)) answer_same (places_then a b c x.same y.same)
+  emits_both x y = visits_then sending_new answering emitting a b c p q r n x y refl refl
+      (λ k l u v w first second. (none_more k.answers l.answers (answer_at u) first.0 (second.0 ∙ answer_same u v first.1), goes_then EmitsNew Answers EmitsAll new_then_answer u v w first.1 second.1))
+      (λ k u v t first. ap (λ (m : ℕ). let w : Tally = record t { answers = t.answers + m } in w) (answer_same u v first.1)) (places_then a b c x.same y.same)
 
 pub slices_all : (a b : Fields) (p q : Post (Item RunningSession)) (n : ℕ) → Visits slicing n a p b q → AllNewOut (place_at b.places.places n) → Visits sending_new n a p b q
-slices_all a b p q n v all = visits_as slicing sending_new a b p q n v (λ k goes. (goes.0, goes_with SlicesOut EmitsNew all_emitted (place_at a.places.places n) (place_at b.places.places n) goes.1 all)) (λ t. refl) v.same
+slices_all a b p q n v all = visits_as slicing sending_new a b p q n v refl (λ k goes. (goes.0, goes_with SlicesOut EmitsNew all_emitted (place_at a.places.places n) (place_at b.places.places n) goes.1 all)) (λ t. refl) v.same
 
 -- how much of a session's stream isn't emitted
 abbrev pub left_at : Option Place → ℕ

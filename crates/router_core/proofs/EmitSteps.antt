@@ -27,11 +27,12 @@ use Rattle.graft_actors.specs.Items.{home_first, remote_first, placed_for, segme
 use Rattle.router_core.specs.Parts.{router_part, Keeps, KeepsPlace, IsOfPeering}
 use Rattle.router_core.specs.Places.{place_of, place_at, errand_of}
 use Rattle.router_core.specs.Rounds.{Did, tally_at, Writes}
-use Rattle.router_core.specs.Visits.{Stage, Visits, SameButPlaces}
+use Rattle.router_core.specs.Visits.{events_on, Stage, Visits, SameButPlaces}
 use Rattle.router_core.specs.declared.fields.Fields.{Fields}
 use Rattle.router_core.specs.declared.place.Place.{Place}
 use Rattle.router_core.specs.declared.place.Place.TheVariants.{Live}
 use Rattle.router_core.proofs.Dids.{Sends, did_sent}
+use Rattle.router_core.proofs.RoundLists.{emit_elsewhere}
 use Rattle.router_core.proofs.PlaceSteps.{keeps_live, here, elsewhere, part_at, keeps_at}
 
 -- ---- the segment
@@ -114,14 +115,15 @@ module _ (f g : Fields) (p q : Post (Item RunningSession)) (n : ℕ) (s u : Runn
       (keeps_live f.known.setup f.number.0 n ((rib_of f.rib).entries n) (table_at f.due_out n) s u o place_is (ap (λ (v : SessionValue). v.config) gives.effect) (ap (λ (v : SessionValue). v.story) gives.effect)
       (ap unread gives.effect ∙ unread_same s.session.end gives.end (sent_as s.session.config segment) gives.at.emits))
 
-  pub visits_emitted : (stage : Stage) → stage.Goes [] (Some (Live s o)) (Some (Live u o)) → ((t : Tally) → counted s.session.end from len t ≡ stage.count (Some (Live s o)) t) → stage.Same f g → Visits stage n f p g q
-  visits_emitted stage goes count same_rest = record {
+  pub visits_emitted : (stage : Stage) → 7 ≡ stage.number → stage.Goes (events_on n (Emit n from len ∷ [])) (Some (Live s o)) (Some (Live u o)) → ((t : Tally) → counted s.session.end from len t ≡ stage.count (Some (Live s o)) t) → stage.Same f g → Visits stage n f p g q
+  visits_emitted stage number goes count same_rest = record {
     events = Emit n from len ∷ [];
     did = λ t. subst (λ (x : Option Place). Did f p t (Emit n from len ∷ []) g q (at t n (stage.count x (t n)))) (sym is)
         (subst (λ (x : Tally). Did f p t (Emit n from len ∷ []) g q (at t n x)) (count (t n)) (did_emit t));
-    no_puts = (tt, tt);
-    goes = subst (λ (x : Option Place). stage.Goes [] x (place_at g.places.places n)) (sym is) (subst (λ (x : Option Place). stage.Goes [] (Some (Live s o)) x) (sym (here f g n (Some (Live u o)) there same items_are)) goes);
-    others = λ k not. (elsewhere f g n (Some (Live u o)) there same items_are k not, refl);
+    at = (number, tt);
+    goes = subst (λ (x : Option Place). stage.Goes (events_on n (Emit n from len ∷ [])) x (place_at g.places.places n)) (sym is)
+        (subst (λ (x : Option Place). stage.Goes (events_on n (Emit n from len ∷ [])) (Some (Live s o)) x) (sym (here f g n (Some (Live u o)) there same items_are)) goes);
+    others = λ k not. (elsewhere f g n (Some (Live u o)) there same items_are k not, emit_elsewhere k n from len not);
     same = same_rest;
     keeps = keeps_emitted;
   }

@@ -126,8 +126,7 @@ module _ (f : Fields) (p q : Post (Item RunningSession)) (from k : ℕ) (peering
         still = λ t. refl;
       })
       (λ t. did_same g g q t (same_router g) refl)
-      (λ k. refl)
-      (tt, tt)
+      (refl, tt)
       (λ n u v o w a b. stays_itself u v (elim (one_or_other peering.0 n) [
         | inl e ↦
             live_same u v o w (sym a.is ∙ ap (place_at f.places.places) e ∙ free) (sym b.is ∙ ap (place_at g.places.places) e ∙ here)
@@ -224,8 +223,7 @@ module _ (f : Fields) (p q : Post (Item RunningSession)) (from k : ℕ) (peering
         still = λ t. refl;
       })
       (λ t. did_same g g q t (same_router g) refl)
-      (λ k. refl)
-      (tt, tt)
+      (refl, tt)
       (λ n u v o w a b. stays_itself u v (elim (one_or_other peering.0 n) [
         | inl e ↦ absurd (no_live_in v w (sym here ∙ ap (place_at g.places.places) (sym e) ∙ b.is))
         | inr not ↦ live_is f.places.places n u v o w a (record { is = sym (else_ n not) ∙ b.is })

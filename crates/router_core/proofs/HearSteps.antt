@@ -63,8 +63,7 @@ module _ (f : Fields) (p q : Post (Item RunningSession)) (from : ℕ) (prefix : 
         still = λ t. refl;
       })
       (λ t. did_same g g q t (same_router g) refl)
-      (λ k. refl)
-      (tt, tt)
+      (refl, tt)
       (all_stay f g (ap (λ (h : Fields). h.places) same))
       (ap (λ (h : Fields). h.turns) same)
       (keeps_on f g (rest_of f keeps)

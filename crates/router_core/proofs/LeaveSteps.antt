@@ -103,8 +103,8 @@ module _ (f g : Fields) (p q : Post (Item RunningSession)) (n : ℕ) (s : Runnin
     refused = record {
       events = Refuse ids.graft ∷ [];
       did = λ t. subst (λ (u : ℕ → Tally). Did f p t (Refuse ids.graft ∷ []) g q u) (λ i k. sym (at_own t n (t n) refl k) i) (did_refuse t);
-      no_puts = (tt, tt);
-      goes = (refl, subst (λ (x : Option Place). GraftGoes x (place_at g.places.places n)) (sym is) (inl (here f g n (Some (Live s None)) there same items_are)));
+      at = (refl, tt);
+      goes = subst (λ (x : Option Place). GraftGoes x (place_at g.places.places n)) (sym is) (inl (here f g n (Some (Live s None)) there same items_are));
       others = λ k not. (elsewhere f g n (Some (Live s None)) there same items_are k not, refl);
       same = subst (λ (h : Fields). h ≡ record f { places = h.places; due_out = h.due_out }) (sym same) refl;
       keeps = keeps_at f g n (Some (Live s None)) there same items_are keeps (place_is.0, place_is.1, tt, place_is.3);
@@ -236,8 +236,8 @@ module _ (f g : Fields) (p q : Post (Item RunningSession)) (n : ℕ) (s : Runnin
     left = record {
       events = Freeze ids.graft ∷ Leave ids.graft ∷ [];
       did = λ t. subst (λ (u : ℕ → Tally). Did f p t (Freeze ids.graft ∷ Leave ids.graft ∷ []) g q u) (λ i k. sym (at_own t n (t n) refl k) i) (did_leave t);
-      no_puts = (tt, (tt, tt));
-      goes = (refl, subst (λ (x : Option Place). GraftGoes x (place_at g.places.places n)) (sym is) (inr (ap (λ (xs : List (Option Place)). place_at xs n) (listed items_are) ∙ set_here f.places.places n (Some (Shadow ids)) there)));
+      at = (refl, (refl, tt));
+      goes = subst (λ (x : Option Place). GraftGoes x (place_at g.places.places n)) (sym is) (inr (ap (λ (xs : List (Option Place)). place_at xs n) (listed items_are) ∙ set_here f.places.places n (Some (Shadow ids)) there));
       others = λ k not. (ap (λ (xs : List (Option Place)). place_at xs k) (listed items_are) ∙ set_other f.places.places n (Some (Shadow ids)) there k not, refl);
       same = same;
       keeps = keeps_left;
@@ -248,7 +248,7 @@ module _ (f g : Fields) (p q : Post (Item RunningSession)) (n : ℕ) (s : Runnin
 module _ (f g : Fields) (p q : Post (Item RunningSession)) (n : ℕ) (x : Option Place) (keeps : Keeps f) (there : n < length f.places.places) where
   idle : (same : SameButPlaces f g) → g.places ≡ with_place f.places n x → (y : Option Place) → place_at f.places.places n ≡ y → x ≡ y → GraftGoes y y → Visits beginning_grafts n f p g p
   idle same items_are y is x_is goes = visits_same f g n x there same items_are beginning_grafts p keeps (ap place_of (x_is ∙ sym is))
-      (refl, subst (λ (z : Option Place). GraftGoes z x) (sym is) (subst (GraftGoes y) (sym x_is) goes)) (λ t. refl)
+      (subst (λ (z : Option Place). GraftGoes z x) (sym is) (subst (GraftGoes y) (sym x_is) goes)) (λ t. refl)
       (subst (λ (h : Fields). h ≡ record f { places = h.places; due_out = h.due_out }) (sym same) refl)
       (subst (KeepsPlace f.known.setup f.number.0 n ((rib_of f.rib).entries n) (table_at f.due_out n)) (is ∙ sym x_is) (keeps.each n))
 

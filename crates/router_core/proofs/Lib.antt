@@ -1,6 +1,7 @@
 pub mod Dids
 pub mod DueSteps
 pub mod RoundLists
+pub mod Goes
 pub mod Standing
 pub mod VisitSteps
 pub mod PlaceSteps

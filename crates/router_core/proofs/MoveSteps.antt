@@ -89,8 +89,7 @@ module _ (f : Fields) (a b : Post (Item RunningSession)) (from k : ℕ) (s : Run
         still = λ t. refl;
       })
       (λ t. did_same f f b t (same_router f) refl)
-      (λ k. refl)
-      (tt, tt)
+      (refl, tt)
       (all_stay f f refl)
       refl
       keeps
@@ -180,8 +179,7 @@ module _ (f : Fields) (a b : Post (Item RunningSession)) (from k : ℕ) (s : Run
           still = λ t. refl;
         })
         reads.did
-        reads.no_rounds
-        (tt, reads.no_puts)
+        (refl, reads.at)
         (λ n v w m q x y. elim (one_or_other p n) [
           | inl e ↦ absurd (no_live v m (sym vacant ∙ ap (place_at f.places.places) (sym e) ∙ x.is))
           | inr not ↦ stays_itself v w (live_is f.places.places n v w m q x (record { is = sym (reads.stays.others n not ∙ elsewhere n not) ∙ y.is }))

@@ -18,7 +18,7 @@ use Rattle.graft_actors.specs.Emissions.{Tally}
 use Rattle.router_core.specs.Parts.{router_part, Keeps, KeepsPlace}
 use Rattle.router_core.specs.Places.{place_of, place_at}
 use Rattle.router_core.specs.Rounds.{Did}
-use Rattle.router_core.specs.Visits.{Stage, Visits, SameButPlaces}
+use Rattle.router_core.specs.Visits.{none_on, Stage, Visits, SameButPlaces}
 use Rattle.router_core.specs.declared.fields.Fields.{Fields}
 use Rattle.router_core.specs.declared.place.Place.{Place}
 use Rattle.router_core.specs.declared.place.Place.TheVariants.{Live}
@@ -81,14 +81,14 @@ module _ (f g : Fields) (n : ℕ) (x : Option Place) (there : n < length f.place
       ]
 
   -- nothing that the model sees changes
-  pub visits_same : (stage : Stage) (p : Post (Item RunningSession)) → Keeps f → place_of x ≡ place_of (place_at f.places.places n) → stage.Goes [] (place_at f.places.places n) x → ((t : Tally) → stage.count (place_at f.places.places n) t ≡ t) → stage.Same f g
+  pub visits_same : (stage : Stage) (p : Post (Item RunningSession)) → Keeps f → place_of x ≡ place_of (place_at f.places.places n) → stage.Goes none_on (place_at f.places.places n) x → ((t : Tally) → stage.count (place_at f.places.places n) t ≡ t) → stage.Same f g
       → KeepsPlace f.known.setup f.number.0 n ((rib_of f.rib).entries n) (table_at f.due_out n) x → Visits stage n f p g p
   visits_same stage p keeps stays goes none same_rest place = record {
     events = [];
     did = λ t. subst (λ (u : ℕ → Tally). Did f p t [] g p u) (λ i q. sym (at_own t n (stage.count (place_at f.places.places n) (t n)) (none (t n)) q) i)
         (did_same f g p t (record { setup = ap (λ (h : Fields). h.known.setup) same; number = ap (λ (h : Fields). h.number) same }) (part_same stays));
-    no_puts = tt;
-    goes = subst (λ (y : Option Place). stage.Goes [] (place_at f.places.places n) y) (sym here) goes;
+    at = tt;
+    goes = subst (λ (y : Option Place). stage.Goes none_on (place_at f.places.places n) y) (sym here) goes;
     others = λ q not. (elsewhere q not, refl);
     same = same_rest;
     keeps = keeps_at keeps place;

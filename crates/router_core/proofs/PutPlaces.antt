@@ -39,7 +39,6 @@ use Rattle.router_core.specs.Putting.{HadNoRoom, LeavesPlan, NextAt, OfferedAt, 
 use Rattle.router_core.specs.Rested.{IsDone}
 use Rattle.router_core.specs.Rounds.{Did, Writes}
 use Rattle.router_core.specs.Stages.{PlaceGoes, PutsMore, PutsAll}
-use Rattle.router_core.specs.Turned.{rounds_on}
 use Rattle.router_core.specs.Updates.{IsNextUpdate, IsStuck, IsUnwritable, length_with}
 use Rattle.router_core.specs.Visits.{SameButLeaving, SameButPlaces}
 use Rattle.router_core.specs.declared.fields.Fields.{Fields}
@@ -49,7 +48,7 @@ use Rattle.router_core.proofs.Dids.{did_one, did_same, did_then}
 use Rattle.router_core.proofs.EachPlace.{leaving_then}
 use Rattle.router_core.proofs.PlaceSteps.{elsewhere, here, keeps_at, part_same}
 use Rattle.router_core.proofs.PutRows.{can_offer, puts_some, rest_then}
-use Rattle.router_core.proofs.RoundLists.{rounds_on-append}
+use Rattle.router_core.proofs.RoundLists.{at-append}
 use Rattle.router_core.proofs.TellSteps.{table_at_end}
 use Rattle.router_core.proofs.PlaceLists.{listed}
 use Rattle.router_core.proofs.VisitSteps.{same_or_not, at_here, at_other, place_at_end, set_here}
@@ -106,7 +105,7 @@ pub some_first : (n : ℕ) (f : Fields) (p : Post (Item RunningSession)) → Kee
 some_first n f p keeps = record {
   events = [];
   did = λ t. did_same f f p t (record { setup = refl; number = refl }) refl;
-  no_rounds = λ k. refl;
+  at = tt;
   goes = goes_same (place_at f.places.places n);
   others = λ k not. (refl, refl);
   same = refl;
@@ -117,7 +116,7 @@ pub some_then : (n : ℕ) (f g h : Fields) (p r s : Post (Item RunningSession)) 
 some_then n f g h p r s x y = record {
   events = x.events ++ y.events;
   did = λ t. did_then f g h p r s t t t x.events y.events (x.did t) (y.did t);
-  no_rounds = λ k. rounds_on-append k x.events y.events ∙ ap (λ (xs : List ℕ). xs ++ rounds_on k y.events) (x.no_rounds k) ∙ y.no_rounds k;
+  at = at-append 6 x.events y.events x.at y.at;
   goes = goes_then (place_at f.places.places n) (place_at g.places.places n) (place_at h.places.places n) x.goes y.goes;
   others = λ k not. ((y.others k not).0 ∙ (x.others k not).0, (y.others k not).1 ∙ (x.others k not).1);
   same = leaving_then f g h x.same y.same;
@@ -130,7 +129,7 @@ pub puts_first : (f : Fields) (p : Post (Item RunningSession)) → Keeps f → P
 puts_first f p keeps = record {
   events = [];
   did = λ t. did_same f f p t (record { setup = refl; number = refl }) refl;
-  no_rounds = λ k. refl;
+  at = tt;
   goes = λ k below. absurd (omega (arith, below));
   done = λ k below. absurd (omega (arith, below));
   left = λ k from. refl;
@@ -158,7 +157,7 @@ module _ (n : ℕ) (f g h : Fields) (p r s : Post (Item RunningSession)) (before
   puts_next = record {
     events = before.events ++ one.some.events;
     did = λ t. did_then f g h p r s t t t before.events one.some.events (before.did t) (one.some.did t);
-    no_rounds = λ k. rounds_on-append k before.events one.some.events ∙ ap (λ (xs : List ℕ). xs ++ rounds_on k one.some.events) (before.no_rounds k) ∙ one.some.no_rounds k;
+    at = at-append 6 before.events one.some.events before.at one.some.at;
     goes = λ k below. elim (same_or_not n k) [
       | inl e ↦ subst (λ (m : ℕ). PlaceGoes PutsMore (place_at f.places.places m) (place_at h.places.places m)) (sym e)
           (subst (λ (x : Option Place). PlaceGoes PutsMore x (place_at h.places.places n)) (before.left n (omega arith)) one.some.goes)
@@ -177,7 +176,7 @@ pub puts_all : (n : ℕ) (f g : Fields) (p q : Post (Item RunningSession)) → P
 puts_all n f g p q first last last_place last_due = record {
   events = first.events;
   did = first.did;
-  no_rounds = first.no_rounds;
+  at = first.at;
   places = λ k. elim (cases_lt k n) [
     | inl below ↦ first.goes k below
     | inr from ↦ subst (λ (x : Option Place). PlaceGoes PutsMore x (place_at g.places.places k)) (sym (place_at_end f.places.places k (omega (arith, from, last))))
@@ -205,7 +204,7 @@ module _ (f g : Fields) (p : Post (Item RunningSession)) (n : ℕ) (s u : Runnin
   idle = record {
     events = [];
     did = λ t. did_same f g p t (record { setup = ap (λ (h : Fields). h.known.setup) same; number = ap (λ (h : Fields). h.number) same }) (part_same f g n x there same items (ap place_of stays));
-    no_rounds = λ k. refl;
+    at = tt;
     goes = subst (PlaceGoes PutsMore (place_at f.places.places n)) (sym (here f g n x there same items ∙ stays)) (goes_same (place_at f.places.places n));
     others = λ k not. (elsewhere f g n x there same items k not, ap (λ (d : List Prefixes). table_at d k) same_due);
     same = same ∙ ap (λ (d : List Prefixes). let h : Fields = record f { places = g.places; due_out = d } in h) (sym same_due);
@@ -325,7 +324,7 @@ module _ (f g : Fields) (p q : Post (Item RunningSession)) (n : ℕ) (keeps : Ke
     some = record {
       events = Put n zero ∷ [];
       did = λ t. did_nothing (place_at f.places.places n) refl plan (keeps.each n) t;
-      no_rounds = λ k. refl;
+      at = (refl, tt);
       goes = subst (λ y. PlaceGoes PutsMore (place_at f.places.places n) (place_at y.places n)) (sym same_places) (goes_same (place_at f.places.places n));
       others = λ k not. (ap (λ y. place_at y.places k) same_places, cleared_other k not);
       same = same ∙ ap (λ y. let h : Fields = record f { places = y; due_out = g.due_out } in h) (sym same_places);

@@ -264,7 +264,7 @@ module _ (f g : Fields) (p q : Post (Item RunningSession)) (n : ℕ) (s u : Runn
   puts_some sizes wrote = record {
     events = Put n (length batch.prefixes) ∷ [];
     did = λ t. did_put t wrote;
-    no_rounds = λ k. refl;
+    at = (refl, tt);
     goes = subst (λ (x : Option Place). PlaceGoes PutsMore x (place_at g.places.places n)) (sym is) (u, place_here, puts_more);
     others = λ k not. (place_other k not, other_due k not);
     same = same;

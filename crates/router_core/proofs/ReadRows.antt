@@ -30,8 +30,8 @@ use Rattle.router_core.specs.declared.fields.Fields.{Fields}
 use Rattle.router_core.specs.declared.place.Place.{Place}
 use Rattle.router_core.specs.declared.place.Place.TheVariants.{Live, Shadow}
 use Rattle.router_core.proofs.Dids.{did_one, did_same, did_then, same_router}
-use Rattle.router_core.proofs.RoundLists.{rounds_on-append, no_puts_then}
-use Rattle.router_core.specs.Turned.{NoPuts, NoRounds}
+use Rattle.router_core.proofs.RoundLists.{at-append}
+use Rattle.router_core.specs.Turned.{AreAt}
 use Rattle.router_core.proofs.Kept.{one_or_other, at_is, at_else, places_at, placed_here, placed_else, keeps_of, rest_on, with_routes, live_is, stays_itself}
 use Rattle.router_core.proofs.PlaceLists.{listed, rooms, same_there}
 use Rattle.router_core.proofs.ReadSteps.{entry_is, follows_heard, due_then, due_up, less_unread}
@@ -142,8 +142,7 @@ module _ (f g : Fields) (p : ℕ) (a b : Post (Item RunningSession)) (s u : Runn
 pub record ReadsSome (p : ℕ) (f : Fields) (a : Post (Item RunningSession)) (g : Fields) (b : Post (Item RunningSession)) : Type 0 where
   pub events : List RouterEvent
   pub did : (t : ℕ → Tally) → Did f a t events g b t
-  pub no_rounds : NoRounds events
-  pub no_puts : NoPuts events
+  pub at : AreAt 0 events
   pub stays : StaysBut p f g
   pub keeps : KeepsBut p g
 
@@ -151,8 +150,7 @@ pub reads_first : (p : ℕ) (f : Fields) (a : Post (Item RunningSession)) → Ke
 reads_first p f a keeps = record {
   events = [];
   did = λ t. did_same f f a t (same_router f) refl;
-  no_rounds = λ k. refl;
-  no_puts = tt;
+  at = tt;
   stays = record { same = refl; others = λ n not. refl; stays = λ s u o q x y. stays_itself s u (live_is f.places.places p s u o q x y) };
   keeps = keeps;
 }
@@ -161,8 +159,7 @@ pub reads_next : (p : ℕ) (f g h : Fields) (a b c : Post (Item RunningSession))
 reads_next p f g h a b c some one = record {
   events = some.events ++ Got p ∷ [];
   did = λ t. did_then f g h a b c t t t some.events (Got p ∷ []) (some.did t) (one.did t);
-  no_rounds = λ k. rounds_on-append k some.events (Got p ∷ []) ∙ ap (λ (xs : List ℕ). xs ++ []) (some.no_rounds k);
-  no_puts = no_puts_then some.events (Got p ∷ []) some.no_puts (tt, tt);
+  at = at-append 0 some.events (Got p ∷ []) some.at (refl, tt);
   stays = record {
     same = one.stays.same ∙ (λ i. let v : Fields = record (some.stays.same i) { places = h.places; rib = h.rib; due_out = h.due_out } in v);
     others = λ n not. one.stays.others n not ∙ some.stays.others n not;
@@ -179,8 +176,7 @@ reads_last p f g h a b c some none = record {
   events = some.events ++ [];
   did = λ t. subst (λ (d : Post (Item RunningSession)). Did f a t (some.events ++ []) h d t) (sym none.post)
       (did_then f g h a b b t t t some.events [] (some.did t) (did_same g h b t (record { setup = ap (λ (k : Fields). k.known.setup) none.same; number = ap (λ (k : Fields). k.number) none.same }) part));
-  no_rounds = λ k. rounds_on-append k some.events [] ∙ ap (λ (xs : List ℕ). xs ++ []) (some.no_rounds k);
-  no_puts = no_puts_then some.events [] some.no_puts tt;
+  at = at-append 0 some.events [] some.at tt;
   stays = record {
     same = none.same ∙ (λ i. let v : Fields = record (some.stays.same i) { places = h.places; rib = sym (ap (λ (k : Fields). k.rib) none.same) i; due_out = sym (ap (λ (k : Fields). k.due_out) none.same) i } in v);
     others = λ n not. at_same n ∙ some.stays.others n not;

@@ -105,8 +105,7 @@ module _ (f mid h : Fields) (a b c : Post (Item RunningSession)) (from k to : �
         still = λ t. refl;
       })
       reads.did
-      reads.no_rounds
-      (tt, reads.no_puts)
+      (refl, reads.at)
       (λ n v w m q x y. elim (one_or_other p n) [
         | inl e ↦ absurd (no_live v m (sym away.is ∙ ap (place_at f.places.places) (sym e) ∙ x.is))
         | inr not ↦ stays_itself v w (live_is f.places.places n v w m q x (record { is = sym (reads.stays.others n not ∙ elsewhere n not) ∙ y.is }))

@@ -46,7 +46,7 @@ use Rattle.router_core.specs.Sending.{AtPlace}
 use Rattle.router_core.specs.Stages.{PassesRounds, PassesWhereItMay, PlaceGoes, PutsMore}
 use Rattle.router_core.specs.Ticking.{Ticked, followed}
 use Rattle.router_core.specs.Turned.{rounds_on}
-use Rattle.router_core.specs.Visits.{SameButPlaces, SameButSessions, Visited, Visits, passing_rounds}
+use Rattle.router_core.specs.Visits.{OnPeering, events_on, none_on, SameButPlaces, SameButSessions, Visited, Visits, passing_rounds}
 use Rattle.router_core.specs.declared.fields.Fields.{Fields}
 use Rattle.router_core.specs.declared.place.Place.{Place}
 use Rattle.router_core.specs.declared.place.Place.TheVariants.{Live, Shadow}
@@ -229,8 +229,8 @@ module _ (f g : Fields) (p : ℕ) (a b : Post (Item RunningSession)) (s u : Runn
   round_here : rounds_on p (events.Tick p f.turns ∷ []) ≡ f.turns ∷ []
   round_here = ap (λ (t : Bool). let xs : List ℕ = (if t then f.turns ∷ [] else []) ++ [] in xs) (eq-eqb p p refl)
 
-  round_else : (n : ℕ) → n ≢ p → rounds_on n (events.Tick p f.turns ∷ []) ≡ []
-  round_else n not = ap (λ (t : Bool). let xs : List ℕ = (if t then f.turns ∷ [] else []) ++ [] in xs) (ne_eqb p n (λ e. not (sym e)))
+  round_else : (n : ℕ) → n ≢ p → events_on n (events.Tick p f.turns ∷ []) ≡ none_on
+  round_else n not = ap (λ (t : Bool). let on : OnPeering = record { rounds = (if t then f.turns ∷ [] else []) ++ []; emits = 0; answers = 0 } in on) (ne_eqb p n (λ e. not (sym e)))
 
   more : PutsMore s u
   more = record { acked = ap (λ (v : SessionValue). v.end.acked) ticks.passes.effect; emitted = ap (λ (v : SessionValue). v.end.emitted) ticks.passes.effect; at_turn = ticks.same_turn }
@@ -240,7 +240,7 @@ module _ (f g : Fields) (p : ℕ) (a b : Post (Item RunningSession)) (s u : Runn
     events = events.Tick p f.turns ∷ [];
     did = λ t. subst (λ (v : ℕ → Tally). Did f a t (events.Tick p f.turns ∷ []) g b v) (λ i n. sym (at_own t p (t p) refl n) i)
         (did_one f g a b t (events.Tick p f.turns) (record { setup = ap (λ (h : Fields). h.known.setup) same; number = ap (λ (h : Fields). h.number) same }) wrote row tt);
-    no_puts = (tt, tt);
+    at = (refl, tt);
     goes = subst (λ (xs : List ℕ). PlaceGoes (PassesWhereItMay f.turns xs) (place_at f.places.places p) (place_at g.places.places p)) (sym round_here)
         (subst (λ (x : Option Place). PlaceGoes (PassesWhereItMay f.turns (f.turns ∷ [])) x (place_at g.places.places p)) (sym is) (u, here, (more, inl (may, refl))));
     others = λ n not. (elsewhere n not, round_else n not);
@@ -291,7 +291,7 @@ pub passes_all : (f g : Fields) (a b : Post (Item RunningSession)) (n : ℕ) →
 passes_all f g a b n last v = record {
   events = v.events;
   did = λ t. subst (λ (w : ℕ → Tally). Did f a t v.events g b w) (λ i k. both (nat_lt k n) (t k) i) (v.did t);
-  no_puts = v.no_puts;
+  at = v.at;
   places = λ k. elim (cases_lt k n) [
     | inl below ↦ v.done k below
     | inr from ↦

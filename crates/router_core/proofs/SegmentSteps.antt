@@ -132,8 +132,7 @@ module _ (f : Fields) (a b : Post (Item RunningSession)) (from p : ℕ) (g : Seg
         still = λ t. refl;
       })
       (λ t. did_same h h b t (same_router h) refl)
-      (λ k. refl)
-      (tt, tt)
+      (refl, tt)
       (λ n u v o w x y. stays_itself u v (live_is f.places.places n u v o w x (record { is = ap (λ (xs : List (Option Place)). place_at xs n) (sym unchanged) ∙ y.is })))
       (ap (λ (k : Fields). k.turns) same)
       (Rattle.router_core.proofs.Kept.keeps_on f h (rest_of f keeps)
@@ -229,8 +228,7 @@ module _ (f : Fields) (a b : Post (Item RunningSession)) (from p : ℕ) (g : Seg
           still = λ t. refl;
         })
         reads.did
-        reads.no_rounds
-        (tt, reads.no_puts)
+        (refl, reads.at)
         (λ n v w m k x y. elim (one_or_other p n) [
           | inl e ↦ at_it v w m k (record { is = ap (place_at f.places.places) (sym e) ∙ x.is }) (record { is = ap (place_at h.places.places) (sym e) ∙ y.is })
           | inr not ↦ stays_itself v w (live_is f.places.places n v w m k x (record { is = sym (reads.stays.others n not ∙ elsewhere n not) ∙ y.is }))

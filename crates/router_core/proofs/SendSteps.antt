@@ -24,7 +24,7 @@ use Rattle.router_core.specs.Parts.{Keeps, KeepsPlace, IsOfPeering}
 use Rattle.router_core.specs.Places.{place_of, place_at, errand_of}
 use Rattle.router_core.specs.Sending.{AtPlace, SentAgain, SentNext, SentAnswer, IsOutletOf}
 use Rattle.router_core.specs.Stages.{IsLevel, again_at, answer_at}
-use Rattle.router_core.specs.Visits.{Stage, Visits, SameButPlaces, Answers, SlicesOut, AllNewOut, answering, sending_again, slicing}
+use Rattle.router_core.specs.Visits.{none_on, Stage, Visits, SameButPlaces, Answers, SlicesOut, AllNewOut, answering, sending_again, slicing}
 use Rattle.router_core.specs.declared.fields.Fields.{Fields}
 use Rattle.router_core.specs.declared.place.Place.{Place}
 use Rattle.router_core.specs.declared.place.Place.TheVariants.{Live, Shadow}
@@ -32,6 +32,7 @@ use Rattle.router_core.specs.declared.stages.send.Outlet.{Outlet}
 use Rattle.graft_actors.proofs.Careful.{at_again, at_answer, at_next, careful_again, careful_next, counted_again, counted_next}
 use Rattle.router_core.proofs.EmitSteps.{Gives, visits_emitted}
 use Rattle.router_core.proofs.PlaceSteps.{keeps_live, visits_same}
+use Rattle.router_core.proofs.RoundLists.{answer_here, emit_here, no_answer}
 
 false_true : ◌≡◌ {A = Bool} false true → ⊥
 false_true e = let y : ⊥ = cc in y
@@ -115,17 +116,17 @@ module _ (f g : Fields) (p q : Post (Item RunningSession)) (n : ℕ) (x : Option
 
   -- the place is what it was
   module _ (stage : Stage) (same_rest : stage.Same f g) where
-    pub visits_idle : (y : Option Place) → place_at f.places.places n ≡ y → x ≡ y → stage.Goes [] y y → ((t : Tally) → stage.count y t ≡ t) → Visits stage n f p g p
+    pub visits_idle : (y : Option Place) → place_at f.places.places n ≡ y → x ≡ y → stage.Goes none_on y y → ((t : Tally) → stage.count y t ≡ t) → Visits stage n f p g p
     visits_idle y is x_is goes count =
         visits_same f g n x there same items_are stage p keeps (ap place_of (x_is ∙ sym is))
-        (subst (λ (z : Option Place). stage.Goes [] z x) (sym is) (subst (stage.Goes [] y) (sym x_is) goes))
+        (subst (λ (z : Option Place). stage.Goes none_on z x) (sym is) (subst (stage.Goes none_on y) (sym x_is) goes))
         (λ t. ap (λ (z : Option Place). stage.count z t) is ∙ count t) same_rest (subst (KeepsPlace f.known.setup f.number.0 n ((rib_of f.rib).entries n) (table_at f.due_out n)) (sym x_is) (keeps_here f n keeps y is))
 
     -- its session is another one that the model doesn't tell from it
-    visits_alike : (s u : RunningSession) (o : Option Errand) → place_at f.places.places n ≡ Some (Live s o) → x ≡ Some (Live u o) → u.session ≡ s.session → stage.Goes [] (Some (Live s o)) (Some (Live u o)) → ((t : Tally) → stage.count (Some (Live s o)) t ≡ t) → Visits stage n f p g p
+    visits_alike : (s u : RunningSession) (o : Option Errand) → place_at f.places.places n ≡ Some (Live s o) → x ≡ Some (Live u o) → u.session ≡ s.session → stage.Goes none_on (Some (Live s o)) (Some (Live u o)) → ((t : Tally) → stage.count (Some (Live s o)) t ≡ t) → Visits stage n f p g p
     visits_alike s u o is x_is alike goes count =
         visits_same f g n x there same items_are stage p keeps (ap place_of x_is ∙ ap (λ (v : SessionValue). model.Live v (option_map errand_of o)) alike ∙ sym (ap place_of is))
-        (subst (λ (z : Option Place). stage.Goes [] z x) (sym is) (subst (stage.Goes [] (Some (Live s o))) (sym x_is) goes))
+        (subst (λ (z : Option Place). stage.Goes none_on z x) (sym is) (subst (stage.Goes none_on (Some (Live s o))) (sym x_is) goes))
         (λ t. ap (λ (z : Option Place). stage.count z t) is ∙ count t) same_rest
         (subst (KeepsPlace f.known.setup f.number.0 n ((rib_of f.rib).entries n) (table_at f.due_out n)) (sym x_is)
         (keeps_live f.known.setup f.number.0 n ((rib_of f.rib).entries n) (table_at f.due_out n) s u o (keeps_here f n keeps (Some (Live s o)) is) (ap (λ (v : SessionValue). v.config) alike) (ap (λ (v : SessionValue). v.story) alike) (ap unread alike)))
@@ -142,7 +143,7 @@ module _ (f g : Fields) (p q : Post (Item RunningSession)) (n : ℕ) (x : Option
         let level : IsLevel s u = running_is u s.session e.acked (sent.step.effect ∙ ap (λ (d : Endpoint). let v : SessionValue = record s.session { end = d } in v) sent.step.step.stays) sent.turned in
         visits_emitted f g p q n s u o segment e.acked (again_length e) keeps there is same (items_for (Some (Live u o)) x_is) gives (careful_again e some) sent.slice.step.short
         (wrote_by f n outlet outlet_is p q segment s.session e.acked (again_length e) (keeps_here f n keeps (Some (Live s o)) is).0 gives.at.place gives.at.size wrote)
-        sending_again (refl, (u, refl, level))
+        sending_again refl (emit_here n e.acked (again_length e) ∙ sym (again_is s o late some), (u, refl, level))
         (λ t. counted_again e (again_length e) t some out ∙ ap (λ (m : ℕ). let v : Tally = record t { again = t.again + m } in v) (sym (again_is s o late some))) same
 
     pub again_some : (y : Option Place) → place_at f.places.places n ≡ y → AtPlace SentAgain y (Some segment) x → Visits sending_again n f p g q
@@ -162,7 +163,7 @@ module _ (f g : Fields) (p q : Post (Item RunningSession)) (n : ℕ) (x : Option
         let out : SlicesOut s u = subst (SlicesOut s) (sym rises) refl in
         visits_emitted f g p q n s u o segment e.emitted (next_length e) keeps there is same (items_for (Some (Live u o)) x_is) gives (careful_next e some) sent.slice.step.short
         (wrote_by f n outlet outlet_is p q segment s.session e.emitted (next_length e) (keeps_here f n keeps (Some (Live s o)) is).0 gives.at.place gives.at.size wrote)
-        slicing (refl, (u, refl, out)) (λ t. counted_next e (next_length e) t some) same
+        slicing refl (no_answer n n e.emitted (next_length e) some, (u, refl, out)) (λ t. counted_next e (next_length e) t some) same
 
     pub next_some : (y : Option Place) → place_at f.places.places n ≡ y → AtPlace SentNext y (Some segment) x → Visits slicing n f p g q
     next_some None is at = absurd (some_none segment at.0)
@@ -179,7 +180,7 @@ module _ (f g : Fields) (p q : Post (Item RunningSession)) (n : ℕ) (x : Option
         let one : answer_at (Some (Live s o)) ≡ 1 = ap (λ (b : Bool). let m : ℕ = if b then 1 else 0 in m) sent.step.step.owed in
         visits_emitted f g p q n s u o segment e.emitted 0 keeps there is same (items_for (Some (Live u o)) x_is) gives sent.step.step.owed (omega (arith, at.size))
         (wrote_by f n outlet outlet_is p q segment s.session e.emitted 0 (keeps_here f n keeps (Some (Live s o)) is).0 at.place at.size wrote)
-        answering (refl, (u, refl, given)) (λ t. ap (λ (m : ℕ). let v : Tally = record t { answers = t.answers + m } in v) (sym one)) same
+        answering refl (answer_here n e.emitted ∙ sym one, (u, refl, given)) (λ t. ap (λ (m : ℕ). let v : Tally = record t { answers = t.answers + m } in v) (sym one)) same
 
     pub answer_some : (y : Option Place) → place_at f.places.places n ≡ y → AtPlace SentAnswer y (Some segment) x → Visits answering n f p g q
     answer_some None is at = absurd (some_none segment at.0)
@@ -190,7 +191,7 @@ module _ (f g : Fields) (p q : Post (Item RunningSession)) (n : ℕ) (x : Option
 
   pub again_none : (y : Option Place) → place_at f.places.places n ≡ y → AtPlace SentAgain y None x → Visits sending_again n f p g p
   again_none None is at = visits_idle sending_again same None is at.1 (refl, refl) (λ t. plus_again t 0 refl)
-  again_none (Some (Live s o)) is (u, x_is, sent) = visits_alike sending_again same s u o is x_is sent.step (refl, (u, refl, running_is u s.session s.session.end.acked sent.step sent.turned)) (λ t. plus_again t (again_at (Some (Live s o))) (none_is s o (sent.none.0 refl)))
+  again_none (Some (Live s o)) is (u, x_is, sent) = visits_alike sending_again same s u o is x_is sent.step (sym (none_is s o (sent.none.0 refl)), (u, refl, running_is u s.session s.session.end.acked sent.step sent.turned)) (λ t. plus_again t (again_at (Some (Live s o))) (none_is s o (sent.none.0 refl)))
   again_none (Some (Shadow away)) is at = visits_idle sending_again same (Some (Shadow away)) is at.1 (refl, refl) (λ t. plus_again t 0 refl)
 
   pub next_none : (y : Option Place) → place_at f.places.places n ≡ y → AtPlace SentNext y None x → Visits slicing n f p g p
@@ -202,9 +203,10 @@ module _ (f g : Fields) (p q : Post (Item RunningSession)) (n : ℕ) (x : Option
   answer_none None is at = visits_idle answering same None is at.1 (refl, refl) (λ t. plus_answers t 0 refl)
   answer_none (Some (Live s o)) is (u, x_is, sent) =
       let not : s.session.end.owed ≡ false = by_owed s.session.end.owed refl in
+      let none : answer_at (Some (Live s o)) ≡ 0 = ap (λ (b : Bool). let m : ℕ = if b then 1 else 0 in m) not in
       visits_alike answering same s u o is x_is sent.step
-      (refl, (u, refl, running_is u (record s.session { end = record s.session.end { owed = false } }) s.acked_at_turn (sent.step ∙ ap (λ (b : Bool). let v : SessionValue = record s.session { end = record s.session.end { owed = b } } in v) not) sent.same_turn))
-      (λ t. plus_answers t (answer_at (Some (Live s o))) (ap (λ (b : Bool). let m : ℕ = if b then 1 else 0 in m) not))
+      (sym none, (u, refl, running_is u (record s.session { end = record s.session.end { owed = false } }) s.acked_at_turn (sent.step ∙ ap (λ (b : Bool). let v : SessionValue = record s.session { end = record s.session.end { owed = b } } in v) not) sent.same_turn))
+      (λ t. plus_answers t (answer_at (Some (Live s o))) none)
     where
       by_owed : (b : Bool) → s.session.end.owed ≡ b → s.session.end.owed ≡ false
       by_owed true is = absurd (false_true (sent.some.1 is))

@@ -25,8 +25,9 @@ use Rattle.router_core.specs.Parts.{router_part, own_part, carried, Keeps}
 use Rattle.router_core.specs.Places.{RunsAt}
 use Rattle.router_core.specs.Rounds.{CarefulRouter, router_tally, RouterRound, SameRouter, Did, Writes}
 use Rattle.router_core.specs.Takes.{Stays, TakesIt, IsOther}
-use Rattle.router_core.specs.Turned.{NoPuts, NoRounds}
+use Rattle.router_core.specs.Turned.{AreAt, Takes}
 use Rattle.router_core.specs.declared.fields.Fields.{Fields}
+use Rattle.router_core.proofs.Goes.{GoesThrough, goes_taking}
 use Rattle.router_core.proofs.Dids.{has_code, same_router, router_then, round_at}
 use Rattle.router_core.proofs.PlaceLists.{listed}
 use Rattle.router_core.proofs.Kept.{live_is, stays_itself}
@@ -89,9 +90,11 @@ module _ (f g h : Fields) (p q r : Post (Item RunningSession)) (from : ℕ) (ite
   )
 
   -- the take whose first event it is
-  pub takes_then : NoRounds (event ∷ events) → NoPuts (event ∷ events) → ((p : ℕ) (s u : RunningSession) (o q : Option Errand) → RunsAt f.places.places p s o → RunsAt h.places.places p u q → Stays s u) → h.turns ≡ f.turns → Keeps h → TakesIt from item f p h r
-  takes_then no_rounds no_puts stays turns keeps =
+  pub takes_then : AreAt 0 (event ∷ events) → ((p : ℕ) (s u : RunningSession) (o q : Option Errand) → RunsAt f.places.places p s o → RunsAt h.places.places p u q → Stays s u) → h.turns ≡ f.turns → Keeps h → TakesIt from item f p h r
+  takes_then at stays turns keeps =
       let d : Did g q none_yet events h r none_yet = did none_yet in
+      let goes : GoesThrough f.known.setup f.number.0 Takes (router_part f) (event ∷ events) (router_part h) =
+      goes_taking f.known.setup f.number.0 (router_part f) (router_part h) none_yet none_yet (event ∷ events) (round_first none_yet) at in
       let one : Wrote p (first_deed ∷ []) q = first.wrote (Some (from, item)) in
       record {
         took = record {
@@ -102,7 +105,7 @@ module _ (f g h : Fields) (p q r : Post (Item RunningSession)) (from : ℕ) (ite
           took = record {
             router = router_then f g h first.router d.router;
             turns = turns;
-            rows = λ w. record { events = event ∷ events; coded = (has_code p event (Some (from, item)) first.sent, d.coded); round = round_first; no_rounds = no_rounds; no_puts = no_puts; stays = stays };
+            rows = λ w. record { events = event ∷ events; coded = (has_code p event (Some (from, item)) first.sent, d.coded); parts = goes.0; goes = goes.1; stays = stays };
           };
         };
         keeps = keeps;

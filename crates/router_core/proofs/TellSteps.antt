@@ -23,10 +23,9 @@ use Rattle.router_core.specs.Rounds.{Writes}
 use Rattle.router_core.specs.Parts.{router_part, Keeps}
 use Rattle.router_core.specs.Stages.{TellsAll}
 use Rattle.router_core.specs.Tellings.{TellsOne, TellsSome, TellsRouter, TellsFirst}
-use Rattle.router_core.specs.Turned.{rounds_on}
 use Rattle.router_core.specs.declared.fields.Fields.{Fields}
 use Rattle.router_core.proofs.Dids.{Sends, did_same, did_then, did_sent}
-use Rattle.router_core.proofs.RoundLists.{rounds_on-append}
+use Rattle.router_core.proofs.RoundLists.{at-append}
 use Rattle.router_core.proofs.Standing.{keeps_due_in, none_in}
 use Rattle.router_core.proofs.VisitSteps.{same_or_not, at_here, at_other}
 
@@ -68,7 +67,7 @@ pub some_first : (q : ℕ) (f : Fields) (p : Post (Item RunningSession)) → Kee
 some_first q f p keeps = record {
   events = [];
   did = λ t. did_same f f p t (record { setup = refl; number = refl }) refl;
-  no_rounds = λ k. refl;
+  at = tt;
   others = λ k not. refl;
   same = refl;
   keeps = keeps;
@@ -86,7 +85,7 @@ module _ (q : ℕ) (f g h : Fields) (p r s : Post (Item RunningSession)) (prefix
   some_next = record {
     events = before.events ++ Tell q prefix ∷ [];
     did = λ t. did_then f g h p r s t t t before.events (Tell q prefix ∷ []) (before.did t) (one.did t);
-    no_rounds = λ k. rounds_on-append k before.events (Tell q prefix ∷ []) ∙ ap (λ (xs : List ℕ). xs ++ []) (before.no_rounds k);
+    at = at-append 4 before.events (Tell q prefix ∷ []) before.at (refl, tt);
     others = λ k not. ap (λ (d : ℕ → Prefixes). d k) one.due ∙ at_other (table_at g.due_in) q (map.remove (table_at g.due_in q) prefix) k not ∙ before.others k not;
     same = one.same ∙ ap (λ (x : Fields). let y : Fields = record x { due_in = h.due_in } in y) before.same;
     keeps = one.keeps;
@@ -102,7 +101,7 @@ pub told_first : (f : Fields) (p : Post (Item RunningSession)) → Keeps f → T
 told_first f p keeps = record {
   events = [];
   did = λ t. did_same f f p t (record { setup = refl; number = refl }) refl;
-  no_rounds = λ k. refl;
+  at = tt;
   told = λ q below. absurd (omega (arith, below));
   same = refl;
   keeps = keeps;
@@ -112,7 +111,7 @@ pub told_next : (n : ℕ) (f g h : Fields) (p r s : Post (Item RunningSession)) 
 told_next n f g h p r s before one = record {
   events = before.events ++ one.told.events;
   did = λ t. did_then f g h p r s t t t before.events one.told.events (before.did t) (one.told.did t);
-  no_rounds = λ k. rounds_on-append k before.events one.told.events ∙ ap (λ (xs : List ℕ). xs ++ rounds_on k one.told.events) (before.no_rounds k) ∙ one.told.no_rounds k;
+  at = at-append 4 before.events one.told.events before.at one.told.at;
   told = λ q below. elim (same_or_not n q) [
     | inl e ↦ subst (λ (k : ℕ). table_at h.due_in k ≡ map.empty) (sym e) one.none
     | inr not ↦ one.told.others q not ∙ before.told q (lower q below not)
@@ -134,7 +133,7 @@ pub told_all : (n : ℕ) (f g : Fields) (p r : Post (Item RunningSession)) → T
 told_all n f g p r told last = record {
   events = told.events;
   did = told.did;
-  no_rounds = told.no_rounds;
+  at = told.at;
   told = λ q. elim (cases_lt q n) [ inl below ↦ told.told q below | inr from ↦ table_at_end g.due_in q (omega (arith, from, last)) ];
   same = told.same;
   keeps = told.keeps;

@@ -1,9 +1,10 @@
 -- A turn is its stages, one after another.
-use Rattle.std.proofs.Common.{◌≡◌, ℕ, ◌+◌, ◌<◌, ◌≤◌, List, [], ◌∷◌, ◌++◌, Option, option_map, Some, None, Bool, true, false, sym, ap, subst, ◌∙◌, arith, inl, inr, ◌⊎◌, append_assoc}
+use Rattle.std.proofs.Common.{◌≡◌, ℕ, ◌+◌, ◌<◌, ◌≤◌, List, [], ◌∷◌, ◌++◌, Option, option_map, Some, None, Bool, true, false, refl, sym, ap, subst, ◌∙◌, arith, inl, inr, ◌⊎◌, map}
 use Rattle.std.proofs.lemmas.List.{append-nil}
 use Rattle.std.specs.Prelude.{nat_lt, if◌then◌else◌}
 use Rattle.std.proofs.lemmas.Bool.{lt-ltb, le-ltb}
 use Rattle.tcp_seq.specs.Endpoint.{again_length}
+use Rattle.ring_net.specs.Deeds.{Climbs}
 use Rattle.ring_net.specs.declared.post.Post.{Post}
 use Rattle.graft_steps.specs.declared.item.Item.{Item}
 use Rattle.router_core.specs.declared.place.Errand.{Errand}
@@ -19,22 +20,17 @@ use Rattle.graft_actors.specs.Emissions.{Tally, IsRested, nothing, reach_of}
 use Rattle.router_core.specs.Parts.{router_part, KeepsPlace}
 use Rattle.router_core.specs.Places.{place_of, place_at, errand_of, RunsAt}
 use Rattle.router_core.specs.Rested.{AwaitsAtMost, IsDone, IsQuietPlace, RestedRouter}
-use Rattle.router_core.specs.Rounds.{Did}
+use Rattle.router_core.specs.Rounds.{SendsOld, Works, Did}
 use Rattle.router_core.specs.Stages.{PlaceGoes, GraftGoes, WordGoes, PutsMore, IsLevel, EmitsAll, PassesWhereItMay, again_at, answer_at, with_again, with_answers, SendsAgain, PassesRounds, BeginsGrafts, DecidesAll, TellsAll, ConfirmsAll, PutsAll, Emits}
-use Rattle.router_core.specs.Turned.{rounds_on, TicksFirst, TurnsSession, TurnsOnce}
+use Rattle.router_core.specs.Turned.{rounds_on, emits_on, answers_on, stage_of, TurnsSession, TurnsOnce}
 use Rattle.router_core.specs.Updates.{IsStuck, IsUnwritable}
 use Rattle.router_core.specs.declared.fields.Fields.{Fields}
 use Rattle.router_core.specs.declared.place.Errand.TheVariants.{Leaving, Owing, Asking}
 use Rattle.router_core.specs.declared.place.Place.{Place}
 use Rattle.router_core.specs.declared.place.Place.TheVariants.{Live, Shadow}
-use Rattle.router_core.proofs.Dids.{did_same, did_then}
-use Rattle.router_core.proofs.RoundLists.{no_puts_then, rounds_on-append}
-
--- ---- rounds
-
--- where no round passes before or after
-rounds_before : (p : ℕ) (es fs : List RouterEvent) → rounds_on p es ≡ [] → rounds_on p (es ++ fs) ≡ rounds_on p fs
-rounds_before p es fs none = rounds_on-append p es fs ∙ ap (λ (xs : List ℕ). xs ++ rounds_on p fs) none
+use Rattle.router_core.proofs.Dids.{did_same, did_then, round_at}
+use Rattle.router_core.proofs.Goes.{GoesThrough, goes_again, goes_working}
+use Rattle.router_core.proofs.RoundLists.{answers_behind, climbs_at, rounds_behind, rounds_none, rounds_on-append}
 
 -- ---- a place through the stages
 
@@ -193,32 +189,31 @@ lives_on round rounds a b c d m h k s u o q is end again passes grafts confirms 
     let (o2, m_is) = live_told s2 o1 m (subst (λ (x : Option Place). WordGoes x m) d_is confirms) in
     lives_later round rounds m h k s s1 s2 u o2 q m_is end level passed puts emits
 
--- ---- the tallies
+-- ---- how much is sent
 
-again_few : (x : Option Place) → 0 + again_at x ≤ 1
+again_few : (x : Option Place) → again_at x ≤ 1
 again_few None = omega arith
 again_few (Some (Live s o)) = by_flags (nat_lt s.acked_at_turn s.session.end.acked) (nat_lt 0 (again_length s.session.end))
   where
-    by_flags : (b c : Bool) → 0 + (if b then 0 else (if c then 1 else 0)) ≤ 1
+    by_flags : (b c : Bool) → (if b then 0 else (if c then 1 else 0)) ≤ 1
     by_flags true c = omega arith
     by_flags false true = omega arith
     by_flags false false = omega arith
 again_few (Some (Shadow away)) = omega arith
 
-answer_few : (x : Option Place) → 0 + answer_at x ≤ 1
+answer_few : (x : Option Place) → answer_at x ≤ 1
 answer_few None = omega arith
 answer_few (Some (Live s o)) = by_flag s.session.end.owed
   where
-    by_flag : (b : Bool) → 0 + (if b then 1 else 0) ≤ 1
+    by_flag : (b : Bool) → (if b then 1 else 0) ≤ 1
     by_flag true = omega arith
     by_flag false = omega arith
 answer_few (Some (Shadow away)) = omega arith
 
-again_once : (s : RunningSession) (o : Option Errand) → s.acked_at_turn ≡ s.session.end.acked → s.session.end.acked < s.session.end.emitted → 0 + again_at (Some (Live s o)) ≡ 1
+again_once : (s : RunningSession) (o : Option Errand) → s.acked_at_turn ≡ s.session.end.acked → s.session.end.acked < s.session.end.emitted → again_at (Some (Live s o)) ≡ 1
 again_once s o level out =
-    ap (λ (b : Bool). let n : ℕ = 0 + (if b then 0 else (if nat_lt 0 (again_length s.session.end) then 1 else 0)) in n) (le-ltb s.acked_at_turn s.session.end.acked (omega (arith, level)))
-    ∙ ap (λ (b : Bool). let n : ℕ = 0 + (if b then 1 else 0) in n) (lt-ltb 0 (again_length s.session.end) (omega (arith, out)))
-    ∙ (let e : 0 + 1 ≡ 1 = omega arith in e)
+    ap (λ (b : Bool). let n : ℕ = if b then 0 else (if nat_lt 0 (again_length s.session.end) then 1 else 0) in n) (le-ltb s.acked_at_turn s.session.end.acked (omega (arith, level)))
+    ∙ ap (λ (b : Bool). let n : ℕ = if b then 1 else 0 in n) (lt-ltb 0 (again_length s.session.end) (omega (arith, out)))
 
 -- ---- the whole turn
 
@@ -257,54 +252,87 @@ module _ (f a b c d e g m h k : Fields) (p0 p1 p2 p3 p4 p5 p6 p7 p8 : Post (Item
   confirms_at : (p : ℕ) → WordGoes (place_at d.places.places p) (place_at m.places.places p)
   confirms_at p = subst (λ (x : Option Place). WordGoes x (place_at m.places.places p)) (g_places p) (confirms.places p)
 
-  abbrev events : List RouterEvent
-  events = again.events ++ (rounds.events ++ (grafts.events ++ (decides.events ++ (tells.events ++ (confirms.events ++ (puts.events ++ emits.events))))))
-
-  abbrev tally : ℕ → Tally
-  tally = with_answers h (with_again a (λ p. nothing))
-
-  did_all : Did f p0 (λ p. nothing) events k p8 tally
-  did_all =
-      let t : ℕ → Tally = with_again a (λ p. nothing) in
-      let told : List RouterEvent = confirms.events ++ (puts.events ++ emits.events) in
-      let rest3 : List RouterEvent = decides.events ++ (tells.events ++ told) in
-      let counted_did : Did f p0 (λ p. nothing) [] a p0 (λ p. nothing) = did_same f a p0 (λ p. nothing) (record { setup = ap (λ (x : Fields). x.known.setup) counted; number = ap (λ (x : Fields). x.number) counted }) (ap router_part counted) in
-      did_then f a k p0 p0 p8 (λ p. nothing) (λ p. nothing) tally [] events counted_did
-      (did_then a b k p0 p1 p8 (λ p. nothing) t tally again.events (rounds.events ++ (grafts.events ++ rest3)) (again.did (λ p. nothing))
-      (did_then b c k p1 p2 p8 t t tally rounds.events (grafts.events ++ rest3) (rounds.did t)
-      (did_then c d k p2 p3 p8 t t tally grafts.events rest3 (grafts.did t)
-      (did_then d e k p3 p4 p8 t t tally decides.events (tells.events ++ told) (decides.did t)
-      (did_then e g k p4 p5 p8 t t tally tells.events told (tells.did t)
-      (did_then g m k p5 p6 p8 t t tally confirms.events (puts.events ++ emits.events) (confirms.did t)
-      (did_then m h k p6 p7 p8 t t tally puts.events emits.events (puts.did t) (emits.did t))))))))
-
-  -- the events behind the stage of rounds
+  -- the events behind the stage of rounds, and those of the work
   abbrev behind : List RouterEvent
   behind = grafts.events ++ (decides.events ++ (tells.events ++ (confirms.events ++ (puts.events ++ emits.events))))
 
-  no_rounds_behind : (p : ℕ) → rounds_on p behind ≡ []
-  no_rounds_behind p =
+  abbrev work : List RouterEvent
+  work = rounds.events ++ behind
+
+  -- the tallies once old segments were sent again, and at the end
+  abbrev sent : ℕ → Tally
+  sent = with_again a (λ p. nothing)
+
+  abbrev tally : ℕ → Tally
+  tally = with_answers h sent
+
+  did_again : Did f p0 (λ p. nothing) again.events b p1 sent
+  did_again =
+      let counted_did : Did f p0 (λ p. nothing) [] a p0 (λ p. nothing) = did_same f a p0 (λ p. nothing) (record { setup = ap (λ (x : Fields). x.known.setup) counted; number = ap (λ (x : Fields). x.number) counted }) (ap router_part counted) in
+      did_then f a b p0 p0 p1 (λ p. nothing) (λ p. nothing) sent [] again.events counted_did (again.did (λ p. nothing))
+
+  did_work : Did b p1 sent work k p8 tally
+  did_work =
       let told : List RouterEvent = confirms.events ++ (puts.events ++ emits.events) in
-      rounds_before p grafts.events (decides.events ++ (tells.events ++ told)) (grafts.no_rounds p) ∙ rounds_before p decides.events (tells.events ++ told) (decides.no_rounds p)
-      ∙ rounds_before p tells.events told (tells.no_rounds p) ∙ rounds_before p confirms.events (puts.events ++ emits.events) (confirms.no_rounds p)
-      ∙ rounds_before p puts.events emits.events (puts.no_rounds p) ∙ emits.no_rounds p
+      did_then b c k p1 p2 p8 sent sent tally rounds.events behind (rounds.did sent)
+      (did_then c d k p2 p3 p8 sent sent tally grafts.events (decides.events ++ (tells.events ++ told)) (grafts.did sent)
+      (did_then d e k p3 p4 p8 sent sent tally decides.events (tells.events ++ told) (decides.did sent)
+      (did_then e g k p4 p5 p8 sent sent tally tells.events told (tells.did sent)
+      (did_then g m k p5 p6 p8 sent sent tally confirms.events (puts.events ++ emits.events) (confirms.did sent)
+      (did_then m h k p6 p7 p8 sent sent tally puts.events emits.events (puts.did sent) (emits.did sent))))))
 
-  in_order : TicksFirst events
-  in_order = record {
-    first = again.events ++ rounds.events;
-    rest = behind;
-    split = sym (append_assoc again.events rounds.events behind);
-    no_puts = no_puts_then again.events rounds.events again.no_puts rounds.no_puts;
-    no_rounds = no_rounds_behind;
-  }
+  did_all : Did f p0 (λ p. nothing) (again.events ++ work) k p8 tally
+  did_all = did_then f b k p0 p1 p8 (λ p. nothing) sent tally again.events work did_again did_work
 
-  -- the rounds of the turn are those of its stage
-  rounds_are : (p : ℕ) → rounds_on p events ≡ rounds_on p rounds.events
+  -- old segments first, and the work then
+  sends : GoesThrough f.known.setup f.number.0 SendsOld (router_part f) again.events (router_part b)
+  sends = goes_again f.known.setup f.number.0 (router_part f) (router_part b) (λ p. nothing) sent again.events did_again.round again.at (λ p. ap (λ (n : ℕ). 0 + n) (sym (again.once p)))
+
+  works : GoesThrough f.known.setup f.number.0 (Works f.known.setup f.number.0) (router_part b) work (router_part k)
+  works = goes_working f.known.setup f.number.0 (router_part b) (router_part k) sent tally work (round_at f b sent tally work (router_part b) (router_part k) did_again.router did_work.round) (λ p. refl)
+
+  in_order : Climbs 1 (map stage_of work)
+  in_order =
+      let told : List RouterEvent = confirms.events ++ (puts.events ++ emits.events) in
+      let last : Climbs 6 (map stage_of emits.events) = subst (λ (es : List RouterEvent). Climbs 6 (map stage_of es)) (append-nil emits.events) (climbs_at 6 7 emits.events [] (omega arith) emits.at tt) in
+      climbs_at 1 1 rounds.events behind (omega arith) rounds.at
+      (climbs_at 1 2 grafts.events (decides.events ++ (tells.events ++ told)) (omega arith) grafts.at
+      (climbs_at 2 3 decides.events (tells.events ++ told) (omega arith) decides.at
+      (climbs_at 3 4 tells.events told (omega arith) tells.at
+      (climbs_at 4 5 confirms.events (puts.events ++ emits.events) (omega arith) confirms.at
+      (climbs_at 5 6 puts.events emits.events (omega arith) puts.at last)))))
+
+  -- the rounds of the turn are those of their stage
+  rounds_are : (p : ℕ) → rounds_on p work ≡ rounds_on p rounds.events
   rounds_are p =
-      rounds_before p again.events (rounds.events ++ behind) (again.no_rounds p) ∙ rounds_on-append p rounds.events behind
-      ∙ ap (λ (xs : List ℕ). rounds_on p rounds.events ++ xs) (no_rounds_behind p) ∙ append-nil (rounds_on p rounds.events)
+      let told : List RouterEvent = confirms.events ++ (puts.events ++ emits.events) in
+      let none : rounds_on p behind ≡ [] =
+      rounds_behind 2 p grafts.events (decides.events ++ (tells.events ++ told)) (λ e. omega (arith, e)) grafts.at
+      ∙ rounds_behind 3 p decides.events (tells.events ++ told) (λ e. omega (arith, e)) decides.at
+      ∙ rounds_behind 4 p tells.events told (λ e. omega (arith, e)) tells.at
+      ∙ rounds_behind 5 p confirms.events (puts.events ++ emits.events) (λ e. omega (arith, e)) confirms.at
+      ∙ rounds_behind 6 p puts.events emits.events (λ e. omega (arith, e)) puts.at
+      ∙ rounds_none 7 p emits.events (λ e. omega (arith, e)) emits.at in
+      rounds_on-append p rounds.events behind ∙ ap (λ (xs : List ℕ). rounds_on p rounds.events ++ xs) none ∙ append-nil (rounds_on p rounds.events)
 
-  session_turns : (p : ℕ) (s u : RunningSession) (o q : Option Errand) → RunsAt f.places.places p s o → RunsAt k.places.places p u q → TurnsSession k.turns p events (tally p) s u
+  -- and so are its answers
+  answers_are : (p : ℕ) → answers_on p work ≡ answers_on p emits.events
+  answers_are p =
+      let told : List RouterEvent = confirms.events ++ (puts.events ++ emits.events) in
+      answers_behind 1 p rounds.events behind (λ e. omega (arith, e)) rounds.at
+      ∙ answers_behind 2 p grafts.events (decides.events ++ (tells.events ++ told)) (λ e. omega (arith, e)) grafts.at
+      ∙ answers_behind 3 p decides.events (tells.events ++ told) (λ e. omega (arith, e)) decides.at
+      ∙ answers_behind 4 p tells.events told (λ e. omega (arith, e)) tells.at
+      ∙ answers_behind 5 p confirms.events (puts.events ++ emits.events) (λ e. omega (arith, e)) confirms.at
+      ∙ answers_behind 6 p puts.events emits.events (λ e. omega (arith, e)) puts.at
+
+  few : (p : ℕ) → (emits_on p again.events ≤ 1) × (answers_on p work ≤ 1)
+  few p = (
+    subst (λ (n : ℕ). n ≤ 1) (sym (again.once p)) (again_few (place_at a.places.places p)),
+    subst (λ (n : ℕ). n ≤ 1) (sym (answers_are p ∙ emits.once p)) (answer_few (place_at h.places.places p)),
+  )
+
+  session_turns : (p : ℕ) (s u : RunningSession) (o q : Option Errand) → RunsAt f.places.places p s o → RunsAt k.places.places p u q → TurnsSession k.turns p again.events work s u
   session_turns p s u o q before after =
       let start : place_at a.places.places p ≡ Some (Live s o) = ap (λ (x : Fields). place_at x.places.places p) counted ∙ before.is in
       let round : b.turns ≡ k.turns = ap (λ (x : Fields). x.turns) b_same ∙ sym (ap (λ (x : Fields). x.turns) k_same) in
@@ -315,12 +343,12 @@ module _ (f a b c d e g m h k : Fields) (p0 p1 p2 p3 p4 p5 p6 p7 p8 : Post (Item
       record {
         acked = on.acked;
         at_turn = on.at_turn;
-        again = λ level out. ap (λ (x : Option Place). let n : ℕ = 0 + again_at x in n) start ∙ again_once s o level out;
+        again = λ level out. again.once p ∙ ap again_at start ∙ again_once s o level out;
         ticked = subst (λ (xs : List ℕ). (MayPass s.session k.turns × (xs ≡ k.turns ∷ [])) ⊎ ((¬ MayPass s.session k.turns) × (xs ≡ []))) (sym (rounds_are p)) on.ticked;
       }
 
   session_passes : (p : ℕ) (s : RunningSession) (o : Option Errand) → RunsAt f.places.places p s o
-      → (MayPass s.session k.turns × (rounds_on p events ≡ k.turns ∷ [])) ⊎ ((¬ MayPass s.session k.turns) × (rounds_on p events ≡ []))
+      → (MayPass s.session k.turns × (rounds_on p work ≡ k.turns ∷ [])) ⊎ ((¬ MayPass s.session k.turns) × (rounds_on p work ≡ []))
   session_passes p s o before =
       let start : place_at a.places.places p ≡ Some (Live s o) = ap (λ (x : Fields). place_at x.places.places p) counted ∙ before.is in
       let round : b.turns ≡ k.turns = ap (λ (x : Fields). x.turns) b_same ∙ sym (ap (λ (x : Fields). x.turns) k_same) in
@@ -368,13 +396,17 @@ module _ (f a b c d e g m h k : Fields) (p0 p1 p2 p3 p4 p5 p6 p7 p8 : Post (Item
       moved = record {
         router = did_all.router;
         turns = ap (λ (x : Fields). x.turns) k_same;
-        events = events;
+        again = again.events;
+        work = work;
         coded = did_all.coded;
-        tally = tally;
-        round = did_all.round;
+        sent = router_part b;
+        first = sends.0;
+        later = works.0;
+        sends = sends.1;
+        works = works.1;
         in_order = in_order;
         rested = rested;
-        few = λ p. (again_few (place_at a.places.places p), answer_few (place_at h.places.places p));
+        few = few;
         passes = session_passes;
         sessions = session_turns;
       };

@@ -16,7 +16,7 @@ use Rattle.graft_actors.specs.Emissions.{Tally}
 use Rattle.router_core.specs.Parts.{Keeps}
 use Rattle.router_core.specs.Places.{place_of, place_at}
 use Rattle.router_core.specs.Rounds.{Did}
-use Rattle.router_core.specs.Turned.{NoRounds}
+use Rattle.router_core.specs.Turned.{AreAt}
 use Rattle.router_core.specs.declared.fields.Fields.{Fields}
 
 -- At the first so many numbers a prefix is in the sets too, where its number passes the test.
@@ -50,6 +50,6 @@ pub record DecidesOne (prefix : PrefixValue) (old : Fields) (before : Post (Item
 pub record DecidesSome (old : Fields) (before : Post (Item RunningSession)) (new : Fields) (after : Post (Item RunningSession)) : Type 0 where
   pub events : List RouterEvent
   pub did : (t : ℕ → Tally) → Did old before t events new after t
-  pub no_rounds : NoRounds events
+  pub at : AreAt 3 events
   pub same : new ≡ record old { rib = new.rib; due_in = new.due_in; due_out = new.due_out }
   pub keeps : Keeps new

@@ -23,7 +23,7 @@ use Rattle.router_core.specs.Places.{place_at}
 use Rattle.router_core.specs.Rested.{IsDone}
 use Rattle.router_core.specs.Rounds.{Did}
 use Rattle.router_core.specs.Stages.{PlaceGoes, PutsMore}
-use Rattle.router_core.specs.Turned.{NoRounds}
+use Rattle.router_core.specs.Turned.{AreAt}
 use Rattle.router_core.specs.Updates.{IsNextUpdate, IsStuckInTime}
 use Rattle.router_core.specs.Visits.{SameButLeaving}
 use Rattle.router_core.specs.declared.fields.Fields.{Fields}
@@ -85,7 +85,7 @@ TimeAnswer (Some (Shadow away)) answer = answer ≡ None
 pub record PutsSomeAt (n : ℕ) (old : Fields) (before : Post (Item RunningSession)) (new : Fields) (after : Post (Item RunningSession)) : Type 0 where
   pub events : List RouterEvent
   pub did : (t : ℕ → Tally) → Did old before t events new after t
-  pub no_rounds : NoRounds events
+  pub at : AreAt 6 events
   pub goes : PlaceGoes PutsMore (place_at old.places.places n) (place_at new.places.places n)
   pub others : (q : ℕ) → q ≢ n → (place_at new.places.places q ≡ place_at old.places.places q) × (table_at new.due_out q ≡ table_at old.due_out q)
   pub same : SameButLeaving old new
@@ -110,7 +110,7 @@ PutOrDone false n batch old new = IsDone old.known.setup old.number.0 (router_pa
 pub record PutsFirst (n : ℕ) (old : Fields) (before : Post (Item RunningSession)) (new : Fields) (after : Post (Item RunningSession)) : Type 0 where
   pub events : List RouterEvent
   pub did : (t : ℕ → Tally) → Did old before t events new after t
-  pub no_rounds : NoRounds events
+  pub at : AreAt 6 events
   pub goes : (p : ℕ) → p < n → PlaceGoes PutsMore (place_at old.places.places p) (place_at new.places.places p)
   pub done : (p : ℕ) → p < n → IsDone old.known.setup old.number.0 (router_part new) p ((router_part new).places p)
   pub left : (p : ℕ) → n ≤ p → place_at new.places.places p ≡ place_at old.places.places p

@@ -33,7 +33,7 @@ use Rattle.router_core.specs.Entering.{EntersAll, entry_here}
 use Rattle.router_core.specs.Parts.{IsDueWhileUp, IsOfPeering, IsErrandOf, KeepsPlace, Keeps}
 use Rattle.router_core.specs.Places.{RunsAt, place_at}
 use Rattle.router_core.specs.Rounds.{Did}
-use Rattle.router_core.specs.Turned.{NoPuts, NoRounds}
+use Rattle.router_core.specs.Turned.{AreAt}
 use Rattle.router_core.specs.Takes.{Stays}
 use Rattle.router_core.specs.declared.fields.Fields.{Fields}
 use Rattle.router_core.specs.declared.place.Place.{Place}
@@ -187,7 +187,6 @@ pub record ReadsNone (p : ℕ) (old : Fields) (before : Post (Item RunningSessio
 pub record ReadsAll (p : ℕ) (old : Fields) (before : Post (Item RunningSession)) (new : Fields) (after : Post (Item RunningSession)) : Type 0 where
   pub events : List RouterEvent
   pub did : (t : ℕ → Tally) → Did old before t events new after t
-  pub no_rounds : NoRounds events
-  pub no_puts : NoPuts events
+  pub at : AreAt 0 events
   pub stays : StaysBut p old new
   pub keeps : Keeps new

@@ -1,11 +1,12 @@
 -- The events of a router one after another: each by its row, with what it emits and puts as a turn has it.
-use Rattle.std.specs.Prelude.{ℕ, suc, ◌≡◌, List, [], ◌∷◌, length, Option}
+use Rattle.std.specs.Prelude.{ℕ, zero, suc, ◌≡◌, true, List, [], ◌∷◌, length, Option}
 use Rattle.std.specs.List.{AllByRecursion}
 use Rattle.ring_net.specs.Deeds.{Deed, Replay, TakesNone}
 use Rattle.ring_net.specs.Posts.{actor_of, Wrote}
 use Rattle.ring_net.specs.declared.post.Post.{Post}
 use Rattle.graft_steps.specs.declared.item.Item.{Item}
 use Rattle.bgp_session.specs.Running.{RunningSession}
+use Rattle.tcp_seq.specs.Endpoint.{Endpoint}
 use Rattle.session_value.specs.Sessions.{SessionValue}
 use Rattle.tell_plan.specs.declared.batch.Batch.{Batch}
 use Rattle.graft_model.specs.Points.{at}
@@ -19,7 +20,7 @@ use Rattle.graft_model.specs.Steps.{router_row}
 use Rattle.graft_runs.specs.Makes.{HasCode}
 use Rattle.graft_actors.specs.Acts.{acts}
 use Rattle.graft_actors.specs.Notes.{WroteOne}
-use Rattle.graft_actors.specs.Emissions.{IsCareful, Tally, counted}
+use Rattle.graft_actors.specs.Emissions.{IsOld, IsNew, IsCareful, Tally, counted}
 use Rattle.router_core.specs.Parts.{router_part, own_part, carried}
 use Rattle.router_core.specs.Updates.{IsNextUpdate}
 use Rattle.router_core.specs.declared.fields.Fields.{Fields}
@@ -46,6 +47,40 @@ abbrev pub CarefulRouter : Setup → ℕ → RouterPart → RouterEvent → Type
 CarefulRouter setup r part (Emit p from len) = EmitsCarefully part p from len
 CarefulRouter setup r part (Put p (suc n)) = PutsNext setup r part p (suc n)
 CarefulRouter setup r part event = Unit {0}
+
+-- ---- what a router does at one stage of a round
+
+-- the session that is live there emits a segment of this kind
+pub record EmitsSome (Kind : Endpoint → ℕ → ℕ → Type 0) (part : RouterPart) (p from len : ℕ) : Type 0 where
+  pub session : SessionValue
+  pub errand : Option Errand
+  pub live : IsLive part p session errand
+  pub kind : Kind session.end from len
+
+-- a segment without bytes gives an answer that is owed; one with bytes is new
+abbrev pub IsNewOrOwed : Endpoint → ℕ → ℕ → Type 0
+IsNewOrOwed e from zero = e.owed ≡ true
+IsNewOrOwed e from (suc n) = IsNew e from (suc n)
+
+-- the first outstanding slice of a session is sent again
+abbrev pub SendsOld : RouterPart → RouterEvent → Type 0
+SendsOld part (Emit p from len) = EmitsSome IsOld part p from len
+SendsOld part event = ⊥
+
+-- what is emitted is new, or an answer that is owed; and an UPDATE that is put is the next one
+abbrev pub Works : Setup → ℕ → RouterPart → RouterEvent → Type 0
+Works setup r part (Emit p from len) = EmitsSome IsNewOrOwed part p from len
+Works setup r part (Put p (suc n)) = PutsNext setup r part p (suc n)
+Works setup r part event = Unit {0}
+
+-- The events lead from one part to another through these, one behind each event, each by its row, and each is what the stage allows.
+abbrev pub RouterGoes : Setup → ℕ → (RouterPart → RouterEvent → Type 0) → RouterPart → List RouterEvent → List RouterPart → RouterPart → Type 0
+RouterGoes setup r Allowed before [] [] after = after ≡ before
+RouterGoes setup r Allowed before (event ∷ events) (next ∷ parts) after =
+    (taken : Option RouterTaken) × (sent : List RouterSent) × router_row setup r event before taken sent next × Allowed before event × RouterGoes setup r Allowed next events parts after
+RouterGoes setup r Allowed before events parts after = ⊥
+
+-- ---- the same with tallies, which the stages count
 
 -- what is emitted from a place is counted
 abbrev pub tally_at : Place → ℕ → ℕ → Tally → Tally

@@ -13,7 +13,7 @@ use Rattle.router_core.specs.Parts.{router_part, Keeps}
 use Rattle.router_core.specs.Places.{place_at}
 use Rattle.router_core.specs.Rested.{IsDone}
 use Rattle.router_core.specs.Rounds.{Did}
-use Rattle.router_core.specs.Turned.{NoPuts, NoRounds, rounds_on}
+use Rattle.router_core.specs.Turned.{AreAt, rounds_on, emits_on, answers_on}
 use Rattle.router_core.specs.declared.fields.Fields.{Fields}
 use Rattle.router_core.specs.declared.place.Errand.TheVariants.{Leaving, Owing, Asking}
 use Rattle.router_core.specs.declared.place.Place.{Place}
@@ -86,49 +86,49 @@ with_answers f t p = record (t p) { answers = (t p).answers + answer_at (place_a
 
 pub record SendsAgain (old : Fields) (before : Post (Item RunningSession)) (new : Fields) (after : Post (Item RunningSession)) : Type 0 where
   pub events : List RouterEvent
+  pub at : AreAt 7 events
   pub did : (t : ℕ → Tally) → Did old before t events new after (with_again old t)
-  pub no_puts : NoPuts events
-  pub no_rounds : NoRounds events
+  pub once : (p : ℕ) → emits_on p events ≡ again_at (place_at old.places.places p)
   pub places : (p : ℕ) → PlaceGoes IsLevel (place_at old.places.places p) (place_at new.places.places p)
   pub same : new ≡ record old { places = new.places }
   pub keeps : Keeps new
 
 pub record PassesRounds (old : Fields) (before : Post (Item RunningSession)) (new : Fields) (after : Post (Item RunningSession)) : Type 0 where
   pub events : List RouterEvent
+  pub at : AreAt 1 events
   pub did : (t : ℕ → Tally) → Did old before t events new after t
-  pub no_puts : NoPuts events
   pub places : (p : ℕ) → PlaceGoes (PassesWhereItMay old.turns (rounds_on p events)) (place_at old.places.places p) (place_at new.places.places p)
   pub same : new ≡ record old { places = new.places; rib = new.rib; due_out = new.due_out }
   pub keeps : Keeps new
 
 pub record BeginsGrafts (old : Fields) (before : Post (Item RunningSession)) (new : Fields) (after : Post (Item RunningSession)) : Type 0 where
   pub events : List RouterEvent
+  pub at : AreAt 2 events
   pub did : (t : ℕ → Tally) → Did old before t events new after t
-  pub no_rounds : NoRounds events
   pub places : (p : ℕ) → GraftGoes (place_at old.places.places p) (place_at new.places.places p)
   pub same : new ≡ record old { places = new.places; due_out = new.due_out }
   pub keeps : Keeps new
 
 pub record DecidesAll (old : Fields) (before : Post (Item RunningSession)) (new : Fields) (after : Post (Item RunningSession)) : Type 0 where
   pub events : List RouterEvent
+  pub at : AreAt 3 events
   pub did : (t : ℕ → Tally) → Did old before t events new after t
-  pub no_rounds : NoRounds events
   pub clean : new.rib.dirty ≡ map.empty
   pub same : new ≡ record old { rib = new.rib; due_in = new.due_in; due_out = new.due_out }
   pub keeps : Keeps new
 
 pub record TellsAll (old : Fields) (before : Post (Item RunningSession)) (new : Fields) (after : Post (Item RunningSession)) : Type 0 where
   pub events : List RouterEvent
+  pub at : AreAt 4 events
   pub did : (t : ℕ → Tally) → Did old before t events new after t
-  pub no_rounds : NoRounds events
   pub told : (q : ℕ) → (router_part new).due_in q ≡ map.empty
   pub same : new ≡ record old { due_in = new.due_in }
   pub keeps : Keeps new
 
 pub record ConfirmsAll (old : Fields) (before : Post (Item RunningSession)) (new : Fields) (after : Post (Item RunningSession)) : Type 0 where
   pub events : List RouterEvent
+  pub at : AreAt 5 events
   pub did : (t : ℕ → Tally) → Did old before t events new after t
-  pub no_rounds : NoRounds events
   pub places : (p : ℕ) → WordGoes (place_at old.places.places p) (place_at new.places.places p)
   pub same : new ≡ record old { places = new.places }
   pub keeps : Keeps new
@@ -136,8 +136,8 @@ pub record ConfirmsAll (old : Fields) (before : Post (Item RunningSession)) (new
 -- On each session all is put that is to be told, or its next update has no room or can't be written.
 pub record PutsAll (old : Fields) (before : Post (Item RunningSession)) (new : Fields) (after : Post (Item RunningSession)) : Type 0 where
   pub events : List RouterEvent
+  pub at : AreAt 6 events
   pub did : (t : ℕ → Tally) → Did old before t events new after t
-  pub no_rounds : NoRounds events
   pub places : (p : ℕ) → PlaceGoes PutsMore (place_at old.places.places p) (place_at new.places.places p)
   pub done : (p : ℕ) → IsDone old.known.setup old.number.0 (router_part new) p ((router_part new).places p)
   pub same : new ≡ record old { places = new.places; due_out = new.due_out }
@@ -145,8 +145,9 @@ pub record PutsAll (old : Fields) (before : Post (Item RunningSession)) (new : F
 
 pub record Emits (old : Fields) (before : Post (Item RunningSession)) (new : Fields) (after : Post (Item RunningSession)) : Type 0 where
   pub events : List RouterEvent
+  pub at : AreAt 7 events
   pub did : (t : ℕ → Tally) → Did old before t events new after (with_answers old t)
-  pub no_rounds : NoRounds events
+  pub once : (p : ℕ) → answers_on p events ≡ answer_at (place_at old.places.places p)
   pub places : (p : ℕ) → PlaceGoes EmitsAll (place_at old.places.places p) (place_at new.places.places p)
   pub same : new ≡ record old { places = new.places }
   pub keeps : Keeps new

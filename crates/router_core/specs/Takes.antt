@@ -7,13 +7,13 @@ use Rattle.graft_steps.specs.declared.item.Item.{Item}
 use Rattle.graft_steps.specs.declared.item.Item.TheVariants as items
 use Rattle.router_core.specs.declared.place.Errand.{Errand}
 use Rattle.bgp_session.specs.Running.{RunningSession}
+use Rattle.graft_model.specs.Parts.{RouterPart}
 use Rattle.graft_model.specs.declared.event.RouterEvent.{RouterEvent}
 use Rattle.graft_actors.specs.Acts.{acts, IsWelcome}
-use Rattle.graft_actors.specs.Emissions.{Tally}
 use Rattle.router_core.specs.Parts.{router_part, own_part, carried, Keeps}
 use Rattle.router_core.specs.Places.{RunsAt}
-use Rattle.router_core.specs.Rounds.{AreOf, RouterRound, SameRouter}
-use Rattle.router_core.specs.Turned.{NoPuts, NoRounds}
+use Rattle.router_core.specs.Rounds.{AreOf, RouterGoes, SameRouter}
+use Rattle.router_core.specs.Turned.{Takes}
 use Rattle.router_core.specs.declared.fields.Fields.{Fields}
 
 -- The session of a peering that stays live through a take emits nothing, and its retransmission turn is what it was.
@@ -22,13 +22,12 @@ pub record Stays (old new : RunningSession) : Type 0 where
   pub emitted : new.session.end.emitted ≡ old.session.end.emitted
   pub at_turn : new.acked_at_turn ≡ old.acked_at_turn
 
--- The events of a take of an item that is welcome, in which no round passes and nothing is put, and the sessions that stay.
+-- The events of a take of an item that is welcome, all of which are made as items are taken, and the sessions that stay.
 pub record TakesRows (old : Fields) (deeds : List (Deed (Item RunningSession))) (new : Fields) : Type 0 where
   pub events : List RouterEvent
   pub coded : AreOf events deeds
-  pub round : (t : ℕ → Tally) → RouterRound old.known.setup old.number.0 (router_part old) t events (router_part new) t
-  pub no_rounds : NoRounds events
-  pub no_puts : NoPuts events
+  pub parts : List RouterPart
+  pub goes : RouterGoes old.known.setup old.number.0 Takes (router_part old) events parts (router_part new)
   pub stays : (p : ℕ) (s u : RunningSession) (o q : Option Errand) → RunsAt old.places.places p s o → RunsAt new.places.places p u q → Stays s u
 
 pub record Took (old : Fields) (from : ℕ) (item : Item RunningSession) (deeds : List (Deed (Item RunningSession))) (new : Fields) : Type 0 where

@@ -12,7 +12,7 @@ use Rattle.graft_model.specs.declared.event.RouterEvent.TheVariants.{Tell}
 use Rattle.graft_actors.specs.Emissions.{Tally}
 use Rattle.router_core.specs.Parts.{Keeps}
 use Rattle.router_core.specs.Rounds.{Did}
-use Rattle.router_core.specs.Turned.{NoRounds}
+use Rattle.router_core.specs.Turned.{AreAt}
 use Rattle.router_core.specs.declared.fields.Fields.{Fields}
 
 -- A router is told a prefix, which is due to it no more.
@@ -26,7 +26,7 @@ pub record TellsOne (q : ℕ) (prefix : PrefixValue) (old : Fields) (before : Po
 pub record TellsSome (q : ℕ) (old : Fields) (before : Post (Item RunningSession)) (new : Fields) (after : Post (Item RunningSession)) : Type 0 where
   pub events : List RouterEvent
   pub did : (t : ℕ → Tally) → Did old before t events new after t
-  pub no_rounds : NoRounds events
+  pub at : AreAt 4 events
   pub others : (k : ℕ) → k ≢ q → table_at new.due_in k ≡ table_at old.due_in k
   pub same : new ≡ record old { due_in = new.due_in }
   pub keeps : Keeps new
@@ -40,7 +40,7 @@ pub record TellsRouter (q : ℕ) (old : Fields) (before : Post (Item RunningSess
 pub record TellsFirst (n : ℕ) (old : Fields) (before : Post (Item RunningSession)) (new : Fields) (after : Post (Item RunningSession)) : Type 0 where
   pub events : List RouterEvent
   pub did : (t : ℕ → Tally) → Did old before t events new after t
-  pub no_rounds : NoRounds events
+  pub at : AreAt 4 events
   pub told : (q : ℕ) → q < n → table_at new.due_in q ≡ map.empty
   pub same : new ≡ record old { due_in = new.due_in }
   pub keeps : Keeps new

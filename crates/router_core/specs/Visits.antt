@@ -10,14 +10,27 @@ use Rattle.router_core.specs.Parts.{Keeps}
 use Rattle.router_core.specs.Places.{place_at}
 use Rattle.router_core.specs.Rounds.{Did}
 use Rattle.router_core.specs.Stages.{PlaceGoes, GraftGoes, WordGoes, IsLevel, EmitsAll, PassesWhereItMay, again_at, answer_at}
-use Rattle.router_core.specs.Turned.{NoPuts, rounds_on}
+use Rattle.router_core.specs.Turned.{AreAt, rounds_on, emits_on, answers_on}
 use Rattle.router_core.specs.declared.fields.Fields.{Fields}
 use Rattle.router_core.specs.declared.place.Place.{Place}
 use Rattle.router_core.specs.declared.place.Place.TheVariants.{Live, Shadow}
 
--- what becomes of a place on which these rounds pass, what is counted there, and what else of the router may change
+-- what events are on one peering: the rounds that pass on its session, how many segments are emitted, and how many of these have no bytes
+pub record OnPeering : Type 0 where
+  pub rounds : List ℕ
+  pub emits : ℕ
+  pub answers : ℕ
+
+abbrev pub events_on : ℕ → List RouterEvent → OnPeering
+events_on p events = record { rounds = rounds_on p events; emits = emits_on p events; answers = answers_on p events }
+
+abbrev pub none_on : OnPeering
+none_on = record { rounds = []; emits = 0; answers = 0 }
+
+-- the number of a stage, what becomes of a place with these events on it, what is counted there, and what else of the router may change
 pub record Stage : Type 1 where
-  pub Goes : List ℕ → Option Place → Option Place → Type 0
+  pub number : ℕ
+  pub Goes : OnPeering → Option Place → Option Place → Type 0
   pub count : Option Place → Tally → Tally
   pub Same : Fields → Fields → Type 0
 
@@ -25,9 +38,9 @@ pub record Stage : Type 1 where
 pub record Visits (stage : Stage) (p : ℕ) (old : Fields) (before : Post (Item RunningSession)) (new : Fields) (after : Post (Item RunningSession)) : Type 0 where
   pub events : List RouterEvent
   pub did : (t : ℕ → Tally) → Did old before t events new after (at t p (stage.count (place_at old.places.places p) (t p)))
-  pub no_puts : NoPuts events
-  pub goes : stage.Goes (rounds_on p events) (place_at old.places.places p) (place_at new.places.places p)
-  pub others : (q : ℕ) → q ≢ p → (place_at new.places.places q ≡ place_at old.places.places q) × (rounds_on q events ≡ [])
+  pub at : AreAt stage.number events
+  pub goes : stage.Goes (events_on p events) (place_at old.places.places p) (place_at new.places.places p)
+  pub others : (q : ℕ) → q ≢ p → (place_at new.places.places q ≡ place_at old.places.places q) × (events_on q events ≡ none_on)
   pub same : stage.Same old new
   pub keeps : Keeps new
 
@@ -35,9 +48,9 @@ pub record Visits (stage : Stage) (p : ℕ) (old : Fields) (before : Post (Item 
 pub record Visited (stage : Stage) (n : ℕ) (old : Fields) (before : Post (Item RunningSession)) (new : Fields) (after : Post (Item RunningSession)) : Type 0 where
   pub events : List RouterEvent
   pub did : (t : ℕ → Tally) → Did old before t events new after (λ p. if nat_lt p n then stage.count (place_at old.places.places p) (t p) else t p)
-  pub no_puts : NoPuts events
-  pub done : (p : ℕ) → p < n → stage.Goes (rounds_on p events) (place_at old.places.places p) (place_at new.places.places p)
-  pub left : (p : ℕ) → n ≤ p → (place_at new.places.places p ≡ place_at old.places.places p) × (rounds_on p events ≡ [])
+  pub at : AreAt stage.number events
+  pub done : (p : ℕ) → p < n → stage.Goes (events_on p events) (place_at old.places.places p) (place_at new.places.places p)
+  pub left : (p : ℕ) → n ≤ p → (place_at new.places.places p ≡ place_at old.places.places p) × (events_on p events ≡ none_on)
   pub same : stage.Same old new
   pub keeps : Keeps new
 
@@ -73,28 +86,32 @@ SameButLeaving old new = new ≡ record old { places = new.places; due_out = new
 
 abbrev pub sending_again : Stage
 sending_again = record {
-  Goes = λ rounds old new. (rounds ≡ []) × PlaceGoes IsLevel old new;
+  number = 7;
+  Goes = λ on old new. (on.emits ≡ again_at old) × PlaceGoes IsLevel old new;
   count = λ place t. record t { again = t.again + again_at place };
   Same = SameButPlaces;
 }
 
 abbrev pub passing_rounds : ℕ → Stage
 passing_rounds round = record {
-  Goes = λ rounds old new. PlaceGoes (PassesWhereItMay round rounds) old new;
+  number = 1;
+  Goes = λ on old new. PlaceGoes (PassesWhereItMay round on.rounds) old new;
   count = λ place t. t;
   Same = SameButSessions;
 }
 
 abbrev pub beginning_grafts : Stage
 beginning_grafts = record {
-  Goes = λ rounds old new. (rounds ≡ []) × GraftGoes old new;
+  number = 2;
+  Goes = λ on old new. GraftGoes old new;
   count = λ place t. t;
   Same = SameButLeaving;
 }
 
 abbrev pub confirming : Stage
 confirming = record {
-  Goes = λ rounds old new. (rounds ≡ []) × WordGoes old new;
+  number = 5;
+  Goes = λ on old new. WordGoes old new;
   count = λ place t. t;
   Same = SameButPlaces;
 }
@@ -102,7 +119,8 @@ confirming = record {
 -- some new slices, which no tally counts
 abbrev pub slicing : Stage
 slicing = record {
-  Goes = λ rounds old new. (rounds ≡ []) × PlaceGoes SlicesOut old new;
+  number = 7;
+  Goes = λ on old new. (on.answers ≡ 0) × PlaceGoes SlicesOut old new;
   count = λ place t. t;
   Same = SameButPlaces;
 }
@@ -110,7 +128,8 @@ slicing = record {
 -- all of them
 abbrev pub sending_new : Stage
 sending_new = record {
-  Goes = λ rounds old new. (rounds ≡ []) × PlaceGoes EmitsNew old new;
+  number = 7;
+  Goes = λ on old new. (on.answers ≡ 0) × PlaceGoes EmitsNew old new;
   count = λ place t. t;
   Same = SameButPlaces;
 }
@@ -118,7 +137,8 @@ sending_new = record {
 -- the owed answer
 abbrev pub answering : Stage
 answering = record {
-  Goes = λ rounds old new. (rounds ≡ []) × PlaceGoes Answers old new;
+  number = 7;
+  Goes = λ on old new. (on.answers ≡ answer_at old) × PlaceGoes Answers old new;
   count = λ place t. record t { answers = t.answers + answer_at place };
   Same = SameButPlaces;
 }
@@ -126,7 +146,8 @@ answering = record {
 -- both
 abbrev pub emitting : Stage
 emitting = record {
-  Goes = λ rounds old new. (rounds ≡ []) × PlaceGoes EmitsAll old new;
+  number = 7;
+  Goes = λ on old new. (on.answers ≡ answer_at old) × PlaceGoes EmitsAll old new;
   count = λ place t. record t { answers = t.answers + answer_at place };
   Same = SameButPlaces;
 }
