@@ -1,0 +1,9 @@
+mod Fronts
+mod Cuts
+mod Supplies
+mod Twins
+mod Following
+mod Pacing
+mod Worlds
+mod Ways
+mod Law
