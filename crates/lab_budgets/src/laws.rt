@@ -1,6 +1,6 @@
 //! What holds of the budgets of an input.
 
-ghost use Rattle.std.specs.Prelude.{◌≡◌, ℕ, List, length};
+ghost use Rattle.std.specs.Prelude.{◌≡◌, ◌≤◌, ℕ, List, length};
 ghost use Rattle.std.specs.List.{AllByRecursion};
 ghost use Rattle.graft_model.specs.Setups.{groups_in};
 ghost use Rattle.lab_tables.specs.declared.input.LabInput.{LabInput};
@@ -16,4 +16,9 @@ pub fn each_group_has_a_budget()
 /// Whatever bytes are an input: each budget has at least one round, and no fewer than it makes at least.
 pub fn budgets_are_sound()
     ensures { (bytes : List ℕ) (input : LabInput) → InputOf bytes input → AllByRecursion IsSoundBudget (budgets_in input) }
+{}
+
+/// Whatever bytes are an input: no planned fault lets its segment wait for more than six turns.
+pub fn accepted_faults_are_short()
+    ensures { (bytes : List ℕ) (input : LabInput) → InputOf bytes input → AllByRecursion (λ fault. fault.after ≤ 6) input.faults }
 {}

@@ -5,4 +5,4 @@ mod budget;
 mod laws;
 
 pub use budget::{Budget, budgets_of};
-pub use laws::{budgets_are_sound, each_group_has_a_budget};
+pub use laws::{accepted_faults_are_short, budgets_are_sound, each_group_has_a_budget};

@@ -1,0 +1,6 @@
+mod Ranks
+mod Freezes
+mod Counts
+mod Queues
+mod Over
+mod Bounded

@@ -1,0 +1,5 @@
+pub mod LinkPlans
+pub mod SilentLinks
+pub mod SameWorlds
+pub mod NothingLeft
+pub mod Quieted

@@ -1,0 +1,5 @@
+mod AnswerEvents
+mod Awaited
+mod Idle
+mod Script
+mod Left
