@@ -1,0 +1,4 @@
+pub mod Meshes
+pub mod Worked
+pub mod Worlds
+pub mod Laws

@@ -1,0 +1,18 @@
+-- The mesh that a world's routers are for one prefix.
+use Rattle.bgp_types.specs.Prefixes.{PrefixValue}
+use Rattle.graft_model.specs.Setups.{Setup, router_numbers, identifier_of, cost_between, has_network}
+use Rattle.graft_model.specs.Parts.{World}
+use Rattle.graft_model.specs.Claims.{session_routes}
+use Rattle.even_meshes.specs.Meshes.{Mesh}
+
+-- Networks, identifiers and costs are the laboratory's; the sessions at each router, and what they heard, are the world's.
+abbrev pub mesh_of : Setup → World → PrefixValue → Mesh
+mesh_of setup w prefix = record {
+  home_as = setup.home_as;
+  prefix = prefix;
+  routers = router_numbers setup;
+  has_network = λ r. has_network setup r prefix;
+  sessions = λ r. session_routes setup w r prefix;
+  identifier = identifier_of setup;
+  cost = cost_between setup;
+}

@@ -1,0 +1,5 @@
+pub mod Timeless
+pub mod Unsaid
+pub mod Words
+pub mod Held
+pub mod Joined
