@@ -16,3 +16,4 @@ pub mod Takes
 pub mod GoAlone
 pub mod Numbers
 pub mod Gifts
+mod SmallWorlds

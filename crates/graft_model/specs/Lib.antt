@@ -19,3 +19,4 @@ pub mod Codes
 pub mod Laws
 pub mod Conditions
 pub mod Taking
+pub mod SmallWorlds

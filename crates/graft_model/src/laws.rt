@@ -14,9 +14,10 @@ ghost use Rattle.graft_model.specs.FarRows.{FarTaken, FarSent};
 ghost use Rattle.graft_model.specs.OperatorRows.{OperatorTaken, OperatorSent};
 ghost use Rattle.graft_model.specs.Steps.{Event, Step, RouterEvent, Stray, Leave, Land, TurnBack, Return, Clear, Ask, Answer, Collect, Confirm, FarEvent, OperatorEvent, RouterStep, FarStep, OperatorStep, router_row, far_row, operator_row};
 ghost use Rattle.graft_model.specs.Quiet.{Quiet};
-ghost use Rattle.graft_model.specs.Claims.{sessions_at};
+ghost use Rattle.graft_model.specs.Claims.{Transparent, Solves, SolvesOn, sessions_at};
 ghost use Rattle.graft_model.specs.Codes.{router_code, far_code, operator_code, actor_code};
 ghost use Rattle.graft_model.specs.Laws.{LeavesByRouter, LeavesByFar, LeavesByOperator, MayStillHappen, HasOnce, HasOneOutcome, taken_on, sent_on, KeepsSessions};
+ghost use Rattle.graft_model.specs.SmallWorlds as small;
 
 /// An event leaves the parts of all other actors as they are, and every channel that its actor has no end of.
 pub fn steps_leave_the_rest()
@@ -99,4 +100,18 @@ pub fn refused_items_change_nothing()
         → router_row setup r (TurnBack q) before taken sent after → after ≡ before }
     ensures answered { (setup : Setup) (r q k p : ℕ) (before after : RouterPart) (sent : List RouterSent)
         → router_row setup r (Answer q) before (Some (MeshIn q (Asked k p))) sent after → (after ≡ before) × (sent ≡ MeshTo q (Answered k p) ∷ []) }
+{}
+
+/// A claim can be false by one of its fields. Each of these worlds differs in one thing from a small one in which nothing is left to do, and that makes the
+/// field false after which the clause is named: `all_received` is the `received` of what solves a peering.
+pub fn claims_can_be_false()
+    ensures one { ¬ Transparent small.pair small.with_session_lost 0 }
+    ensures legal { ¬ Transparent small.pair (small.with_session small.opened_twice) 0 }
+    ensures received { ¬ Transparent small.pair small.with_octet_received 0 }
+    ensures heard { ¬ Transparent small.pair (small.with_session small.hearing) 0 }
+    ensures linked { ¬ Solves small.pair small.with_link_elsewhere }
+    ensures all_received { ¬ SolvesOn small.pair small.with_nothing_received 0 }
+    ensures elsewhere { ¬ SolvesOn small.pair small.with_shadow_left 0 }
+    ensures tellings { ¬ Solves small.pair small.with_route_kept }
+    ensures mesh { ¬ Quiet small.pair small.with_word }
 {}

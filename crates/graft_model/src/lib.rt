@@ -24,6 +24,7 @@ pub use effects::{
 };
 pub use event::{ActorEvent, FarEvent, OperatorEvent, RouterEvent};
 pub use laws::{
-    codes_are_exact, events_lead_to_one_world, grafts_keep_sessions, grafts_move_sessions,
-    nothing_moves_at_quiet, refused_items_change_nothing, rows_are_exact, steps_leave_the_rest,
+    claims_can_be_false, codes_are_exact, events_lead_to_one_world, grafts_keep_sessions,
+    grafts_move_sessions, nothing_moves_at_quiet, refused_items_change_nothing, rows_are_exact,
+    steps_leave_the_rest,
 };

@@ -20,7 +20,8 @@ use Rattle.route_policy.specs.Telling.{tell_in, tell_out}
 use Rattle.graft_steps.specs.declared.refusal.Outcome.TheVariants.{Accepted}
 use Rattle.bgp_story.specs.WorkedSessions.{ten}
 use Rattle.loc_rib.specs.Values.{with_best}
-use Rattle.graft_steps.specs.Refusals.{freeze_refusal}
+use Rattle.graft_steps.specs.Refusals.{freeze_refusal, session_refusal}
+use Rattle.tcp_seq.specs.Endpoint.{Endpoint}
 use Rattle.session_value.specs.Sessions.{SessionValue, state, hold_time}
 use Rattle.session_value.specs.Sets.{has}
 use Rattle.graft_model.specs.Points.{at}
@@ -109,15 +110,16 @@ admits setup known part s = record {
   effect = λ i. record part { places = sym (at-at vacant 0 (Live s None) (Live s (Some (Leaving to_b)))) i };
 }
 
-pub freezes : (part : RouterPart) (s : SessionValue) → freeze_refusal (record { 0 = 0 }) (record { 0 = 1 }) (state s) (hold_time s) ≡ None → Freezes 0 1 (holding part (Live s (Some (Leaving to_b)))) None [] (holding part (Frozen s to_b))
-freezes part s no_cause = record {
+pub freezes : (r target : ℕ) (part : RouterPart) (s : SessionValue) → freeze_refusal (record { 0 = r }) (record { 0 = target }) (state s) (hold_time s) ≡ None
+    → Freezes r 1 (holding part (Live s (Some (Leaving (record { graft = 1; target = target }))))) None [] (holding part (Frozen s (record { graft = 1; target = target })))
+freezes r target part s no_cause = record {
   alone = (refl, refl);
   peering = 0;
-  target = 1;
+  target = target;
   session = s;
   live = record { is = refl };
   no_cause = no_cause;
-  effect = λ i. record part { places = sym (at-at vacant 0 (Live s (Some (Leaving to_b))) (Frozen s to_b)) i };
+  effect = λ i. record part { places = sym (at-at vacant 0 (Live s (Some (Leaving (record { graft = 1; target = target })))) (Frozen s (record { graft = 1; target = target }))) i };
 }
 
 pub leaves : (part : RouterPart) (s : SessionValue) → at part.due_out 0 map.empty ≡ part.due_out → Leaves 1 (holding part (Frozen s to_b)) None (MeshTo 1 (Moved 1 0 s) ∷ []) (holding part (Shadow 1))
@@ -131,7 +133,7 @@ leaves part s nothing_due = record {
   effect = λ i. record part { places = sym (at-at vacant 0 (Frozen s to_b) (Shadow 1)) i; due_out = sym nothing_due i };
 }
 
-pub may_freeze : freeze_refusal (record { 0 = 0 }) (record { 0 = 1 }) (state session) (hold_time session) ≡ None
+pub may_freeze : session_refusal (state session) (hold_time session) ≡ None
 unfolding message_of header_fault frame_at body_of open_of many many_within cap_at caps_of params_of
 may_freeze = refl
 
@@ -146,17 +148,19 @@ pub brings : BringsIn base 1 session (at_ten entry)
 unfolding brought message_of header_fault frame_at body_of open_of many many_within cap_at caps_of params_of
 brings x = got_ten entry x ∙ sym (ap (brought 1 x) (got_ten heard_attrs x) ∙ map_cond (brought 1 x) (is_ten x) heard_attrs entry refl refl)
 
-due_again : (x : PrefixValue) → has ten_alone x ≡ (is_some (map.get session.told x) || is_some (map.get b_before.best x))
-due_again x = some_at_ten tt x ∙ (sym (some_at_ten (over_router 0) x) ∙ ap (λ told. told || is_some (map.get b_before.best x)) (sym (some_in_none _ x)))
+-- nothing was told on the session, and 10.0.0.0/8 has a best route
+pub due_again : (best : Best) (x : PrefixValue) → has ten_alone x ≡ (is_some (map.get session.told x) || is_some (map.get (at_ten best) x))
+due_again best x = some_at_ten tt x ∙ (sym (some_at_ten best x) ∙ ap (λ told. told || is_some (map.get (at_ten best) x)) (sym (some_in_none _ x)))
 
-pub lands : Lands base 1 0 b_before (Some (MeshIn 0 (Moved 1 0 session))) (OutwardTo 0 (PointAt 1) ∷ []) b_landed
-lands = record {
-  comes = record { graft = 1; peering = 0; session = session; takes = refl; known = lit< tt; vacant = refl };
+-- with any endpoint
+pub lands : (end : Endpoint) → Lands base 1 0 b_before (Some (MeshIn 0 (Moved 1 0 (record session { end = end })))) (OutwardTo 0 (PointAt 1) ∷ []) (holding b_landed (Live (record session { end = end }) (Some (Owing to_a))))
+lands end = record {
+  comes = record { graft = 1; peering = 0; session = record session { end = end }; takes = refl; known = lit< tt; vacant = refl };
   admitted = refl;
   sends = refl;
   entries = brings;
   dirty = marks_new entry;
-  due = record { members = due_again };
+  due = record { members = due_again (over_router 0) };
   effect = refl;
 }
 

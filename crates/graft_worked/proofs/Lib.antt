@@ -14,8 +14,13 @@ pub mod Others
 mod Asked
 pub mod Moves
 pub mod Puts
+mod Next
+mod Due
 pub mod Sends
 pub mod Refused
+mod Frozen
+mod SourceRefusals
+mod Unchanged
 pub mod Wrong
 pub mod Alone
 pub mod Weaker

@@ -63,35 +63,35 @@ announcement_is = record { writable = record { body = announced_is; size = lit�
 
 -- ---- what is to be told
 
-told_of : tell_out 65000 (out_side base 0 config) ten (Some own_at_b) ≡ Some (attrs_over (65000 ∷ []))
+pub told_of : tell_out 65000 (out_side base 0 config) ten (Some own_at_b) ≡ Some (attrs_over (65000 ∷ []))
 unfolding spell spell_attrs attrs_written path_octets
 told_of = refl
 
 to_tell_ten : to_tell base 0 a_to_put session_joined ten ≡ Some (attrs_over (65000 ∷ []))
 to_tell_ten = ap (tell_out 65000 (out_side base 0 config) ten) (got_it own_at_b) ∙ told_of
 
-some_is_some : {A : Type 0} (v : A) (o : Option A) → o ≡ Some v → None ≢ o
+pub some_is_some : {A : Type 0} (v : A) (o : Option A) → o ≡ Some v → None ≢ o
 some_is_some v o is none = let apart : ◌≡◌ {A = Bool} false true = ap is_some (none ∙ is) in cc
 
 untold : map.get session_joined.told ten ≢ to_tell base 0 a_to_put session_joined ten
 untold e = some_is_some (attrs_over (65000 ∷ [])) (to_tell base 0 a_to_put session_joined ten) to_tell_ten (sym (got_none ten) ∙ e)
 
-due_ten : has ten_alone ten ≡ true
+pub due_ten : has ten_alone ten ≡ true
 due_ten = ap is_some (got_it tt)
 
 ten_waits : IsToTell base 0 a_to_put 0 session_joined ten
 ten_waits = ((due_ten, some_in_none _ ten), untold)
 
-ten_alone_is : (x : PrefixValue) → has ten_alone x ≡ true → ten ≡ x
+pub ten_alone_is : (x : PrefixValue) → has ten_alone x ≡ true → ten ≡ x
 ten_alone_is x e = is_same ten x (sym (has_ten x) ∙ e)
 
 not_below : (x : PrefixValue) → ten ≡ x → is_lt (prefix_cmp x ten) ≡ false
 not_below x e = subst (λ z. is_lt (prefix_cmp z ten) ≡ false) e refl
 
-any_ten : (x : PrefixValue) → ten ≡ x → IsTrue (list_any (same_prefix x) (ten ∷ []))
+pub any_ten : (x : PrefixValue) → ten ≡ x → IsTrue (list_any (same_prefix x) (ten ∷ []))
 any_ten x e = subst (λ z. IsTrue (list_any (same_prefix z) (ten ∷ []))) e refl
 
-drops : (t : Bool) (x : PrefixValue) → has ten_alone x ≡ t → false ≡ (t && not (list_any (same_prefix x) (ten ∷ [])))
+pub drops : (t : Bool) (x : PrefixValue) → has ten_alone x ≡ t → false ≡ (t && not (list_any (same_prefix x) (ten ∷ [])))
 drops false x e = refl
 drops true x e = subst (λ z. false ≡ not (list_any (same_prefix z) (ten ∷ []))) (ten_alone_is x e) refl
 
@@ -101,7 +101,7 @@ changes : Changes session_joined.told (announcement_over (65000 ∷ []))
 changes = All-cons (λ prefix. map.get (apply session_joined.told (announcement_over (65000 ∷ []))) prefix ≢ map.get session_joined.told prefix) ten []
     (λ e. some_is_some (attrs_over (65000 ∷ [])) (map.get (at_ten (attrs_over (65000 ∷ []))) ten) (got_it (attrs_over (65000 ∷ []))) (sym (got_none ten) ∙ sym e)) (All-nil _)
 
-puts_update : PutsUpdate session_joined (announcement_over (65000 ∷ [])) session_told
+pub puts_update : PutsUpdate session_joined (announcement_over (65000 ∷ [])) session_told
 unfolding message_of header_fault frame_at body_of open_of many many_within cap_at caps_of params_of spell spell_attrs attrs_written path_octets
 puts_update = record { established = refl; one_way = announcement_is; changes = changes; room = lit≤ tt; effect = refl }
 
@@ -109,14 +109,14 @@ joined_up : state session_joined ≡ Established
 unfolding header_fault
 joined_up = refl
 
-one_rises : IsStrictlySortedBy prefix_cmp (ten ∷ [])
+pub one_rises : IsStrictlySortedBy prefix_cmp (ten ∷ [])
 unfolding IsStrictlySortedBy
 one_rises = (tt, tt)
 
 abbrev IsTold : PrefixValue → Type 0
 IsTold x = IsToTell base 0 a_to_put 0 session_joined x × (to_tell base 0 a_to_put session_joined x ≡ Some (attrs_over (65000 ∷ [])))
 
-puts_some : PutsSome base 0 0 1 a_to_put None [] a_has_put
+pub puts_some : PutsSome base 0 0 1 a_to_put None [] a_has_put
 puts_some = record {
   alone = (refl, refl);
   session = session_joined;

@@ -1,5 +1,5 @@
 -- Grafts that are refused, from the first world on.
-use Rattle.std.proofs.Common.{◌≡◌, ℕ, zero, suc, ◌≤◌, ◌||◌, Bool, true, false, [], ◌∷◌, Some, None, is_some, refl, sym, ap, ◌∙◌, subst, inr, lit<, lit≤}
+use Rattle.std.proofs.Common.{◌≡◌, ℕ, zero, suc, ◌≤◌, ◌||◌, Bool, true, false, List, [], ◌∷◌, ◌++◌, Some, None, is_some, refl, sym, ap, ◌∙◌, subst, inr, lit<, lit≤}
 use Rattle.std.specs.Prelude.{All, slice_get}
 use Rattle.std.specs.FinMap as map
 use Rattle.std.proofs.lemmas.List.Elements.{All-from_recursion, All-nil}
@@ -23,13 +23,13 @@ use Rattle.graft_model.specs.GraftRows.{Refuses, TurnsBack, Returns}
 use Rattle.graft_model.specs.OperatorRows.{OrderTo, OrdersGraft}
 use Rattle.graft_model.specs.declared.event.RouterEvent.TheVariants.{Admit, Refuse, Freeze, Leave, TurnBack, Return}
 use Rattle.graft_model.specs.declared.event.OperatorEvent.TheVariants.{Order}
-use Rattle.graft_model.specs.Steps.{Run}
+use Rattle.graft_model.specs.Steps.{Event, ByRouter, ByOperator, Step, Run}
 use Rattle.graft_worked.specs.Base.{base}
-use Rattle.graft_worked.specs.Places.{idle_router, holding, nothing}
+use Rattle.graft_worked.specs.Places.{idle_router, holding, nothing, world_of}
 use Rattle.graft_worked.specs.First.{session_first, a_first, far_first, operator_first, first}
 use Rattle.graft_worked.specs.Graft.{to_b, operator_before}
 use Rattle.graft_worked.specs.Start.{a_with, session_joined, far_emitted, joined_world, joining_events}
-use Rattle.graft_worked.specs.Refused.{refusing, operator_moved, refusal_report, refused_events, with_refusal, away_events, returned_events, with_returned}
+use Rattle.graft_worked.specs.Refused.{refusing, operator_moved, refusal_report, refused_events, with_refusal, returned_events, with_returned}
 use Rattle.graft_worked.proofs.Points.{at-at, at-same}
 use Rattle.graft_worked.proofs.Tens.{empty, some_in_none}
 use Rattle.graft_worked.proofs.Setup.{below_two, peering_is_sound, one_peering}
@@ -147,35 +147,56 @@ returns = record {
   effect = λ i. record (a_with session_joined) { places = sym (at-at (λ p. Vacant) 0 (Shadow 1) (Live session_joined None)) i; due_out = sym (at-same empty 0) i };
 }
 
-abbrev moved : OperatorPart
+abbrev pub moved : OperatorPart
 moved = operator_moved (at (λ n. false) 0 true)
 
-comes_back : Run refusing joined_world away_events with_returned
-comes_back = (
+-- the graft up to its freeze, from there to its return, and the worlds there
+abbrev pub ordering_events : List Event
+ordering_events = ByOperator (Order 1 0) ∷ ByRouter 0 (Admit 1) ∷ []
+
+abbrev pub away : List Event
+away = ByRouter 0 (Leave 1) ∷ ByRouter 1 (TurnBack 0) ∷ []
+
+abbrev pub with_order : World
+with_order = world_of (holding idle_router (Live session_joined (Some (Leaving to_b)))) idle_router far_emitted moved nothing
+
+abbrev pub with_freeze : World
+with_freeze = world_of (holding idle_router (Frozen session_joined to_b)) idle_router far_emitted moved nothing
+
+abbrev pub with_session_back : World
+with_session_back = world_of (holding idle_router (Shadow 1)) idle_router far_emitted moved (record nothing { to_a = Back 1 0 session_joined (RouterFull 0) ∷ [] })
+
+ordered : Run refusing joined_world ordering_events with_order
+ordered = (
   _,
   operator_orders refusing small (a_with session_joined) idle_router far_emitted operator_before nothing (Order 1 0) moved (record { graft = 1; peering = 0; target = 1 }) tt (inr (orders (at (λ n. false) 0 true))),
   (
     _,
     a_ordered_by refusing small (a_with session_joined) idle_router far_emitted moved nothing (Admit 1) (holding idle_router (Live session_joined (Some (Leaving to_b)))) (record { graft = 1; peering = 0; target = 1 }) [] (admits refusing (lit< tt) idle_router session_joined),
-    (
-      _,
-      a_alone refusing small (holding idle_router (Live session_joined (Some (Leaving to_b)))) idle_router far_emitted moved nothing (Freeze 1) (holding idle_router (Frozen session_joined to_b)) (freezes idle_router session_joined may_freeze),
-      (
-        _,
-        a_to_b refusing small (holding idle_router (Frozen session_joined to_b)) idle_router far_emitted moved nothing (Leave 1) (holding idle_router (Shadow 1)) (Moved 1 0 session_joined) (leaves idle_router session_joined (at-same empty 0)),
-        (
-          _,
-          b_sends_back refusing small (holding idle_router (Shadow 1)) idle_router far_emitted moved nothing (TurnBack 0) idle_router (Moved 1 0 session_joined) (Back 1 0 session_joined (RouterFull 0)) [] turns_back,
-          (
-            _,
-            a_ends refusing small (holding idle_router (Shadow 1)) idle_router far_emitted moved nothing (Return 1) (a_with session_joined) (Back 1 0 session_joined (RouterFull 0)) [] (refusal_report (RouterFull 0)) returns,
-            refl,
-          ),
-        ),
-      ),
-    ),
+    refl,
   ),
 )
 
+pub ordered_from_first : Run refusing (first_world refusing) (joining_events ++ ordering_events) with_order
+ordered_from_first = subst (λ (w : World). Run refusing w (joining_events ++ ordering_events) with_order) (sym begins) (joined refusing first joined_world with_order joining_events ordering_events (joins refusing small refl) ordered)
+
+pub frozen : Step refusing (ByRouter 0 (Freeze 1)) with_order with_freeze
+frozen = a_alone refusing small (holding idle_router (Live session_joined (Some (Leaving to_b)))) idle_router far_emitted moved nothing (Freeze 1) (holding idle_router (Frozen session_joined to_b)) (freezes 0 1 idle_router session_joined may_freeze)
+
+pub goes_away : Run refusing with_freeze away with_session_back
+goes_away = (
+  _,
+  a_to_b refusing small (holding idle_router (Frozen session_joined to_b)) idle_router far_emitted moved nothing (Leave 1) (holding idle_router (Shadow 1)) (Moved 1 0 session_joined) (leaves idle_router session_joined (at-same empty 0)),
+  (
+    _,
+    b_sends_back refusing small (holding idle_router (Shadow 1)) idle_router far_emitted moved nothing (TurnBack 0) idle_router (Moved 1 0 session_joined) (Back 1 0 session_joined (RouterFull 0)) [] turns_back,
+    refl,
+  ),
+)
+
+pub comes_back : Step refusing (ByRouter 0 (Return 1)) with_session_back with_returned
+comes_back = a_ends refusing small (holding idle_router (Shadow 1)) idle_router far_emitted moved nothing (Return 1) (a_with session_joined) (Back 1 0 session_joined (RouterFull 0)) [] (refusal_report (RouterFull 0)) returns
+
 pub returned_from_first : Run refusing (first_world refusing) returned_events with_returned
-returned_from_first = subst (λ (w : World). Run refusing w returned_events with_returned) (sym begins) (joined refusing first joined_world with_returned joining_events away_events (joins refusing small refl) comes_back)
+returned_from_first = joined refusing (first_world refusing) with_order with_returned (joining_events ++ ordering_events) (ByRouter 0 (Freeze 1) ∷ (away ++ ByRouter 0 (Return 1) ∷ [])) ordered_from_first
+    (with_freeze, frozen, joined refusing with_freeze with_session_back with_returned away (ByRouter 0 (Return 1) ∷ []) goes_away (with_returned, comes_back, refl))

@@ -37,10 +37,10 @@ too_long first bytes are more =
     let both : length (first ++ are.rest) ≡ length first + length are.rest = length-append first are.rest in
     absurd (omega (arith, all, both, more))
 
-other_number : (m n : ℕ) → m < n → m ≡ n → ⊥
+pub other_number : (m n : ℕ) → m < n → m ≡ n → ⊥
 other_number m n less e = absurd (omega (arith, less, e))
 
-not_both : {A : Type 0} (v : A) → ◌≡◌ {A = Option A} None (Some v) → ⊥
+pub not_both : {A : Type 0} (v : A) → ◌≡◌ {A = Option A} None (Some v) → ⊥
 not_both v e = let apart : ◌≡◌ {A = Bool} false true = ap is_some e in cc
 
 empty_or_ten : {A : Type 0} (v : A) → ◌≡◌ {A = map.FinMap prefix_cmp A} empty (at_ten v) → ⊥

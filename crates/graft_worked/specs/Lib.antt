@@ -6,7 +6,10 @@ pub mod Start
 pub mod Others
 pub mod Asked
 pub mod Puts
+pub mod Next
+pub mod Due
 pub mod Refused
+pub mod Unchanged
 pub mod Wrong
 pub mod Alone
 pub mod Weaker

@@ -1,0 +1,77 @@
+-- The run of a round, and what it takes: what all fields of `RoundGoes` but one say of it, and cases in which this one is false.
+use Rattle.std.specs.Prelude.{ℕ, ◌≢◌, ◌+◌, ◌==◌, if◌then◌else◌, List, [], ◌∷◌}
+use Rattle.ring_net.specs.declared.entry.JournalEntry.{JournalEntry}
+use Rattle.journal_merge.specs.Merges.{Interleaves}
+use Rattle.graft_model.specs.Setups.{Setup, SettleStep}
+use Rattle.graft_model.specs.Parts.{World}
+use Rattle.graft_model.specs.Evacuations.{with_gifts}
+use Rattle.graft_model.specs.First.{first_world}
+use Rattle.graft_model.specs.Codes.{router_code}
+use Rattle.graft_model.specs.declared.event.RouterEvent.TheVariants.{Admit}
+use Rattle.graft_model.specs.declared.event.OperatorEvent.TheVariants.{Go}
+use Rattle.graft_model.specs.Steps.{Event, ByOperator, Run}
+use Rattle.graft_runs.specs.Laws.{AreEntriesOf}
+use Rattle.real_rounds.specs.Whole.{Slices, RoundGoes}
+use Rattle.rounds_worked.specs.Marks.{lone, once, entry_of, begun, begun_second}
+
+-- ---- all fields but one
+
+pub data Field : Type 0 where
+  Merged : Field
+  EntriesOf : Field
+  Runs : Field
+  -- none is left out
+  NoField : Field
+
+pub record RoundGoesBut (but : Field) (setup : Setup) (start : World) (slices : Slices) (events : List Event) (end : World) : Type 0 where
+  pub entries : List JournalEntry
+  pub merged : but ≢ Merged → Interleaves slices entries
+  pub entries_of : but ≢ EntriesOf → AreEntriesOf setup events entries
+  pub run : but ≢ Runs → Run setup start events end
+
+-- this field is false, and all others hold
+abbrev pub FalseAlone : Field → Setup → World → Slices → List Event → World → Type 0
+FalseAlone but setup start slices events end = RoundGoesBut but setup start slices events end × ¬ RoundGoes setup start slices events end
+
+-- ---- groups that begin in one round
+
+-- a script of three groups; and the world after a group has begun
+abbrev pub thrice : Setup
+thrice = lone (SettleStep ∷ SettleStep ∷ SettleStep ∷ [])
+
+abbrev pub next_group : World → World
+next_group w = record w { operator = with_gifts thrice (record w.operator { group = w.operator.group + 1 }) }
+
+abbrev pub first_group : World
+first_group = first_world thrice
+
+abbrev pub last_group : World
+last_group = next_group (next_group first_group)
+
+abbrev pub two_gos : List Event
+two_gos = ByOperator Go ∷ ByOperator Go ∷ []
+
+-- ---- what an actor noted in a round
+
+-- nobody noted anything, or only the operator or only the router did
+abbrev pub none_noted : Slices
+none_noted k = []
+
+abbrev pub noted_by : ℕ → List JournalEntry → Slices
+noted_by actor entries k = if k == actor then entries else []
+
+-- two groups begin, in the order of their clocks, or the other way round
+abbrev pub in_order : List JournalEntry
+in_order = begun ∷ begun_second ∷ []
+
+abbrev pub out_of_order : List JournalEntry
+out_of_order = begun_second ∷ begun ∷ []
+
+-- ---- what is taken from a channel
+
+-- an order is on its way to the router; and the router's entry of taking one
+abbrev pub ordered : World
+ordered = record (first_world once) { orders = λ r. record { graft = 1; peering = 0; target = 0 } ∷ [] }
+
+abbrev pub admitted : JournalEntry
+admitted = entry_of 1 0 (router_code (Admit 1))
