@@ -1,8 +1,10 @@
 -- What the marks name that stand behind a moment of a run.
-use Rattle.std.proofs.Common.{◌≡◌, ℕ, ◌+◌, true, List, [], ◌∷◌, ◌++◌, length, map, filter, Some, refl, sym, ap, ◌∙◌, inl, inr, append_assoc, append-nil}
+use Rattle.std.proofs.Common.{◌≡◌, ℕ, ◌+◌, true, List, [], ◌∷◌, ◌++◌, length, map, filter, Some, slice_get, refl, sym, ap, ◌∙◌, subst, inl, inr, append_assoc, append-nil}
+use Rattle.std.proofs.lemmas.List.{length-append}
 use Rattle.std.specs.List.{last_or}
 use Rattle.ring_net.specs.declared.entry.JournalEntry.{JournalEntry}
 use Rattle.ring_net.specs.Deeds.{Deed, entries_of}
+use Rattle.ring_net.proofs.EdgeReads.{slice_get-append_head}
 use Rattle.ring_net.proofs.Replays.{all-append}
 use Rattle.journal_merge.specs.Merges.{Interleaves, upto}
 use Rattle.graft_model.specs.Setups.{Setup}
@@ -26,18 +28,23 @@ use Rattle.lab_run.specs.Ends.{MarkNames, NextBegins, NoneBegins, MarksName}
 use Rattle.lab_run.specs.Stories.{RoundNames}
 use Rattle.lab_run.proofs.Stands.{GoesOnTo, then_on, round_on, pause_on, pause_journal, IsWhole, whole_pause, mark_of, round_without_go, without_go, between_marks, pause_goes, groups_at}
 
+-- whatever world stands at a mark is the one of the mark's number
+abbrev pub WorldsStand : Setup → List JournalEntry → (marks : List (List ℕ)) (world : ℕ → World) → Type 0
+WorldsStand setup journal marks world = (k : ℕ) (mark : List ℕ) (w : World) → slice_get marks k ≡ Some mark → IsWorldAtMark setup journal mark w → w ≡ world k
+
 -- ---- what marks name, by the budgets that are left
 
-name_goes : (setup : Setup) (journal : List JournalEntry) (step n : ℕ) (budget : Budget) (budgets : List Budget) (mark : List ℕ) (marks : List (List ℕ)) (made : List ℕ) (end : RunEnd)
-    → MarkNames setup journal budget step (n + 1) mark GoesOn → NoneBegins setup journal mark marks → MarksName setup journal step (n + 1) (budget ∷ budgets) marks made end
-    → MarksName setup journal step n (budget ∷ budgets) (mark ∷ marks) made end
-name_goes setup journal step n budget [] mark marks made end names none further = inl (names, none, further)
-name_goes setup journal step n budget (next ∷ budgets) mark marks made end names none further = inl (names, none, further)
+module _ (setup : Setup) (journal : List JournalEntry) (world : ℕ → World) (k step n : ℕ) (budget : Budget) where
+  name_goes : (budgets : List Budget) (mark : List ℕ) (marks : List (List ℕ)) (made : List ℕ) (end : RunEnd) → MarkNames setup (world k) budget step (n + 1) mark GoesOn
+      → NoneBegins setup journal mark marks → MarksName setup journal world (k + 1) step (n + 1) (budget ∷ budgets) marks made end
+      → MarksName setup journal world k step n (budget ∷ budgets) (mark ∷ marks) made end
+  name_goes [] mark marks made end names none further = inl (names, none, further)
+  name_goes (next ∷ budgets) mark marks made end names none further = inl (names, none, further)
 
-name_ends : (setup : Setup) (journal : List JournalEntry) (step n : ℕ) (budget : Budget) (budgets : List Budget) (mark : List ℕ) (end : RunEnd) → MarkNames setup journal budget step (n + 1) mark (Ends end)
-    → MarksName setup journal step n (budget ∷ budgets) (mark ∷ []) ((n + 1) ∷ []) end
-name_ends setup journal step n budget [] mark end names = inr (inr (names, refl, refl))
-name_ends setup journal step n budget (next ∷ budgets) mark end names = inr (inr (names, refl, refl))
+  name_ends : (budgets : List Budget) (mark : List ℕ) (end : RunEnd) → MarkNames setup (world k) budget step (n + 1) mark (Ends end)
+      → MarksName setup journal world k step n (budget ∷ budgets) (mark ∷ []) ((n + 1) ∷ []) end
+  name_ends [] mark end names = inr (inr (names, refl, refl))
+  name_ends (next ∷ budgets) mark end names = inr (inr (names, refl, refl))
 
 module _ (setup : Setup) (z : Stand) (journal : List JournalEntry) (merge : Interleaves z.view.journal journal) where
   -- Behind a stand of a settle that has made n rounds: the next round, and what all marks from its own on name.
@@ -48,7 +55,8 @@ module _ (setup : Setup) (z : Stand) (journal : List JournalEntry) (merge : Inte
     pub is_whole : IsWhole setup stand
     pub later : List (List ℕ)
     pub whole : z.marks ≡ c.marks ++ round.marked.mark ∷ later
-    pub name : MarksName setup journal step n budgets (round.marked.mark ∷ later) made end
+    pub name : (world : ℕ → World) → WorldsStand setup journal z.marks world
+        → MarksName setup journal world (length c.marks) step n budgets (round.marked.mark ∷ later) made end
     pub last : List ℕ
     pub is_last : last_or (Some round.marked.mark) later ≡ Some last
     pub ends : (k : ℕ) → before last k ≡ length (z.view.journal k)
@@ -61,11 +69,21 @@ module _ (setup : Setup) (z : Stand) (journal : List JournalEntry) (merge : Inte
       → (w : World) × IsWorldAtMark setup journal round.marked.mark w × IsSeenAs own carried setup c.view w
   world_behind b c round is on ran = world_at_mark own carried setup c.view z.view round.marked.mark journal (mark_of setup c z b.marks round.marked is on) merge ran
 
-  mark_names : (budget : Budget) (step rounds : ℕ) (b c : Stand) (verdict : Verdict) (names : RoundNames setup budget step rounds b c verdict) → IsWhole setup c → GoesOnTo c.view z.view → Ran own carried setup c.view
-      → MarkNames setup journal budget step rounds names.round.marked.mark verdict
-  mark_names budget step rounds b c verdict names is on ran =
+  -- the mark of a round names this of the world of its number, which is that of the marks before it
+  mark_names : (budget : Budget) (step rounds : ℕ) (b c : Stand) (verdict : Verdict) (names : RoundNames setup budget step rounds b c verdict) → IsWhole setup c
+      → GoesOnTo c.view z.view → Ran own carried setup c.view → (later : List (List ℕ)) → z.marks ≡ b.marks ++ names.round.marked.mark ∷ later
+      → (world : ℕ → World) → WorldsStand setup journal z.marks world → MarkNames setup (world (length b.marks)) budget step rounds names.round.marked.mark verdict
+  mark_names budget step rounds b c verdict names is on ran later whole world stand =
+      let mark : List ℕ = names.round.marked.mark in
       let h = world_behind b c names.round is on ran in
-      record { world = h.0; is = h.1; names = names.names h.0 (h.2, record { events = h.1.events; run = h.1.run }) }
+      let at : slice_get z.marks (length b.marks) ≡ Some mark =
+      ap (λ (xs : List (List ℕ)). slice_get xs (length b.marks)) whole ∙ slice_get-append_head b.marks mark later (length b.marks) refl in
+      subst (λ (w : World). MarkNames setup w budget step rounds mark verdict) (stand (length b.marks) mark h.0 at h.1)
+      (names.names h.0 (h.2, record { events = h.1.events; run = h.1.run }))
+
+  -- a round makes one mark
+  one_more : (b c : Stand) → Round b c → length c.marks ≡ length b.marks + 1
+  one_more b c round = ap (λ (xs : List (List ℕ)). length xs) round.marked.marks ∙ length-append b.marks (round.marked.mark ∷ [])
 
   -- no group begins between a mark and the next, where a round lies between them
   pub none_begins : (step n : ℕ) (budgets : List Budget) (c : Stand) (mark : List ℕ) (made : List ℕ) (end : RunEnd) → IsWhole setup c → IsMarkOf c.view z.view mark
@@ -101,15 +119,18 @@ module _ (setup : Setup) (z : Stand) (journal : List JournalEntry) (merge : Inte
     behind_round budgets made end names behind =
         let on : GoesOnTo c.view z.view = behind_on step (n + 1) (budget ∷ budgets) c made end behind in
         let marks : List (List ℕ) = behind.round.marked.mark ∷ behind.later in
+        let whole : z.marks ≡ b.marks ++ names.round.marked.mark ∷ marks = marks_behind b c names.round marks behind.whole in
         record {
           stand = c;
           round = names.round;
           on = on;
           is_whole = is;
           later = marks;
-          whole = marks_behind b c names.round marks behind.whole;
-          name = name_goes setup journal step n budget budgets names.round.marked.mark marks made end (mark_names budget step (n + 1) b c GoesOn names is on ran)
-              (none_begins step (n + 1) (budget ∷ budgets) c names.round.marked.mark made end is (mark_of setup c z b.marks names.round.marked is on) behind) behind.name;
+          whole = whole;
+          name = λ world stand. name_goes setup journal world (length b.marks) step n budget budgets names.round.marked.mark marks made end
+              (mark_names budget step (n + 1) b c GoesOn names is on ran marks whole world stand)
+              (none_begins step (n + 1) (budget ∷ budgets) c names.round.marked.mark made end is (mark_of setup c z b.marks names.round.marked is on) behind)
+              (subst (λ (k : ℕ). MarksName setup journal world k step (n + 1) (budget ∷ budgets) marks made end) (one_more b c names.round) (behind.name world stand));
           last = behind.last;
           is_last = behind.is_last;
           ends = behind.ends;
@@ -119,14 +140,16 @@ module _ (setup : Setup) (z : Stand) (journal : List JournalEntry) (merge : Inte
     pub behind_end : (budgets : List Budget) (end : RunEnd) → RoundNames setup budget step (n + 1) b c (Ends end) → z ≡ c → Behind step n (budget ∷ budgets) b ((n + 1) ∷ []) end
     behind_end budgets end names same =
         let on : GoesOnTo c.view z.view = λ k. ([], ap (λ (s : Stand). s.view.journal k) same ∙ sym (append-nil (c.view.journal k))) in
+        let whole : z.marks ≡ b.marks ++ names.round.marked.mark ∷ [] = ap (λ (s : Stand). s.marks) same ∙ names.round.marked.marks in
         record {
           stand = c;
           round = names.round;
           on = on;
           is_whole = is;
           later = [];
-          whole = ap (λ (s : Stand). s.marks) same ∙ names.round.marked.marks;
-          name = name_ends setup journal step n budget budgets names.round.marked.mark end (mark_names budget step (n + 1) b c (Ends end) names is on ran);
+          whole = whole;
+          name = λ world stand. name_ends setup journal world (length b.marks) step n budget budgets names.round.marked.mark end
+              (mark_names budget step (n + 1) b c (Ends end) names is on ran [] whole world stand);
           last = names.round.marked.mark;
           is_last = refl;
           ends = λ k. (mark_of setup c z b.marks names.round.marked is on).lengths k ∙ sym (ap (λ (s : Stand). length (s.view.journal k)) same);
@@ -136,14 +159,15 @@ module _ (setup : Setup) (z : Stand) (journal : List JournalEntry) (merge : Inte
     pub behind_settled : RoundNames setup budget step (n + 1) b c IsQuiet → z.marks ≡ c.marks → ((k : ℕ) → z.view.journal k ≡ c.view.journal k) → Behind step n (budget ∷ []) b ((n + 1) ∷ []) Settled
     behind_settled names marks journals =
         let on : GoesOnTo c.view z.view = λ k. ([], journals k ∙ sym (append-nil (c.view.journal k))) in
+        let whole : z.marks ≡ b.marks ++ names.round.marked.mark ∷ [] = marks ∙ names.round.marked.marks in
         record {
           stand = c;
           round = names.round;
           on = on;
           is_whole = is;
           later = [];
-          whole = marks ∙ names.round.marked.marks;
-          name = inr (inl (mark_names budget step (n + 1) b c IsQuiet names is on ran, (refl, refl, refl)));
+          whole = whole;
+          name = λ world stand. inr (inl (mark_names budget step (n + 1) b c IsQuiet names is on ran [] whole world stand, (refl, refl, refl)));
           last = names.round.marked.mark;
           is_last = refl;
           ends = λ k. (mark_of setup c z b.marks names.round.marked is on).lengths k ∙ sym (ap (λ (xs : List JournalEntry). length xs) (journals k));
@@ -162,16 +186,23 @@ module _ (setup : Setup) (z : Stand) (journal : List JournalEntry) (merge : Inte
         let on : GoesOnTo c.view z.view = then_on c.view d.view z.view (pause_on (operator_in setup) c d true pause) (behind_on (step + 1) 0 (next ∷ budgets) d made end behind) in
         let marks : List (List ℕ) = behind.round.marked.mark ∷ behind.later in
         let w = quiet_there names on in
+        let whole : z.marks ≡ b.marks ++ names.round.marked.mark ∷ marks =
+        marks_behind b c names.round marks (behind.whole ∙ ap (λ (xs : List (List ℕ)). xs ++ marks) pause.marks) in
+        let count : length d.marks ≡ length b.marks + 1 = ap (λ (xs : List (List ℕ)). length xs) pause.marks ∙ one_more b c names.round in
         record {
           stand = c;
           round = names.round;
           on = on;
           is_whole = is;
           later = marks;
-          whole = marks_behind b c names.round marks (behind.whole ∙ ap (λ (xs : List (List ℕ)). xs ++ marks) pause.marks);
-          name = inr (inl (
-            mark_names budget step (n + 1) b c IsQuiet names is on ran,
-            (next_begins (step + 1) 0 (next ∷ budgets) c d names.round.marked.mark made end is (mark_of setup c z b.marks names.round.marked is on) pause (pause_goes setup c d w.0 is w.1 w.2 pause) behind, (made, refl, behind.name)),
+          whole = whole;
+          name = λ world stand. inr (inl (
+            mark_names budget step (n + 1) b c IsQuiet names is on ran marks whole world stand,
+            (
+              next_begins (step + 1) 0 (next ∷ budgets) c d names.round.marked.mark made end is (mark_of setup c z b.marks names.round.marked is on) pause
+                  (pause_goes setup c d w.0 is w.1 w.2 pause) behind,
+              (made, refl, subst (λ (k : ℕ). MarksName setup journal world k (step + 1) 0 (next ∷ budgets) marks made end) count (behind.name world stand)),
+            ),
           ));
           last = behind.last;
           is_last = behind.is_last;

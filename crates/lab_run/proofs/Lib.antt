@@ -4,5 +4,6 @@ mod Stories
 mod Counts
 mod Loops
 mod Forwards
+mod Free
 mod Labs
 mod Told

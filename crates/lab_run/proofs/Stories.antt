@@ -13,6 +13,7 @@ use Rattle.graft_laws.specs.Keeps.{Reached}
 use Rattle.router_core.specs.Parts.{carried}
 use Rattle.world_runs.specs.Runs.{IsSeenAs, RanAs, Ran}
 use Rattle.run_marks.specs.Marks.{operator_in, is_go}
+use Rattle.run_marks.proofs.Groups.{groups_counted}
 use Rattle.run_marks.proofs.Seen.{nothing_open}
 use Rattle.world_nodes.specs.Nodes.{Mail, own}
 use Rattle.world_nodes.specs.Ways.{Stand, Begins, Pause, Way, Here, Rounds, Groups}
@@ -21,10 +22,10 @@ use Rattle.lab_report.specs.declared.lab.RunEnd.TheVariants.{Settled}
 use Rattle.lab_budgets.specs.declared.budget.Budget.{Budget}
 use Rattle.lab_run.specs.declared.end.Verdict.{Verdict}
 use Rattle.lab_run.specs.declared.end.Verdict.TheVariants.{IsQuiet, Ends}
-use Rattle.lab_run.specs.Ends.{HasMarks}
+use Rattle.lab_run.specs.Ends.{HasMarks, MarksName}
 use Rattle.lab_run.specs.Stories.{Goes, NoRound, OneMore, GroupGoes, Passes, GroupsGo, NoGroup, NextGroup, RunGoes}
 use Rattle.lab_run.proofs.Stands.{GoesOnTo, stays, then_on, round_on, pause_on, pause_journal, pause_others, IsWhole, whole_first, whole_round, whole_pause, mark_of, groups_at, groups_stay, groups_more, same_back, same_seen, pause_same}
-use Rattle.lab_run.proofs.Behind.{Behind, world_behind, behind_on, behind_round, behind_end, behind_settled, behind_group, none_begins, quiet_there, groups_behind}
+use Rattle.lab_run.proofs.Behind.{WorldsStand, Behind, world_behind, behind_on, behind_round, behind_end, behind_settled, behind_group, none_begins, quiet_there, groups_behind}
 
 abbrev pub WayRan : Type 0
 WayRan = (setup : Setup) (a b : Stand) (rounds : List ℕ) → IsSetup setup → Begins setup a → Way setup a rounds b → Ran own carried setup b.view
@@ -113,11 +114,10 @@ module _ (way_ran : WayRan) (setup : Setup) (sound : IsSetup setup) (a : Stand) 
       let on_b : GoesOnTo b.view z.view = then_on b.view c.view z.view (then_on b.view group.before.view c.view (goes_on setup budget (length budgets + 1) b group.past group.before group.goes) (round_on group.before c group.last.round)) on_c in
       opens_next budgets b (groups_open budgets earlier b groups on_b) budget rounds c d group passes on
 
-  groups_back : (past : List Budget) (made : List ℕ) (b : Stand) → GroupsGo setup a past made b → (left : List Budget) (more : List ℕ) (end : RunEnd) → Behind setup z journal merge (length past + 1) 0 left b more end
-      → Behind setup z journal merge 1 0 (past ++ left) a (made ++ more) end
-  groups_back past made b NoGroup left more end behind = behind
-  groups_back past made d (NextGroup budgets budget earlier rounds {b = b} {c = c} groups group passes) [] more end behind = absurd behind.name
-  groups_back past made d (NextGroup budgets budget earlier rounds {b = b} {c = c} groups group passes) (next ∷ left) more end behind =
+  groups_back : (past : List Budget) (made : List ℕ) (b : Stand) → GroupsGo setup a past made b → (next : Budget) (left : List Budget) (more : List ℕ) (end : RunEnd)
+      → Behind setup z journal merge (length past + 1) 0 (next ∷ left) b more end → Behind setup z journal merge 1 0 (past ++ next ∷ left) a (made ++ more) end
+  groups_back past made b NoGroup next left more end behind = behind
+  groups_back past made d (NextGroup budgets budget earlier rounds {b = b} {c = c} groups group passes) next left more end behind =
       let step : ℕ = length budgets + 1 in
       let on_d : GoesOnTo d.view z.view = behind_on setup z journal merge (length past + 1) 0 (next ∷ left) d more end behind in
       let on_c : GoesOnTo c.view z.view = then_on c.view d.view z.view (pause_on (operator_in setup) c d true passes.pause) on_d in
@@ -128,7 +128,7 @@ module _ (way_ran : WayRan) (setup : Setup) (sound : IsSetup setup) (a : Stand) 
       let at_mark : Behind setup z journal merge step group.past (budget ∷ next ∷ left) group.before ((group.past + 1) ∷ more) end =
       behind_group setup z journal merge step group.past budget group.before c (group_whole budgets b opens budget step rounds IsQuiet c group) (group_ran budgets b opens budget step rounds IsQuiet c group) d next left more end group.last passes.pause at_next in
       let all : Behind setup z journal merge 1 0 (budgets ++ budget ∷ next ∷ left) a (earlier ++ rounds ∷ more) end =
-      groups_back budgets earlier b groups (budget ∷ next ∷ left) (rounds ∷ more) end (group_back budgets b opens budget step rounds IsQuiet c group (next ∷ left) more end at_mark) in
+      groups_back budgets earlier b groups budget (next ∷ left) (rounds ∷ more) end (group_back budgets b opens budget step rounds IsQuiet c group (next ∷ left) more end at_mark) in
       subst (λ (xs : List Budget). Behind setup z journal merge 1 0 xs a ((earlier ++ rounds ∷ []) ++ more) end) (sym (append_assoc budgets (budget ∷ []) (next ∷ left)))
       (subst (λ (ns : List ℕ). Behind setup z journal merge 1 0 (budgets ++ budget ∷ next ∷ left) a ns end) (sym (append_assoc earlier (rounds ∷ []) more)) all)
 
@@ -154,7 +154,7 @@ module _ (way_ran : WayRan) (setup : Setup) (sound : IsSetup setup) (a : Stand) 
         let on : GoesOnTo marked.view z.view = stays marked.view z.view (λ k. ap (λ (c : Stand). c.view.journal k) same) in
         let on_begun : GoesOnTo begun.view z.view = then_on begun.view marked.view z.view (then_on begun.view group.before.view marked.view (goes_on setup budget step begun group.past group.before group.goes) (round_on group.before marked group.last.round)) on in
         let opens : Opens past begun = groups_open past rounds begun groups on_begun in
-        groups_back past rounds begun groups (budget ∷ later) (last ∷ []) end
+        groups_back past rounds begun groups budget later (last ∷ []) end
         (group_back past begun opens budget step last (Ends end) marked group later [] end
         (behind_end setup z journal merge step group.past budget group.before marked (group_whole past begun opens budget step last (Ends end) marked group) (group_ran past begun opens budget step last (Ends end) marked group) later end group.last same))
 
@@ -187,7 +187,7 @@ module _ (way_ran : WayRan) (setup : Setup) (sound : IsSetup setup) (a : Stand) 
 
       -- where the run is settled
       settled_behind : Behind setup z journal merge 1 0 (past ++ budget ∷ []) a (rounds ++ last ∷ []) Settled
-      settled_behind = groups_back past rounds begun groups (budget ∷ []) (last ∷ []) Settled
+      settled_behind = groups_back past rounds begun groups budget [] (last ∷ []) Settled
           (group_back past begun settled_opens budget (length past + 1) last IsQuiet marked group [] [] Settled
           (behind_settled setup z journal merge (length past + 1) group.past budget group.before marked settled_whole settled_ran group.last passes.pause.marks (nothing_noted marked passes.pause)))
 
@@ -207,8 +207,9 @@ module _ (way_ran : WayRan) (setup : Setup) (sound : IsSetup setup) (a : Stand) 
           (subst (λ (ns : List ℕ). Behind setup z journal merge 1 0 (run.past ++ run.budget ∷ later) a ns e) (sym run.made_is) behind)
 
   -- the marks of the whole run
-  pub marks_of_run : (budgets : List Budget) (made : List ℕ) (end : RunEnd) → length budgets ≡ groups_in setup → RunGoes setup a budgets made end z → HasMarks setup journal budgets z.marks made end
-  marks_of_run budgets made end as_many run =
+  pub marks_of_run : (budgets : List Budget) (made : List ℕ) (end : RunEnd) → length budgets ≡ groups_in setup → RunGoes setup a budgets made end z
+      → (world : ℕ → World) → WorldsStand setup journal z.marks world → HasMarks setup journal world budgets z.marks made end
+  marks_of_run budgets made end as_many run world stand =
       let behind : Behind setup z journal merge 1 0 budgets a made end = run_behind budgets made end as_many run in
       let whole : IsWhole setup a = whole_first setup a begins in
       record {
@@ -220,7 +221,8 @@ module _ (way_ran : WayRan) (setup : Setup) (sound : IsSetup setup) (a : Stand) 
         last = behind.last;
         is_last = behind.is_last;
         whole = λ k. behind.ends k ∙ sym (ap (λ (xs : List JournalEntry). length xs) (merge.each k));
-        name = behind.name;
+        name = subst (λ (k : ℕ). MarksName setup journal world k 1 0 budgets (behind.round.marked.mark ∷ behind.later) made end)
+            (ap (λ (xs : List (List ℕ)). length xs) begins.marked.marks) (behind.name world stand);
       }
     where
       all_zero : (xs : List ℕ) → ((k : ℕ) → k < length xs → get_or xs k 0 ≡ 0) → AllByRecursion (λ n. n ≡ 0) xs
@@ -275,6 +277,12 @@ module _ (way_ran : WayRan) (setup : Setup) (sound : IsSetup setup) (a : Stand) 
     marked_on : GoesOnTo run.marked.view z.view
     marked_on = elim run.ends [ inl limit ↦ limit_on limit.1 | inr settled ↦ pause_on (operator_in setup) run.marked z false settled.2.pause ]
 
+    -- as many groups have begun as came to their end before the last one
+    groups_at_end : groups_at setup z ≡ length run.past
+    groups_at_end =
+        ap (λ (xs : List JournalEntry). length (filter is_go xs)) (same_journals (operator_in setup))
+        ∙ group_count run.past run.begun (last_opens marked_on) run.budget (length run.past + 1) run.last run.verdict run.marked run.group
+
     -- the way to the last mark
     pub made_there : List ℕ
     made_there = (last_opens marked_on).rounds ++ (run.group.past + 1) ∷ []
@@ -289,4 +297,20 @@ module _ (way_ran : WayRan) (setup : Setup) (sound : IsSetup setup) (a : Stand) 
   settled_quiet budgets made run w seen reached = elim run.ends [
     | inl limit ↦ absurd ((subst (λ (v : Verdict). GroupGoes setup run.budget (length run.past + 1) run.begun run.last v run.marked) limit.0 run.group).last.names w (subst (λ (c : Stand). IsSeenAs own carried setup c.view w) limit.1 seen, reached))
     | inr settled ↦ ((subst (λ (v : Verdict). GroupGoes setup run.budget (length run.past + 1) run.begun run.last v run.marked) settled.0 run.group).last.names w (same_seen setup z run.marked w (same_back run.marked z (pause_same (operator_in setup) run.marked z settled.2.pause)) seen, reached)).1.quiet
+  ]
+
+  -- the group at its end is the last one
+  pub settled_last : (budgets : List Budget) (made : List ℕ) → length budgets ≡ groups_in setup → RunGoes setup a budgets made Settled z → (ran : RanAs own carried setup journal z.view)
+      → ran.world.operator.group + 1 ≡ groups_in setup
+  settled_last budgets made as_many run ran = elim run.ends [
+    | inl limit ↦ absurd ((subst (λ (v : Verdict). GroupGoes setup run.budget (length run.past + 1) run.begun run.last v run.marked) limit.0 run.group).last.names ran.world
+        (subst (λ (c : Stand). IsSeenAs own carried setup c.view ran.world) limit.1 ran.seen, record { events = ran.events; run = ran.run }))
+    | inr settled ↦ (let group = subst (λ (v : Verdict). GroupGoes setup run.budget (length run.past + 1) run.begun run.last v run.marked) settled.0 run.group in
+        let few = was_last run.past run.rounds run.begun run.groups run.budget run.last run.marked group settled.2 in
+        let all : length budgets ≡ length run.past + (1 + length run.first.0) =
+        ap (λ (xs : List Budget). length xs) run.first.1 ∙ length-append run.past (run.budget ∷ run.first.0) ∙ omega arith in
+        let here : ran.world.operator.group ≡ length run.past =
+        groups_counted setup ran.events journal ran.world ran.entries_of ran.run ∙ ap (λ (xs : List JournalEntry). length (filter is_go xs)) (merge.each (operator_in setup))
+        ∙ groups_at_end budgets made Settled run in
+        omega (arith, few, as_many, all, here))
   ]

@@ -9,16 +9,20 @@ use Rattle.journal_merge.specs.Merges.{Interleaves}
 use Rattle.graft_model.specs.Setups.{Setup, IsSetup}
 use Rattle.graft_model.specs.Parts.{World}
 use Rattle.graft_laws.specs.Emptied.{EmptyAlone}
+use Rattle.graft_laws.specs.Ranges.{IsInRange}
+use Rattle.silent_rounds.specs.Silence.{AreShort}
 use Rattle.world_nodes.specs.declared.node.Node.{Node}
 use Rattle.world_nodes.specs.Edges.{AreEdgesOf}
 use Rattle.world_nodes.specs.Nodes.{Mail}
 use Rattle.world_nodes.specs.Ways.{Stand}
 use Rattle.lab_tables.specs.declared.input.LabInput.{LabInput}
 use Rattle.lab_setup.specs.Setups.{setup_of}
+use Rattle.lab_setup.proofs.InRange.{accepted_in_range}
 use Rattle.lab_report.specs.declared.lab.Lab.{Lab}
 use Rattle.lab_report.specs.declared.lab.RunEnd.{RunEnd}
 use Rattle.lab_budgets.specs.declared.budget.Budget.{Budget}
 use Rattle.lab_budgets.specs.Budgets.{budgets_in}
+use Rattle.lab_budgets.proofs.Faults.{accepted_soon}
 use Rattle.node_configs.specs.Accepted.{IsAccepted}
 use Rattle.node_configs.proofs.Accepted.{is_setup, is_alone}
 use Rattle.lab_seen.specs.Finished.{IsFinished}
@@ -49,6 +53,8 @@ finished setup z w actors left edges net actors_are edges_are left_is = record {
 record IsTold (input : LabInput) (lab : Lab) (a z : Stand) : Type 0 where
   setup : IsSetup (setup_of input)
   alone : EmptyAlone (setup_of input)
+  in_range : IsInRange (setup_of input)
+  soon : AreShort input.faults
   begins : BeginsFresh (setup_of input) input.faults a
   goes : RunGoes (setup_of input) a (budgets_in input) lab.rounds lab.end z
   observed : (w : World) → IsNetOf (setup_of input) z w → Observed (setup_of input) w lab
@@ -59,12 +65,14 @@ module _ (tell : LabsTellOfRuns) (input : LabInput) (accepted : IsAccepted input
     (actors_are : actors ≡ z.view.actors) (journals_are : HasJournals z.view journals) (marks_are : marks ≡ z.marks) (left_is : left ≡ left_of z.view edges) (edges_are : AreEdgesOf (setup_of input) edges) where
   ran_as_told : (lab : Lab) → lab.input ≡ input → lab.end ≡ end → lab.marks ≡ marks → lab.rounds ≡ rounds → Interleaves (λ k. get_or journals k []) lab.journal
       → ((w : World) → IsFinished (setup_of input) w actors left → Observed (setup_of input) w lab) → RanLab lab
-  ran_as_told lab input_is end_is marks_is rounds_are merge seen = tell lab a z told.setup told.alone
+  ran_as_told lab input_is end_is marks_is rounds_are merge seen = tell lab a z told.setup told.alone told.in_range told.soon
       (record { begins = told.begins.begins; fresh = told.begins.fresh; goes = told.goes; marks = marks_is ∙ marks_are; merged = merge_of z journals lab.journal journals_are merge; observed = told.observed }) where
         here : IsTold input lab a z
         here = record {
           setup = is_setup input accepted;
           alone = is_alone input accepted;
+          in_range = accepted_in_range accepted.bytes input accepted.is;
+          soon = accepted_soon accepted.bytes input accepted.is;
           begins = begins;
           goes = subst (λ (e : RunEnd). RunGoes (setup_of input) a (budgets_in input) lab.rounds e z) (sym end_is)
               (subst (λ (ns : List ℕ). RunGoes (setup_of input) a (budgets_in input) ns end z) (sym rounds_are) (subst (λ (bs : List Budget). RunGoes (setup_of input) a bs rounds end z) budgets_are goes));

@@ -8,7 +8,7 @@ use Rattle.graft_model.specs.Setups.{Setup}
 use Rattle.graft_model.specs.Parts.{World}
 use Rattle.graft_model.specs.Quiet.{Quiet}
 use Rattle.graft_steps.specs.declared.rest.Pending.{Pending}
-use Rattle.run_marks.specs.Marks.{before, IsWorldAtMark, GoFollows, NoGoFollows}
+use Rattle.run_marks.specs.Marks.{before, GoFollows, NoGoFollows}
 use Rattle.world_nodes.specs.Looks.{IsLowest, IsStuckIn, IsPending}
 use Rattle.lab_report.specs.declared.lab.RunEnd.{RunEnd}
 use Rattle.lab_report.specs.declared.lab.RunEnd.TheVariants.{Settled, Unsettled, StreamFull, JournalFull}
@@ -51,8 +51,8 @@ pub record IsStreamFull (setup : Setup) (w : World) (peering length : ℕ) : Typ
   pub lowest : IsLowest (IsStuckIn setup w) (Some (peering, whole))
   pub length_is : length ≡ min whole (2 ^ 32 - 1)
 
--- A mark names, in this order: the lowest session that is stuck; full journals, with their entries up to the end of a count of 64 bits; that the group is at its end;
--- that its budget is made; else another round.
+-- A mark names, in this order: the lowest session that is stuck; full journals, with their entries up to the end of a count of 64 bits; that the group
+-- is at its end; that its budget is made; else another round.
 abbrev pub Names : Setup → World → Budget → Counted → Verdict → Type 0
 Names setup w budget c (Ends (StreamFull peering length)) = IsStreamFull setup w peering.0 length
 Names setup w budget c (Ends (JournalFull events)) = NoneIsStuck setup w × (4194304 ≤ c.events) × (events ≡ min c.events (2 ^ 64 - 1))
@@ -75,11 +75,9 @@ pub record CountsTo {A I : Type 0} (v : View A I) (total : ℕ) : Type 0 where
 
 -- ---- all marks of a journal
 
--- a mark names this of its world
-pub record MarkNames (setup : Setup) (journal : List JournalEntry) (budget : Budget) (step rounds : ℕ) (mark : List ℕ) (verdict : Verdict) : Type 0 where
-  pub world : World
-  pub is : IsWorldAtMark setup journal mark world
-  pub names : Names setup world budget (record { events = sum mark; step = step; rounds = rounds }) verdict
+-- a mark of this world names this
+abbrev pub MarkNames : Setup → World → Budget → (step rounds : ℕ) → List ℕ → Verdict → Type 0
+MarkNames setup w budget step rounds mark verdict = Names setup w budget (record { events = sum mark; step = step; rounds = rounds }) verdict
 
 -- a group begins behind a mark at once, and no other before the next one
 abbrev pub NextBegins : Setup → List JournalEntry → List ℕ → List (List ℕ) → Type 0
@@ -91,28 +89,35 @@ abbrev pub NoneBegins : Setup → List JournalEntry → List ℕ → List (List 
 NoneBegins setup journal mark [] = Unit {0}
 NoneBegins setup journal mark (next ∷ marks) = NoGoFollows setup journal mark next
 
--- A mark names another round, in which no group begins, and this holds of the marks behind it; or the end of the group, and this holds; or how the run ends, at the last mark.
-abbrev pub AtMark : Setup → List JournalEntry → Budget → (step rounds : ℕ) → (mark : List ℕ) (marks : List (List ℕ)) → (made : List ℕ) → RunEnd → (Further Over : Type 0) → Type 0
-AtMark setup journal budget step rounds mark marks made end Further Over =
-    (MarkNames setup journal budget step rounds mark GoesOn × NoneBegins setup journal mark marks × Further)
-    ⊎ ((MarkNames setup journal budget step rounds mark IsQuiet × Over)
-    ⊎ (MarkNames setup journal budget step rounds mark (Ends end) × (marks ≡ []) × (made ≡ rounds ∷ [])))
+-- A mark names another round, in which no group begins, and this holds of the marks behind it; or the end of the group, and this holds; or how the run
+-- ends, at the last mark.
+abbrev pub AtMark : Setup → List JournalEntry → World → Budget → (step rounds : ℕ) → (mark : List ℕ) (marks : List (List ℕ)) → (made : List ℕ) → RunEnd
+    → (Further Over : Type 0) → Type 0
+AtMark setup journal w budget step rounds mark marks made end Further Over =
+    (MarkNames setup w budget step rounds mark GoesOn × NoneBegins setup journal mark marks × Further)
+    ⊎ ((MarkNames setup w budget step rounds mark IsQuiet × Over)
+    ⊎ (MarkNames setup w budget step rounds mark (Ends end) × (marks ≡ []) × (made ≡ rounds ∷ [])))
 
--- The marks behind rounds, from the settle of number `step` on, which has made so many rounds, with the budgets of that settle and those behind it. Where a group ends, the next one begins
--- at once and no other in the round behind, or it was the last one and the run is settled. `made` are the rounds of each settle that has begun, from that one on.
-abbrev pub MarksName : Setup → List JournalEntry → (step rounds : ℕ) → List Budget → (marks : List (List ℕ)) → (made : List ℕ) → RunEnd → Type 0
-MarksName setup journal step rounds budgets [] made end = ⊥
-MarksName setup journal step rounds [] (mark ∷ marks) made end = ⊥
-MarksName setup journal step rounds (budget ∷ []) (mark ∷ marks) made end =
-    AtMark setup journal budget step (rounds + 1) mark marks made end (MarksName setup journal step (rounds + 1) (budget ∷ []) marks made end)
+-- The marks behind rounds, the first of which is the n-th of all and each of which stands at its world, from the settle of number `step` on, which has
+-- made so many rounds, with the budgets of that settle and those behind it. Where a group ends, the next one begins at once and no other in the round
+-- behind, or it was the last one and the run is settled. `made` are the rounds of each settle that has begun, from that one on.
+abbrev pub MarksName : Setup → List JournalEntry → (world : ℕ → World) → (n step rounds : ℕ) → List Budget → (marks : List (List ℕ)) → (made : List ℕ)
+    → RunEnd → Type 0
+MarksName setup journal world n step rounds budgets [] made end = ⊥
+MarksName setup journal world n step rounds [] (mark ∷ marks) made end = ⊥
+MarksName setup journal world n step rounds (budget ∷ []) (mark ∷ marks) made end =
+    AtMark setup journal (world n) budget step (rounds + 1) mark marks made end
+    (MarksName setup journal world (n + 1) step (rounds + 1) (budget ∷ []) marks made end)
     ((marks ≡ []) × (made ≡ (rounds + 1) ∷ []) × (end ≡ Settled))
-MarksName setup journal step rounds (budget ∷ next ∷ budgets) (mark ∷ marks) made end =
-    AtMark setup journal budget step (rounds + 1) mark marks made end (MarksName setup journal step (rounds + 1) (budget ∷ next ∷ budgets) marks made end)
-    (NextBegins setup journal mark marks × ((later : List ℕ) × (made ≡ (rounds + 1) ∷ later) × MarksName setup journal (step + 1) 0 (next ∷ budgets) marks later end))
+MarksName setup journal world n step rounds (budget ∷ next ∷ budgets) (mark ∷ marks) made end =
+    AtMark setup journal (world n) budget step (rounds + 1) mark marks made end
+    (MarksName setup journal world (n + 1) step (rounds + 1) (budget ∷ next ∷ budgets) marks made end)
+    (NextBegins setup journal mark marks × ((later : List ℕ) × (made ≡ (rounds + 1) ∷ later)
+    × MarksName setup journal world (n + 1) (step + 1) 0 (next ∷ budgets) marks later end))
 
--- The marks of a run: the first one of empty journals, and then one behind each round, which name how the run goes on and ends. No group begins in the first round:
--- the first one is at work. Behind the last mark there is no entry.
-pub record HasMarks (setup : Setup) (journal : List JournalEntry) (budgets : List Budget) (all : List (List ℕ)) (made : List ℕ) (end : RunEnd) : Type 0 where
+-- The marks of a run, each of which stands at its world: the first one of empty journals, and then one behind each round, which name how the run goes
+-- on and ends. No group begins in the first round: the first one is at work. Behind the last mark there is no entry.
+pub record HasMarks (setup : Setup) (journal : List JournalEntry) (world : ℕ → World) (budgets : List Budget) (all : List (List ℕ)) (made : List ℕ) (end : RunEnd) : Type 0 where
   pub first : List ℕ
   pub marks : List (List ℕ)
   pub is : all ≡ first ∷ marks
@@ -121,4 +126,4 @@ pub record HasMarks (setup : Setup) (journal : List JournalEntry) (budgets : Lis
   pub last : List ℕ
   pub is_last : last_or (Some first) marks ≡ Some last
   pub whole : (k : ℕ) → before last k ≡ length (entries_by k journal)
-  pub name : MarksName setup journal 1 0 budgets marks made end
+  pub name : MarksName setup journal world 1 1 0 budgets marks made end

@@ -22,4 +22,5 @@ pub record LeavesAtPlacement (lab : Lab) (setup : Setup) (w : World) (address : 
 
 -- So goes each packet of the home network, to whatever address and from whichever router.
 abbrev pub Forwards : Lab → Setup → World → Type 0
-Forwards lab setup w = (address : ℕ) (from : RouterId) (walk : Walk) → from.0 < routers_in setup → WalksTo (forward_maps_of lab) address [] from walk → LeavesAtPlacement lab setup w address from walk
+Forwards lab setup w = (address : ℕ) (from : RouterId) (walk : Walk) → from.0 < routers_in setup → WalksTo (forward_maps_of lab) address [] from walk
+    → LeavesAtPlacement lab setup w address from walk

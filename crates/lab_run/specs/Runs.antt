@@ -1,5 +1,5 @@
 -- What a lab says of its run.
-use Rattle.std.specs.Prelude.{ℕ, ◌≡◌, List, length}
+use Rattle.std.specs.Prelude.{ℕ, ◌≡◌, ◌<◌, ◌+◌, ◌-◌, List, length}
 use Rattle.std.specs.List.{AllByRecursion}
 use Rattle.link_bag.specs.declared.plan.Fault.{Fault}
 use Rattle.journal_merge.specs.Merges.{AreSorted, Interleaves}
@@ -18,7 +18,12 @@ use Rattle.world_nodes.specs.Edges.{has_channel}
 use Rattle.world_nodes.specs.Fresh.{IsFresh}
 use Rattle.world_nodes.specs.Looks.{IsWorldAt}
 use Rattle.world_nodes.specs.Ways.{Stand, Begins}
-use Rattle.real_rounds.specs.Whole.{RealRounds}
+use Rattle.run_clocks.specs.Clocks.{AreClocked, clocked_in}
+use Rattle.real_rounds.specs.Whole.{RealRounds, round_by_round}
+use Rattle.graft_laws.specs.Ranges.{IsInRange}
+use Rattle.one_answer.specs.Laws.{IsTheAnswer}
+use Rattle.bounded_moves.specs.Moves.{MovesEnd}
+use Rattle.silent_rounds.specs.Silence.{AreSilent, AreShort}
 use Rattle.lab_setup.specs.Setups.{setup_of}
 use Rattle.lab_report.specs.declared.lab.Lab.{Lab}
 use Rattle.lab_report.specs.declared.lab.RunEnd.TheVariants.{Settled}
@@ -28,33 +33,50 @@ use Rattle.lab_run.specs.Ends.{HasMarks}
 use Rattle.lab_run.specs.Forwards.{Forwards}
 use Rattle.lab_run.specs.Stories.{RunGoes}
 
--- The journal rises by clock, and at one clock by actor. It is that of a run of the input's laboratory from its first world, and the lab is what is seen of the
--- world that the run leads to. At every moment of the run each peering is transparent; a refused graft returned its session unchanged; and a source cleared the routes of a session that had left only with
--- its target's routes at hand. The marks say how the run went on and how it ended. One world stands at each mark, and the last one's is that to which the run
--- leads; from each mark to the next one a run leads from world to world, in which each actor did what a round asks of it.
--- Each evacuate step gave the sessions of its router to the others by the plan, as its group began.
--- Where it is settled, nothing is left to do in the last world, and the tables solve the decision equations (RFC 4271, section 9.1) for the placement after the
--- accepted grafts; a packet from whichever router meets at most two routers, and leaves only where the session of that peering is placed; and what evacuate steps
--- gave to a router is there, unless it was refused, though not for want of room, or moved again.
-pub record RanLab (lab : Lab) : Type 0 where
+-- What is so along events from the first world, at every moment: each peering is transparent; a refused graft returned its session unchanged; a source
+-- cleared the routes of a session that had left only with its target's routes at hand; and each evacuate step gave the sessions of its router to the
+-- others by the plan, as its group began.
+pub record HoldsAlong (setup : Setup) (events : List Event) : Type 0 where
+  pub transparent : TransparentThroughout setup events
+  pub unchanged : Unchanged setup (first_world setup) events
+  pub made : MadeBeforeBroken setup (first_world setup) events
+  pub emptied : GiveByPlan setup events
+
+-- The journal is that of a run of the input's laboratory from its first world. It rises by clock, and at one clock by actor; and each clock is one
+-- above the greater of its actor's last one and the stamp of what is taken, and that of a group's beginning one above all. The lab is what is seen of
+-- the world that the run leads to. In each round, from mark to mark, a run leads from world to world, in which each actor did what a round asks of it;
+-- one world stands at each mark, and the last one's is that to which the run leads. The marks say of their worlds how the run went on and how it ended.
+-- The claims hold along the journal, and along the events round by round. Where eight rounds behind a mark have no event, nothing is left to do at it.
+-- A session that is frozen has landed or come back four rounds later, where few items are in its source's channels. Where it is settled, nothing is
+-- left to do in the last world, and the tables solve the decision equations (RFC 4271, section 9.1) for the placement after the accepted grafts; every
+-- other run of the laboratory that is settled with the same log has the same tables, where no session has a timer and MEDs are even (RFC 4271, section
+-- 9.1.2.2 (c)); a packet from whichever router meets at most two routers, and leaves only where the session of that peering is placed; and what
+-- evacuate steps gave to a router is there, unless it was refused, though not for want of room, or moved again.
+pub record RanIn (setup : Setup) (lab : Lab) : Type 0 where
   pub events : List Event
-  pub entries_of : AreEntriesOf (setup_of lab.input) events lab.journal
-  pub rises : AreSorted lab.journal
+  pub entries_of : AreEntriesOf setup events lab.journal
   pub world : World
-  pub run : Run (setup_of lab.input) (first_world (setup_of lab.input)) events world
-  pub observed : Observed (setup_of lab.input) world lab
-  pub transparent : TransparentThroughout (setup_of lab.input) events
-  pub unchanged : Unchanged (setup_of lab.input) (first_world (setup_of lab.input)) events
-  pub made : MadeBeforeBroken (setup_of lab.input) (first_world (setup_of lab.input)) events
-  pub emptied : GiveByPlan (setup_of lab.input) events
-  pub marks : HasMarks (setup_of lab.input) lab.journal (budgets_in lab.input) lab.marks lab.rounds lab.end
-  pub one : (mark : List ℕ) (u v : World) → IsWorldAtMark (setup_of lab.input) lab.journal mark u → IsWorldAtMark (setup_of lab.input) lab.journal mark v → v ≡ u
-  pub last : IsWorldAtMark (setup_of lab.input) lab.journal marks.last world
-  pub real : RealRounds (setup_of lab.input) lab.input.faults lab.journal lab.marks
-  pub quiet : lab.end ≡ Settled → Quiet (setup_of lab.input) world
-  pub solves : lab.end ≡ Settled → Solves (setup_of lab.input) world
-  pub forwards : lab.end ≡ Settled → Forwards lab (setup_of lab.input) world
-  pub left : lab.end ≡ Settled → AreEmptied (setup_of lab.input) world.operator
+  pub run : Run setup (first_world setup) events world
+  pub rises : AreSorted lab.journal
+  pub clocks : AreClocked (clocked_in setup (first_world setup) events lab.journal world run)
+  pub observed : Observed setup world lab
+  pub real : RealRounds setup lab.input.faults lab.journal lab.marks
+  pub one : (mark : List ℕ) (u v : World) → IsWorldAtMark setup lab.journal mark u → IsWorldAtMark setup lab.journal mark v → v ≡ u
+  pub last : real.world (length lab.marks - 1) ≡ world
+  pub marks : HasMarks setup lab.journal real.world (budgets_in lab.input) lab.marks lab.rounds lab.end
+  pub along : HoldsAlong setup events
+  pub in_rounds : HoldsAlong setup (round_by_round real.events (length lab.marks - 1))
+  pub stalls : (k : ℕ) → k + 8 < length lab.marks → AreSilent real.events k 8 → Quiet setup (real.world k)
+  pub moves : MovesEnd real.events real.world (length lab.marks)
+  pub quiet : lab.end ≡ Settled → Quiet setup world
+  pub solves : lab.end ≡ Settled → Solves setup world
+  pub answers : lab.end ≡ Settled → IsTheAnswer setup world
+  pub forwards : lab.end ≡ Settled → Forwards lab setup world
+  pub left : lab.end ≡ Settled → AreEmptied setup world.operator
+
+-- the same of the laboratory of the lab's own input
+abbrev pub RanLab : Lab → Type 0
+RanLab lab = RanIn (setup_of lab.input) lab
 
 -- ---- why
 
@@ -80,4 +102,5 @@ pub record TellsOf (lab : Lab) (a z : Stand) : Type 0 where
 
 -- such a lab says what its run was
 abbrev pub LabsTellOfRuns : Type 0
-LabsTellOfRuns = (lab : Lab) (a z : Stand) → IsSetup (setup_of lab.input) → EmptyAlone (setup_of lab.input) → TellsOf lab a z → RanLab lab
+LabsTellOfRuns = (lab : Lab) (a z : Stand) → IsSetup (setup_of lab.input) → EmptyAlone (setup_of lab.input) → IsInRange (setup_of lab.input)
+    → AreShort lab.input.faults → TellsOf lab a z → RanLab lab

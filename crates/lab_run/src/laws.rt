@@ -2,20 +2,30 @@
 
 ghost use Rattle.lab_run.specs.Runs.{LabsTellOfRuns};
 
+use bounded_moves::moves_are_bounded;
 use forward_laws::solved_walks;
 use graft_laws::{
     always_made_before_broken, always_transparent, always_unchanged, emptied_routers_are_left,
     evacuations_go_by_plan, quiet_solves,
 };
+use one_answer::settled_runs_have_one_answer;
 use real_rounds::rounds_are_real;
+use run_clocks::journals_are_clocked;
 use run_marks::marks_stand_for_one_world;
+use silent_rounds::silent_worlds_are_quiet;
 use world_nodes::the_way_is_a_run;
 use world_runs::runs_are_transparent;
 
-/// Whatever way the net of an accepted input's laboratory went to its end: a lab that tells of that end has the journal of a run of the world, is what is seen
-/// of the run's last world, and each world on the way is transparent; a refused graft changed no session, and a landing was made before its source's routes
-/// went. Each evacuate step gave by the plan. Its marks name how the run went on. Where it is settled, that world is quiet and solves the decision equations, a
-/// packet meets at most two routers and leaves where the session of its peering belongs, and what evacuate steps gave is where they gave it or was refused.
+/// Whatever way the net of an accepted input's laboratory went to its end: a lab that tells of that end has the journal of a run of the world, and is
+/// what is seen of the run's last world. In the journal each clock is one above the greater of its actor's last one and the stamp of what is taken, and
+/// that of a group's beginning is one above all before it. One world stands at each mark, from the first world to the run's last one, and from each to
+/// the next one leads a round in which every actor did what was asked of it; the marks name of their worlds how the run went on. Along the journal, and
+/// along the rounds one after another, each peering is transparent; a refused graft changed no session, and a landing was made before its source's
+/// routes went; and each evacuate step gave by the plan. Where eight rounds behind a mark have no event, nothing was left to do at it; and a session
+/// that is frozen has landed or come back four rounds later, where few items are in its source's channels. Where the run is settled, its last world is
+/// quiet and solves the decision equations, and every other run that is settled with the same log has the same tables, where no session has a timer and
+/// MEDs are even; a packet meets at most two routers and leaves where the session of its peering belongs, and what evacuate steps gave is where they
+/// gave it or was refused.
 pub(crate) fn labs_tell_of_runs()
     ensures { LabsTellOfRuns }
 {
@@ -30,4 +40,8 @@ pub(crate) fn labs_tell_of_runs()
     emptied_routers_are_left();
     marks_stand_for_one_world();
     rounds_are_real();
+    journals_are_clocked();
+    silent_worlds_are_quiet();
+    moves_are_bounded();
+    settled_runs_have_one_answer();
 }
