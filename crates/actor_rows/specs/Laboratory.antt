@@ -29,7 +29,7 @@ peering p opening = record {
   beats = true;
 }
 
--- the remote of peering 0 says these bytes: the first ones, and those of steps 0, 2 and 7
+-- the laboratory in which the remote of peering 0 says these bytes: at first, and at steps 0, 2 and 7
 abbrev pub laboratory : (opening first second third : List ℕ) → Setup
 laboratory opening first second third = record {
   home_as = 65000;

@@ -1,4 +1,4 @@
-//! An actor that is tried, alone.
+//! One actor under test.
 
 use crate::laboratory::{far_side, operator};
 use crate::plans::plans_that_come_through;
@@ -20,7 +20,7 @@ enum Actor {
     TheOperator(Operator),
 }
 
-/// An actor, its post, and how many of its entries were looked at.
+/// An actor, its post, and how many of its journal entries were already shown.
 #[derive(Drop)]
 pub struct Bench {
     actor: Actor,
@@ -28,7 +28,7 @@ pub struct Bench {
     seen: usize,
 }
 
-/// An event of a far side or the operator as it is written out; nothing for that of a router.
+/// Returns the text of an event of a far side or the operator; empty for a router's event.
 fn written(alloc: Global, event: ActorEvent) -> Result<String> {
     match event {
         ActorEvent::OfRouter(_) => Ok(String::new(alloc)),
@@ -37,7 +37,7 @@ fn written(alloc: Global, event: ActorEvent) -> Result<String> {
     }
 }
 
-/// An event by its name and its three arguments.
+/// Appends an event by its name and its three arguments.
 fn put_entry(alloc: Global, text: &mut String, entry: &JournalEntry) -> Result<()> {
     let code = Code {
         kind: entry.kind,
@@ -55,7 +55,7 @@ fn put_entry(alloc: Global, text: &mut String, entry: &JournalEntry) -> Result<(
     Ok(())
 }
 
-/// Each graft of a log.
+/// Returns the text of each graft of a log.
 fn log_text(alloc: Global, log: &GraftLog) -> Result<String> {
     let mut text = String::new(alloc);
     for entry in log {
@@ -67,7 +67,7 @@ fn log_text(alloc: Global, log: &GraftLog) -> Result<String> {
     Ok(text)
 }
 
-/// The far side with the fault that a row has, if it has one.
+/// Returns the far side with the fault that a row has, if it has one.
 fn far_of(alloc: Global, words: &[&str]) -> Result<Far> {
     if words.len() == 1 {
         return Ok(far_side(alloc, &[])?);
@@ -76,7 +76,7 @@ fn far_of(alloc: Global, words: &[&str]) -> Result<Far> {
     Ok(far_side(alloc, &[fault])?)
 }
 
-/// In how many plans of faults both streams come through.
+/// Reports for how many plans of faults both streams come through.
 fn through(alloc: Global, words: &[&str]) -> Result<String> {
     let plans = number(words, 1)?;
     let through = plans_that_come_through(alloc, plans)?;
@@ -117,7 +117,7 @@ impl Bench {
         }
     }
 
-    /// The events since the last look, each by its kind and its three arguments.
+    /// Returns the events since the last look, each by its kind and its three arguments.
     fn news(&mut self, alloc: Global) -> Result<String> {
         let mut news = String::new(alloc);
         for entry in self.post.entries().iter().skip(self.seen) {
@@ -133,14 +133,14 @@ impl Bench {
         Ok(news)
     }
 
-    /// What is done at a mark, and its events.
+    /// Calls the actor at a mark, and returns the outcome and its events.
     fn pause(&mut self, alloc: Global) -> Result<String> {
         let made = self.between()?;
         let news = self.news(alloc)?;
         Ok(format!(in alloc; "{made}, {news}")?)
     }
 
-    /// The first thing that it still has to do.
+    /// Returns the first thing that it still has to do.
     fn rest(&self, alloc: Global) -> Result<String> {
         let first = match &self.actor {
             Actor::FarSide(far) => far_rest(&far.rest()),
@@ -149,7 +149,7 @@ impl Bench {
         Ok(format!(in alloc; "{first:?}")?)
     }
 
-    /// The operator's log: of each graft its number, where it was ordered, and how far it is.
+    /// Returns the operator's log: for each graft its number, where it was ordered, and its stage.
     fn log(&self, alloc: Global) -> Result<String> {
         match &self.actor {
             Actor::FarSide(_) => bail!("the operator's"),
@@ -157,7 +157,7 @@ impl Bench {
         }
     }
 
-    /// Of a far side: how much its remote said and received, and where its link points.
+    /// Returns, for a far side, how much its remote said and received, and where its link points.
     fn state(&self, alloc: Global) -> Result<String> {
         match &self.actor {
             Actor::FarSide(far) => {
@@ -168,7 +168,7 @@ impl Bench {
         }
     }
 
-    /// The next item that it sent to an actor.
+    /// Returns the next item that it sent to an actor.
     fn sent(&mut self, alloc: Global, words: &[&str]) -> Result<String> {
         let to = number(words, 1)?;
         match self.post.take_sent(to as usize) {
@@ -177,7 +177,7 @@ impl Bench {
         }
     }
 
-    /// Begins anew: the operator, or the far side with the fault that the row has, if it has one.
+    /// Starts again with the operator, or the far side with the fault that the row has, if it has one.
     fn begin(&mut self, alloc: Global, words: &[&str]) -> Result<()> {
         let actor = if word(words, 0) == "operator" {
             Actor::TheOperator(operator(alloc)?)
@@ -196,7 +196,7 @@ impl Bench {
         Ok(())
     }
 
-    /// What a row that looks at the actor gives.
+    /// Returns the answer to a row that looks at the actor.
     fn look(&mut self, alloc: Global, words: &[&str]) -> Result<String> {
         match word(words, 0) {
             "rest" => self.rest(alloc),
@@ -208,7 +208,7 @@ impl Bench {
         }
     }
 
-    /// What a row gives.
+    /// Returns the answer to a row.
     pub fn answer(&mut self, alloc: Global, words: &[&str]) -> Result<String> {
         match word(words, 0) {
             "operator" | "far" => self.begin(alloc, words)?,

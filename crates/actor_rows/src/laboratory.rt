@@ -1,5 +1,6 @@
-//! The laboratory of the rows: three routers, 0 to 2; two peerings, whose far sides are actors 3 and 4; and the operator, actor 5.
-//! The session of peering 0 starts at router 0, and that of peering 1 at router 1. The script has two groups:
+//! The laboratory of the rows: three routers, 0 to 2; two peerings, whose far sides are actors 3 and 4; and the
+//! operator, actor 5. The session of peering 0 starts at router 0, and that of peering 1 at router 1. The script has
+//! two groups:
 //!
 //! | Step | |
 //! |---|---|
@@ -13,8 +14,8 @@
 //! | 7 | the remote of peering 0 says 524,285 bytes |
 //! | 8 | the second group ends |
 //!
-//! The remote of peering 0 has said 4 bytes at the start. Its first byte has the number 5000, and the first of the home side 1000. It says
-//! a KEEPALIVE in every fifth turn.
+//! The remote of peering 0 has said 4 bytes at the start. Its initial sequence number is 5000, and that of the home
+//! side is 1000. It says a KEEPALIVE in every fifth turn.
 
 ghost use Rattle.std.specs.Prelude.{◌≡◌, ◌∷◌, [], IfOk};
 ghost use Rattle.graft_model.specs.Setups.{Setup};
@@ -27,12 +28,12 @@ use operator_core::{Operator, Script, ScriptStep};
 use std::alloc::Global;
 use tcp_seq::Seq;
 
-/// So many equal bytes.
+/// Returns `len` equal bytes.
 fn equal_bytes(alloc: Global, len: usize) -> Result<Octets, NoMemory> {
     Ok(Items::from_vec(vec![in alloc; 7; len]?))
 }
 
-/// The laboratory in which the remote of peering 0 says these bytes.
+/// Returns the laboratory in which the remote of peering 0 says these bytes.
 fn known_for(_opening: &Octets, _first: &Octets, _second: &Octets, _third: &Octets) -> Known
     ghost setup: { Setup }
     ensures { result.setup ≡ setup }
@@ -40,7 +41,7 @@ fn known_for(_opening: &Octets, _first: &Octets, _second: &Octets, _third: &Octe
     Known::new()
 }
 
-/// What the remote of peering 0 says at its steps.
+/// Returns what the remote of peering 0 says at its steps.
 fn says(alloc: Global, first: Octets, second: Octets, third: Octets) -> Result<Says, NoMemory>
     ensures { IfOk result (λ says. says ≡ record { step = 0; bytes = first } ∷ record { step = 2; bytes = second } ∷ record { step = 7; bytes = third } ∷ []) }
 {
@@ -62,7 +63,7 @@ fn says(alloc: Global, first: Octets, second: Octets, third: Octets) -> Result<S
     Ok(says)
 }
 
-/// The far side of peering 0, with these faults in its links.
+/// Returns the far side of peering 0, with these faults in its links.
 pub fn far_side(alloc: Global, faults: &[Fault]) -> Result<Far, NoMemory> {
     let opening = Octets::from_slice(alloc, &[1, 2, 3, 4])?;
     let first = equal_bytes(alloc, 2)?;
@@ -104,7 +105,7 @@ fn graft(target: u8) -> ScriptStep
     }
 }
 
-/// The operator, before anything is issued.
+/// Returns the operator, before anything is issued.
 pub fn operator(alloc: Global) -> Result<Operator, NoMemory> {
     let rooms = Vec::from_array(alloc, [4, 4, 4])?;
     let starts = Vec::from_array(alloc, [RouterId(0), RouterId(1)])?;

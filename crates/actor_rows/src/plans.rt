@@ -1,4 +1,4 @@
-//! A far side and a home side's end, through links with many faults.
+//! A far side and a home side's end, over links with many faults.
 
 use crate::laboratory::far_side;
 use far_side::Far;
@@ -10,10 +10,10 @@ use std::alloc::Global;
 use tcp_end::{End, SendStop};
 use tcp_seq::{Segment, Seq, Way};
 
-/// How many rounds a plan has at most.
+/// The limit of rounds for a plan.
 const MOST_ROUNDS: u32 = 400;
 
-/// Numbers that look random: a linear congruence modulo 2^64, with the constants of Knuth's MMIX.
+/// A linear congruential generator modulo 2^64, with the constants of Knuth's MMIX.
 #[derive(Drop)]
 struct Random(u64);
 
@@ -27,7 +27,7 @@ impl Random {
     }
 }
 
-/// A fault of a segment, or none.
+/// Returns a fault of a segment, or none.
 fn fault(random: &mut Random, way: Way, segment: u32) -> Option<Fault> {
     let kind = match random.below(8) {
         0 => FaultKind::Lose,
@@ -45,7 +45,7 @@ fn fault(random: &mut Random, way: Way, segment: u32) -> Option<Fault> {
     })
 }
 
-/// Faults of half of the first 40 segments each way.
+/// Returns faults for about half of the first 40 segments each way.
 fn faults(alloc: Global, seed: u32) -> Result<Vec<Fault>, NoMemory> {
     let mut random = Random(u64::from(seed));
     let mut faults = Vec::new(alloc);
@@ -69,7 +69,7 @@ struct Pair {
 }
 
 impl Pair {
-    /// A pair whose remote has said 4,100 bytes, and whose home side has sent so many.
+    /// Returns a pair whose remote has said 4,100 bytes, and whose home side has sent as many.
     fn new(alloc: Global, faults: &[Fault], bytes: &[u8]) -> Result<Pair, NoMemory> {
         let mut far = far_side(alloc, faults)?;
         let mut post = Post::begin(alloc, 3, 0, &[0, 1, 2])?;
@@ -81,7 +81,7 @@ impl Pair {
         }
     }
 
-    /// A segment of the home side comes to the far side.
+    /// Lets the far side take a segment of the home side, if there is one.
     fn send(&mut self, segment: Option<Segment>) -> Result<(), NoMemory> {
         match segment {
             Some(segment) => self.far.take(0, Item::Seg(segment), &mut self.post),
@@ -89,7 +89,7 @@ impl Pair {
         }
     }
 
-    /// A segment of the far side arrives at home.
+    /// Lets a segment of the far side arrive at home.
     fn arrive(&mut self, segment: &Segment) -> Result<(), NoMemory> {
         let fits = segment.peering == self.home.peering()
             && segment.way != self.home.way()
@@ -100,7 +100,7 @@ impl Pair {
         Ok(())
     }
 
-    /// The home side takes what has come, 100 segments at most.
+    /// Lets the home side take what has arrived, at most 100 segments.
     fn take_all(&mut self) -> Result<(), NoMemory> {
         for _ in 0..100u32 {
             match self.post.take_sent(0) {
@@ -111,7 +111,7 @@ impl Pair {
         Ok(())
     }
 
-    /// The home side's turn, and then the far side's.
+    /// Makes the home side's turn, and then the far side's.
     fn round(&mut self) -> Result<(), NoMemory> {
         self.take_all()?;
         let again = self.home.turn()?;
@@ -125,7 +125,7 @@ impl Pair {
         self.far.turn(&mut self.post)
     }
 
-    /// Whether both sides have received all that the other one said, and know it.
+    /// Returns whether each side has received all that the other one said, and has all of its own acknowledged.
     fn is_through(&self, bytes: &[u8]) -> bool {
         !self.far.rest().unacked
             && self.home.acked() as usize == bytes.len()
@@ -133,7 +133,7 @@ impl Pair {
             && self.home.ready() == self.far.said()
     }
 
-    /// Makes rounds until both streams are through. It answers whether they came through.
+    /// Makes rounds until both streams are through. Returns whether they came through.
     fn comes_through(&mut self, bytes: &[u8]) -> Result<bool, NoMemory> {
         for _ in 0..MOST_ROUNDS {
             if self.is_through(bytes) {
@@ -145,7 +145,7 @@ impl Pair {
     }
 }
 
-/// In how many plans of faults, from seed 0 on, both streams come through.
+/// Returns for how many plans of faults, from seed 0 on, both streams come through.
 pub fn plans_that_come_through(alloc: Global, plans: u32) -> Result<u32, NoMemory> {
     let bytes = vec![in alloc; 3u8; 20_000]?;
     let mut through = 0u32;

@@ -1,4 +1,4 @@
-//! The words of a row: faults, and items that are taken.
+//! The words of a row: faults, and items to be taken.
 
 use anyhow::{Context, Result, bail};
 use bgp_types::Prefix;
@@ -8,17 +8,17 @@ use link_bag::{Fault, FaultKind};
 use std::alloc::Global;
 use tcp_seq::{Segment, Seq, Way};
 
-/// The word at a place of a row; empty behind its end.
+/// Returns the word at a place of a row; empty past its end.
 pub fn word<'a>(words: &[&'a str], place: usize) -> &'a str {
     words.get(place).copied().unwrap_or("")
 }
 
-/// The number at a place of a row.
+/// Returns the number at a place of a row.
 pub fn number(words: &[&str], place: usize) -> Result<u32> {
     Ok(word(words, place).parse::<u32>()?)
 }
 
-/// The number of a router or a peering at a place of a row.
+/// Returns the number of a router or a peering at a place of a row.
 fn small(words: &[&str], place: usize) -> Result<u8> {
     Ok(word(words, place).parse::<u8>()?)
 }
@@ -41,7 +41,7 @@ fn kind_of(word: &str) -> Option<FaultKind> {
     }
 }
 
-/// The fault of the first segment one way: `WAY KIND AFTER` from the second word on.
+/// Returns the fault of the first segment one way: `WAY KIND AFTER` from the second word on.
 pub fn fault_of(words: &[&str]) -> Result<Fault> {
     Ok(Fault {
         peering: PeeringId(0),
@@ -52,7 +52,7 @@ pub fn fault_of(words: &[&str]) -> Result<Fault> {
     })
 }
 
-/// A segment: `PEERING WAY SEQ ACK LENGTH` from the fourth word on.
+/// Returns a segment: `PEERING WAY SEQ ACK LENGTH` from the fourth word on.
 fn segment_of(alloc: Global, words: &[&str]) -> Result<Segment> {
     let peering = small(words, 3)?;
     let way = way_of(word(words, 4)).context("a way")?;
@@ -69,7 +69,7 @@ fn segment_of(alloc: Global, words: &[&str]) -> Result<Segment> {
     })
 }
 
-/// An item of a graft: its name stands in the third word, and the graft's number in the fourth.
+/// Returns an item of a graft: its name is the third word, and the graft's number the fourth.
 fn item_of_graft(words: &[&str]) -> Result<Item<u8>> {
     let graft = number(words, 3)?;
     Ok(match word(words, 2) {
@@ -109,7 +109,7 @@ fn item_of_graft(words: &[&str]) -> Result<Item<u8>> {
     })
 }
 
-/// The item that a row has an actor take.
+/// Returns the item that a row has an actor take.
 pub fn item_of(alloc: Global, words: &[&str]) -> Result<Item<u8>> {
     match word(words, 2) {
         "segment" => Ok(Item::Seg(segment_of(alloc, words)?)),

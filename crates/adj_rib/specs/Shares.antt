@@ -1,4 +1,4 @@
--- A table of which each value is seen through a function.
+-- A table in which each value is seen through a function.
 use Rattle.std.specs.Prelude.{map}
 use Rattle.std.specs.FinMap as table
 use Rattle.bgp_types.specs.Tables.{prefix_cmp}

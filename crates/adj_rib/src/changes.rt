@@ -1,4 +1,4 @@
-//! What an UPDATE does to routes, with a list of the prefixes that have another route then.
+//! Applies an UPDATE to routes, and lists the prefixes whose routes changed.
 
 ghost use Rattle.std.specs.Prelude.{◌≡◌, ◌≢◌, [], Option, None, Some, true, MatchBool, fold, is_some, option_map, IfOk, OnOk};
 ghost use Rattle.std.specs.Arc.{arc_value};
@@ -16,14 +16,14 @@ use bgp_types::{Attrs, Items, NoMemory, Prefix, PrefixList, TryCopy, Update};
 use std::alloc::Global;
 use std::sync::Arc;
 
-/// An empty list with room for so many prefixes.
+/// Returns an empty list with room for `count` prefixes.
 pub fn with_room(alloc: Global, count: usize) -> Result<PrefixList, NoMemory>
     ensures { IfOk result (λ prefixes. prefixes ≡ []) }
 {
     Ok(Items::from_vec(Vec::with_capacity(alloc, count)?))
 }
 
-/// The same prefixes, each once, in rising order.
+/// Returns the same prefixes, each once, in ascending order.
 pub fn in_order(prefixes: PrefixList) -> PrefixList
     ensures rising { IsStrictlySortedBy prefix_cmp result }
     ensures same { (p : PrefixValue) → list_any (same_prefix p) result ≡ list_any (same_prefix p) prefixes }
@@ -34,7 +34,7 @@ pub fn in_order(prefixes: PrefixList) -> PrefixList
     Items::from_vec(prefixes)
 }
 
-/// Whether a prefix is among prefixes in rising order.
+/// Whether a prefix is among prefixes in ascending order.
 fn is_among(prefix: Prefix, prefixes: &[Prefix]) -> bool
     requires { IsStrictlySortedBy prefix_cmp prefixes.now }
     ensures { result ≡ list_any (same_prefix prefix) prefixes.now }
@@ -42,7 +42,7 @@ fn is_among(prefix: Prefix, prefixes: &[Prefix]) -> bool
     prefixes.binary_search(&prefix).is_ok()
 }
 
-/// The prefixes that an UPDATE announces, each once, in rising order.
+/// Returns the prefixes that an UPDATE announces, each once, in ascending order.
 fn list_announced(alloc: Global, update: &Update) -> Result<PrefixList, NoMemory>
     ensures rising { IfOk result (λ prefixes. IsStrictlySortedBy prefix_cmp prefixes) }
     ensures given { IfOk result (λ prefixes. (p : PrefixValue) → list_any (same_prefix p) prefixes ≡ is_some (given update.now p)) }
@@ -53,7 +53,8 @@ fn list_announced(alloc: Global, update: &Update) -> Result<PrefixList, NoMemory
     Ok(in_order(Items::from_slice(alloc, update.nlri.as_slice())?))
 }
 
-/// Takes a prefix out unless it is announced, and lists it where it was there. `announced` is in rising order.
+/// Removes the route of a prefix unless it is announced, and lists the prefix if it had one.
+/// `announced` is in ascending order.
 fn withdraw_one(
     routes: &mut SharedRoutes,
     prefix: Prefix,
@@ -74,7 +75,8 @@ fn withdraw_one(
     Ok(())
 }
 
-/// Takes the prefixes out that aren't announced, and lists those that were there. `announced` is in rising order.
+/// Removes the routes of the prefixes that aren't announced, and lists those that had one. `announced`
+/// is in ascending order.
 fn withdraw(
     routes: &mut SharedRoutes,
     prefixes: &[Prefix],
@@ -92,8 +94,8 @@ fn withdraw(
     Ok(())
 }
 
-/// Takes out what an UPDATE withdraws and doesn't announce, and lists what was there. What it announces is put
-/// in order for that, so an UPDATE that withdraws nothing costs nothing here.
+/// Removes the routes that an UPDATE withdraws and doesn't announce, and lists the prefixes that had
+/// one. The announced prefixes are sorted for that only if the UPDATE withdraws any.
 pub fn withdraw_all(
     alloc: Global,
     routes: &mut SharedRoutes,
@@ -131,7 +133,7 @@ fn is_same(had: &Option<SharedAttrs>, attrs: &SharedAttrs) -> bool
     }
 }
 
-/// Gives a prefix this route, and lists it where it had another or none.
+/// Sets the route of a prefix, and lists the prefix if it had another route or none.
 fn announce_one(
     routes: &mut SharedRoutes,
     prefix: Prefix,
@@ -150,7 +152,7 @@ fn announce_one(
     Ok(())
 }
 
-/// Gives each of the prefixes this route, and lists those that had another or none.
+/// Sets this route for each of the prefixes, and lists those that had another route or none.
 pub fn announce(
     alloc: Global,
     routes: &mut SharedRoutes,

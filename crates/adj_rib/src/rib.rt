@@ -1,4 +1,4 @@
-//! Routes, and how an UPDATE changes them.
+//! Routes of a session, and how an UPDATE changes them.
 
 ghost use Rattle.std.specs.Prelude.{◌≡◌, option_copied, IfOk, OnOk};
 ghost use Rattle.std.specs.FinMap as map;
@@ -33,7 +33,7 @@ impl Model for AdjRib {
 }
 
 impl AdjRib {
-    /// No route.
+    /// Returns a table of no routes.
     pub fn new(alloc: Global) -> AdjRib
         ensures { result ≡ map.empty }
     {
@@ -43,10 +43,11 @@ impl AdjRib {
         }
     }
 
-    /// Takes out what an UPDATE withdraws, sets what it announces, and answers the prefixes whose
-    /// routes changed, in rising order. A prefix that it withdraws and announces is taken as announced.
-    /// For each prefix of the UPDATE it goes a way of at most 33 steps, however many routes there are,
-    /// and it sorts the prefixes. After `NoMemory` some of the prefixes may have changed.
+    /// Removes the routes that an UPDATE withdraws, sets those that it announces, and returns the
+    /// prefixes whose routes changed, in ascending order. A prefix that it both withdraws and announces
+    /// counts as announced (RFC 4271, section 4.3). It sorts the prefixes of the UPDATE, and makes a
+    /// descent of at most 33 steps for each, however many routes there are. If memory runs out, the
+    /// routes of some of the prefixes may have changed.
     pub fn apply(&mut self, update: &Update) -> Result<PrefixList, NoMemory>
         ensures routes { OnOk result (self.new ≡ apply self.old update.now) }
         ensures changed { IfOk result (λ prefixes. Changed self.old self.new prefixes) }
@@ -65,35 +66,36 @@ impl AdjRib {
         Ok(in_order(changed))
     }
 
-    /// The route of a prefix.
+    /// Returns the route of a prefix.
     pub fn get(&self, prefix: Prefix) -> Option<&Attrs>
         ensures { option_copied result ≡ map.get self.now prefix }
     {
         self.routes.get(prefix)
     }
 
-    /// Takes all routes out.
+    /// Removes all routes.
     pub fn clear(&mut self)
         ensures { self.new ≡ map.empty }
     {
         self.routes = SharedRoutes::new(self.alloc);
     }
 
-    /// The least prefix that is above another, or the least of all.
+    /// Returns the least prefix with a route that is above another, or the least of all for `None`.
     pub fn next_after(&self, prefix: Option<Prefix>) -> Option<Prefix>
         ensures { result ≡ first_above prefix (map.keys self.now) }
     {
         self.routes.next_after(prefix)
     }
 
-    /// The prefixes that have routes, in rising order. It visits each of them once, and asks for memory once.
+    /// Returns the prefixes that have routes, in ascending order. It visits each of them once, and
+    /// allocates once.
     pub fn prefixes(&self) -> Result<PrefixList, NoMemory>
         ensures { IfOk result (λ prefixes. prefixes ≡ map.keys self.now) }
     {
         self.routes.prefixes()
     }
 
-    /// How many routes there are.
+    /// Returns the number of routes.
     pub fn len(&self) -> usize
         ensures { result ≡ map.len self.now }
     {

@@ -1,4 +1,4 @@
-//! Routes by prefix, of which those that were set together share their attributes.
+//! Routes by prefix. Those that were set together share their attributes.
 
 ghost use Rattle.std.specs.Prelude.{◌≡◌, OnOk, IfOk, is_some, option_copied, option_map};
 ghost use Rattle.std.specs.Arc.{arc_value};
@@ -36,7 +36,7 @@ impl Model for SharedRoutes {
 }
 
 impl SharedRoutes {
-    /// No route.
+    /// Returns a table of no routes.
     pub fn new(alloc: Global) -> SharedRoutes
         ensures { result ≡ map.empty }
     {
@@ -45,7 +45,7 @@ impl SharedRoutes {
         }
     }
 
-    /// The route of a prefix.
+    /// Returns the route of a prefix.
     pub fn get(&self, prefix: Prefix) -> Option<&Attrs>
         ensures { option_copied result ≡ map.get self.now prefix }
     {
@@ -58,7 +58,7 @@ impl SharedRoutes {
         }
     }
 
-    /// Gives a prefix a route, and answers what it had.
+    /// Sets the route of a prefix, and returns the one that it had.
     pub fn set(
         &mut self,
         prefix: Prefix,
@@ -73,7 +73,7 @@ impl SharedRoutes {
         }
     }
 
-    /// Takes a prefix out, and answers whether it was there.
+    /// Removes the route of a prefix, and returns whether it had one.
     pub fn remove(&mut self, prefix: Prefix) -> bool
         ensures there { result ≡ is_some (map.get self.old prefix) }
         ensures removed { self.new ≡ map.remove self.old prefix }
@@ -81,21 +81,21 @@ impl SharedRoutes {
         self.trie.remove(prefix).is_some()
     }
 
-    /// The least prefix that is above another, or the least of all.
+    /// Returns the least prefix with a route that is above another, or the least of all for `None`.
     pub fn next_after(&self, prefix: Option<Prefix>) -> Option<Prefix>
         ensures { result ≡ first_above prefix (map.keys self.now) }
     {
         self.trie.next_after(prefix)
     }
 
-    /// The prefixes that have routes, in rising order.
+    /// Returns the prefixes that have routes, in ascending order.
     pub fn prefixes(&self) -> Result<PrefixList, NoMemory>
         ensures { IfOk result (λ prefixes. prefixes ≡ map.keys self.now) }
     {
         self.trie.prefixes()
     }
 
-    /// How many routes there are.
+    /// Returns the number of routes.
     pub fn len(&self) -> usize
         ensures { result ≡ map.len self.now }
     {

@@ -1,4 +1,4 @@
--- What the attributes of a field say, each by itself.
+-- What the attributes of a field give, each by itself.
 use Rattle.std.specs.Prelude.{ℕ, ◌==◌, List, [], ◌∷◌, ◌++◌, Option, Some, None, Result, Bool, true, is_some, if◌then◌else◌}
 use Rattle.bgp_types.specs.declared.attrs.RawAttr.{RawAttr}
 use Rattle.bgp_types.specs.declared.fault.FoundAttrs.{FoundAttrs}
@@ -25,11 +25,11 @@ said_in wide attrs = record {
   unknown = kept attrs;
 }
 
--- the field is cut into attributes; the first fault, or what they say
+-- the field, cut into attributes: their first fault, or what they give
 unfoldable pub all_said : Bool → List ℕ → Result Said Notice
 all_said wide bytes = unless (attrs_fault wide [] (many attr_at bytes).0 (many attr_at bytes).1) (said_in wide (many attr_at bytes).0)
 
--- what they say together
+-- what they give together
 abbrev pub found_of : Said → FoundAttrs
 found_of s = record {
   origin = s.origin;
@@ -43,7 +43,7 @@ found_of s = record {
 
 -- ---- one further attribute, of a type that wasn't there
 
--- an unknown one goes to the end, where it is kept
+-- an unknown attribute goes to the end, if it is kept
 abbrev pub with_kept : Option RawAttr → List RawAttr → List RawAttr
 with_kept None attrs = attrs
 with_kept (Some a) attrs = attrs ++ a ∷ []

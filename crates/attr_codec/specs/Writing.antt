@@ -13,7 +13,7 @@ use Rattle.bgp_types.specs.Values.{other_kind}
 use Rattle.bgp_types.specs.WireAttrs.{WireAttr}
 use Rattle.bgp_types.specs.Writable.{IsOther}
 
--- flags without extended length, to which it can be added
+-- flags without extended length, to which that flag can be added
 pub record AreFlags (flags : ℕ) : Type 0 where
   pub small : flags + 16 < 256
   pub short : (bit_and flags 16 == 0) ≡ true
@@ -40,7 +40,7 @@ known_written wide a =
 abbrev pub as4_written : Bool → Attrs → List WireAttr
 as4_written wide a = as4_path_written wide a.path ++ as4_aggregator_written wide a.aggregator
 
--- AS4_PATH is written
+-- AS4_PATH has to be written
 pub record NeedsLong (wide : Bool) (path : List PathPart) : Type 0 where
   pub narrow : wide ≡ false
   pub long : has_long_as path ≡ true

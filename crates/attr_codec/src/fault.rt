@@ -1,4 +1,4 @@
-//! Why bytes aren't read.
+//! Why bytes couldn't be read.
 
 ghost use Rattle.std.specs.Prelude.{◌≡◌, Some};
 ghost use Rattle.attr_codec.specs.Decoding.{Stops};
@@ -8,16 +8,16 @@ use bgp_types::{NoMemory, Notice, Octets};
 use std::alloc::Global;
 use thiserror::Error;
 
-/// The code of a fault in an UPDATE.
+/// The error code of a fault in an UPDATE.
 const UPDATE_FAULT: u8 = 3;
 
-/// The most octets of data that a NOTIFICATION has room for.
+/// The most octets of data that fit in a NOTIFICATION.
 const MOST_DATA: usize = 4075;
 
-/// Why bytes aren't read.
+/// Why bytes couldn't be read.
 #[derive(Debug, Drop, Error)]
 pub enum CodecFault {
-    /// The first fault of the bytes: the NOTIFICATION that answers them.
+    /// The first fault of the bytes, as the NOTIFICATION that answers it.
     #[error("a faulty message")]
     Wire(Notice),
     #[error("no memory")]
@@ -35,7 +35,7 @@ impl std::convert::From<NoMemory> for CodecFault {
     }
 }
 
-/// A fault of an UPDATE without data.
+/// Returns a fault of an UPDATE without data. If memory runs out, it returns `NoMemory`.
 pub fn bare_fault(alloc: Global, subcode: u8) -> CodecFault
     ensures { Stops result (Some (bare subcode)) }
 {
@@ -46,7 +46,8 @@ pub fn bare_fault(alloc: Global, subcode: u8) -> CodecFault
     })
 }
 
-/// A fault of an UPDATE with these octets as its data, cut where they are too many.
+/// Returns a fault of an UPDATE with these octets as its data, cut where there are too many. If memory
+/// runs out, it returns `NoMemory`.
 #[tactic(auto, using(std::proofs::lemmas::List::take_min))]
 pub fn fault_about(alloc: Global, subcode: u8, octets: &[u8]) -> CodecFault
     ensures { Stops result (Some (about subcode octets.now)) }

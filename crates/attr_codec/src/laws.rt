@@ -9,13 +9,13 @@ ghost use Rattle.bgp_types.specs.Reads.{ReadsAttrs};
 ghost use Rattle.bgp_types.specs.Spelling.{spell_attrs};
 ghost use Rattle.attr_codec.specs.Fields.{FitsField, all_found};
 
-/// A field has no fault exactly where it is sound attributes, one after another, no two of a type,
-/// and then what is found is what they say.
+/// A field has no fault if and only if it is a sequence of sound attributes, no two of the same type;
+/// then what is found is what they give.
 pub fn fields_read_alike()
     ensures { (field : List ℕ) (wide : Bool) (found : FoundAttrs) → AreOctets field → (attrs_in wide field ≡ Ok found) ↔ ReadsAttrs wide field found }
 {}
 
-/// What is written of attributes that fit a field reads as them.
+/// The written form of attributes that fit a field reads as them.
 pub fn written_attrs_read()
     ensures { (attrs : Attrs) (wide : Bool) → FitsField attrs wide → attrs_in wide (spell_attrs wide attrs) ≡ Ok (all_found attrs) }
 {}

@@ -12,7 +12,7 @@ use std::alloc::Global;
 /// The most ASes of a part.
 const MOST_ASES: usize = 255;
 
-/// How many ASes a part counts as; a set counts as one.
+/// Returns the number of ASes that a part counts as; a set counts as one.
 fn count_of(part: &PathPart) -> usize
     ensures { result ≡ part_count part.now }
 {
@@ -22,7 +22,7 @@ fn count_of(part: &PathPart) -> usize
     }
 }
 
-/// How many ASes a path counts as. A `u128` holds the count of every path.
+/// Returns the number of ASes that a path counts as. A `u128` holds the count of every path.
 fn count_in(path: &[PathPart]) -> u128
     ensures { result ≡ path_count path.now }
 {
@@ -33,7 +33,7 @@ fn count_in(path: &[PathPart]) -> u128
     count
 }
 
-/// The first ASes, or all where there are no more.
+/// Returns the first `most` ASes, or all if there are fewer.
 fn front_of(ases: &[u32], most: u128) -> &[u32]
     ensures { result.now ≡ take most ases.now }
 {
@@ -44,7 +44,7 @@ fn front_of(ases: &[u32], most: u128) -> &[u32]
     front
 }
 
-/// A set, or the first ASes of a sequence.
+/// Returns a set, or the first `count` ASes of a sequence.
 fn front_in(alloc: Global, part: &PathPart, count: u128) -> Result<PathPart, NoMemory>
     ensures { IfOk result (λ p. p ≡ lead_part count part.now) }
 {
@@ -57,7 +57,8 @@ fn front_in(alloc: Global, part: &PathPart, count: u128) -> Result<PathPart, NoM
     }
 }
 
-/// The parts with so many leading ASes.
+/// Returns the first parts of a path, which count as `count` ASes; the last one is cut if it is a
+/// sequence.
 fn lead_in(alloc: Global, path: &[PathPart], count: u128) -> Result<Vec<PathPart>, NoMemory>
     ensures { IfOk result (λ p. p.items ≡ lead count path.now) }
 {
@@ -73,7 +74,7 @@ fn lead_in(alloc: Global, path: &[PathPart], count: u128) -> Result<Vec<PathPart
     Ok(out)
 }
 
-/// Puts two sequences at the end, or the one that they become where it has room.
+/// Appends two sequences, joined into one if it has room for both.
 fn put_sequences(path: &mut Vec<PathPart>, front: AsList, back: AsList) -> Result<(), NoMemory>
     ensures { OnOk result (path.new.items ≡ path.old.items ++ join_parts (parts.Sequence front) (parts.Sequence back)) }
 {
@@ -87,7 +88,7 @@ fn put_sequences(path: &mut Vec<PathPart>, front: AsList, back: AsList) -> Resul
     Ok(path.push(PathPart::Sequence(back))?)
 }
 
-/// Puts two parts at the end.
+/// Appends two parts.
 fn put_two(path: &mut Vec<PathPart>, last: PathPart, part: PathPart) -> Result<(), NoMemory>
     ensures { OnOk result (path.new.items ≡ (path.old.items ++ last ∷ []) ++ part ∷ []) }
 {
@@ -95,7 +96,7 @@ fn put_two(path: &mut Vec<PathPart>, last: PathPart, part: PathPart) -> Result<(
     Ok(path.push(part)?)
 }
 
-/// Puts two parts at the end, joined where they are sequences with room for that.
+/// Appends two parts, joined if they are sequences and one has room for both.
 fn put_parts(path: &mut Vec<PathPart>, last: PathPart, part: PathPart) -> Result<(), NoMemory>
     ensures { OnOk result (path.new.items ≡ path.old.items ++ join_parts last part) }
 {
@@ -105,7 +106,7 @@ fn put_parts(path: &mut Vec<PathPart>, last: PathPart, part: PathPart) -> Result
     }
 }
 
-/// Puts a part at the end; two sequences that meet there may become one.
+/// Appends a part; if it and the last part are sequences, they may become one.
 fn put_joined(path: &mut Vec<PathPart>, part: PathPart) -> Result<(), NoMemory>
     ensures { OnOk result (path.new.items ≡ push_joined path.old.items part) }
 {
@@ -115,7 +116,7 @@ fn put_joined(path: &mut Vec<PathPart>, part: PathPart) -> Result<(), NoMemory>
     }
 }
 
-/// The parts of both, one after the other.
+/// Returns the parts of both, one list after the other; the parts that meet may be joined.
 fn met(front: Vec<PathPart>, back: &[PathPart]) -> Result<AsPath, NoMemory>
     ensures { IfOk result (λ p. p ≡ meet front.items back.now) }
 {
@@ -130,7 +131,8 @@ fn met(front: Vec<PathPart>, back: &[PathPart]) -> Result<AsPath, NoMemory>
     Ok(AsPath::from_vec(path))
 }
 
-/// The path where AS4_PATH stands for the end of AS_PATH, unless it counts more.
+/// Returns the path in which AS4_PATH replaces the end of AS_PATH, unless AS4_PATH counts more ASes
+/// (RFC 6793, section 4.2.3). If memory runs out, both paths are lost.
 #[tactic(auto, unfolding(bgp_types::specs::Merge::merged_path))]
 pub fn merged(alloc: Global, path: AsPath, as4_path: AsPath) -> Result<AsPath, NoMemory>
     ensures { IfOk result (λ p. p ≡ merged_path path as4_path) }

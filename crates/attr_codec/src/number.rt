@@ -6,7 +6,7 @@ ghost use Rattle.bgp_types.specs.PathOctets.{as_width};
 
 use byteorder::{BigEndian, ByteOrder};
 
-/// The AS in these octets: four where the message is wide, else two.
+/// Returns the AS in these octets: four where the message is wide, else two.
 pub fn as_in(wide: bool, octets: &[u8]) -> u32
     requires { length octets.now ≡ byte_len (as_width wide) }
     ensures { result ≡ from_be_bytes (as_width wide) octets.now }

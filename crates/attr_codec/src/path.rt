@@ -9,7 +9,7 @@ use crate::number::as_in;
 use bgp_types::{AsList, AsPath, NoMemory, PathPart, as_size};
 use std::alloc::Global;
 
-/// So many ASes.
+/// Reads `count` ASes.
 fn ases_in(alloc: Global, wide: bool, count: u8, octets: &[u8]) -> Result<AsList, NoMemory>
     requires { count * byte_len (as_width wide) ≤ length octets.now }
     ensures { IfOk result (λ ases. ases ≡ numbers (as_width wide) count octets.now) }
@@ -24,7 +24,7 @@ fn ases_in(alloc: Global, wide: bool, count: u8, octets: &[u8]) -> Result<AsList
     Ok(AsList::from_vec(ases))
 }
 
-/// The part at the front, and the octets after it.
+/// Reads the part at the front, and returns the octets after it too.
 #[tactic(auto, unfolding(bgp_types::specs::PathOctets::part_at))]
 fn part_in(alloc: Global, wide: bool, octets: &[u8]) -> Result<Option<(PathPart, &[u8])>, NoMemory>
     ensures part { IfOk result (λ found. option_map (λ x. (x.0, x.1.now)) found ≡ part_at wide octets.now) }
@@ -46,7 +46,7 @@ fn part_in(alloc: Global, wide: bool, octets: &[u8]) -> Result<Option<(PathPart,
     }
 }
 
-/// The path that is the whole value; none where the value is malformed.
+/// Reads the path that is the whole value. Returns `None` if the value is malformed.
 pub fn path_in(alloc: Global, wide: bool, value: &[u8]) -> Result<Option<AsPath>, NoMemory>
     ensures { IfOk result (λ found. found ≡ path_of wide value.now) }
 {

@@ -8,7 +8,7 @@ ghost use Rattle.attr_codec.specs.Pieces.{wire, wire_of, IsPiece};
 
 use byteorder::{BigEndian, ByteOrder};
 
-/// The flag of a length with two octets.
+/// The flag of a length field of two octets (Extended Length).
 pub const EXTENDED: u8 = 0x10;
 
 /// An attribute within the bytes of its field: its flags, type and value, and all of its octets.
@@ -20,7 +20,7 @@ pub struct Piece<'a> {
     pub octets: &'a [u8],
 }
 
-/// The length field behind these flags, and the octets after it.
+/// Reads the length field behind these flags, and returns the octets after it too.
 fn size_at(flags: u8, bytes: &[u8]) -> Option<(usize, &[u8])>
     ensures { option_map (λ x. (x.0, x.1.now)) result ≡ number_at (size_width flags) bytes.now }
 {
@@ -37,8 +37,8 @@ fn size_at(flags: u8, bytes: &[u8]) -> Option<(usize, &[u8])>
     Some((usize::from(BigEndian::read_u16(size)), rest))
 }
 
-/// Flags, type and value of the first attribute of the field, and the octets after it; none where
-/// the octets are no whole attribute.
+/// Returns flags, type and value of the first attribute of the field, and the octets after it; `None`
+/// if the octets don't begin with a whole attribute.
 #[tactic(auto, unfolding(bgp_types::specs::WireAttrs::attr_at))]
 fn parts_at(bytes: &[u8]) -> Option<(u8, u8, &[u8], &[u8])>
     ensures parts { option_map (λ x. (wire_of x.0 x.1 x.2.now, x.3.now)) result ≡ attr_at bytes.now }
@@ -55,7 +55,7 @@ fn parts_at(bytes: &[u8]) -> Option<(u8, u8, &[u8], &[u8])>
     Some((*flags, *kind, value, after))
 }
 
-/// The octets before a rest of so many octets.
+/// Returns the octets without as many at the end as `rest` has.
 fn octets_before<'a>(octets: &'a [u8], rest: &[u8]) -> &'a [u8]
     requires { length rest.now ≤ length octets.now }
     ensures { result.now ≡ take (length octets.now - length rest.now) octets.now }
@@ -64,8 +64,8 @@ fn octets_before<'a>(octets: &'a [u8], rest: &[u8]) -> &'a [u8]
     front
 }
 
-/// The first attribute of the field, and the octets after it; none where the octets are no whole
-/// attribute.
+/// Returns the first attribute of the field, and the octets after it; `None` if the octets don't begin
+/// with a whole attribute.
 pub fn piece_at(bytes: &[u8]) -> Option<(Piece<'_>, &[u8])>
     ensures piece { option_map (λ x. (wire x.0, x.1.now)) result ≡ attr_at bytes.now }
     ensures octets { IfSome result (λ x. IsPiece x.0) }

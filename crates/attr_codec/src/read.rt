@@ -11,10 +11,10 @@ use crate::said::Said;
 use bgp_types::FoundAttrs;
 use std::alloc::Global;
 
-/// The subcode of a malformed list of attributes.
+/// The subcode of a malformed attribute list.
 const MALFORMED_LIST: u8 = 1;
 
-/// Which types were there: none.
+/// Returns a table of all types in which none is marked as present.
 fn no_types() -> [bool; 256]
     ensures size { length result ≡ 256 }
     ensures none { All (λ there. there ≡ false) result }
@@ -22,7 +22,7 @@ fn no_types() -> [bool; 256]
     [false; 256]
 }
 
-/// What the attributes say, each by itself, or the first fault.
+/// Reads what the attributes give, each by itself, or the first fault.
 fn said_at(alloc: Global, bytes: &[u8], wide: bool) -> Result<Said, CodecFault>
     ensures { Decodes result (all_said wide bytes.now) }
 {
@@ -44,9 +44,9 @@ fn said_at(alloc: Global, bytes: &[u8], wide: bool) -> Result<Said, CodecFault>
     Ok(said)
 }
 
-/// Reads the attributes of an UPDATE, in the width of its AS numbers: what they say, or their first
-/// fault with its data (RFC 4271, section 6.3). AS4_PATH and AS4_AGGREGATOR of a narrow UPDATE are
-/// merged (RFC 6793, section 4.2.3). It takes a time that grows with the length of the field.
+/// Reads the attributes of an UPDATE in the given width of AS numbers. Returns what they give, or their
+/// first fault with its data (RFC 4271, section 6.3). AS4_PATH and AS4_AGGREGATOR of a narrow UPDATE
+/// are merged (RFC 6793, section 4.2.3). The time it takes grows with the length of the field.
 pub fn read_attrs(alloc: Global, bytes: &[u8], wide: bool) -> Result<FoundAttrs, CodecFault>
     ensures { Decodes result (attrs_in wide bytes.now) }
 {

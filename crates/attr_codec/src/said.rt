@@ -1,4 +1,4 @@
-//! What the attributes of a field say, each by itself, and together.
+//! What the attributes of a field give, each by itself, and together.
 
 ghost use Rattle.std.specs.Prelude.{◌≡◌, ◌==◌, [], Bool, IfOk, OnOk};
 ghost use Rattle.bgp_types.specs.Faults.{own_fault};
@@ -19,8 +19,8 @@ use bgp_types::kinds::{
 use bgp_types::{AS_TRANS, Aggregator, AsPath, FoundAttrs, NoMemory, Origin, RawAttr, RawAttrs};
 use std::alloc::Global;
 
-/// What the attributes of a field say, each by itself. In a wide UPDATE no AS4 attribute counts.
-/// The unknown ones that are kept stand in their order.
+/// What the attributes of a field give, each by itself. In a wide UPDATE no AS4 attribute counts. The
+/// unknown attributes that are kept stand in their order.
 #[derive(Debug, Drop)]
 pub struct Said {
     pub origin: Option<Origin>,
@@ -34,7 +34,7 @@ pub struct Said {
     pub unknown: RawAttrs,
 }
 
-/// Adds an attribute at the end, where there is one.
+/// Appends an attribute, if there is one.
 fn keep(unknown: &mut RawAttrs, attr: Option<RawAttr>) -> Result<(), NoMemory>
     ensures { OnOk result (unknown.new ≡ with_kept attr unknown.old) }
 {
@@ -44,7 +44,7 @@ fn keep(unknown: &mut RawAttrs, attr: Option<RawAttr>) -> Result<(), NoMemory>
     }
 }
 
-/// The attributes in rising type, and those of one type in their order.
+/// Returns the attributes in ascending order of type; those of one type keep their order.
 fn in_rising(attrs: RawAttrs) -> Result<RawAttrs, NoMemory>
     ensures { IfOk result (λ sorted. sorted ≡ rising other_kind attrs) }
 {
@@ -53,14 +53,14 @@ fn in_rising(attrs: RawAttrs) -> Result<RawAttrs, NoMemory>
     Ok(RawAttrs::from_vec(attrs))
 }
 
-/// Whether the AS is AS_TRANS, which stands for one that two octets don't hold.
+/// Whether the AS is AS_TRANS, which stands for one that doesn't fit into two octets.
 fn is_as_trans(aggregator: &Aggregator) -> bool
     ensures { result ≡ (aggregator.now.as_number == 23456) }
 {
     aggregator.as_number == u32::from(AS_TRANS)
 }
 
-/// Whether AGGREGATOR has another AS than AS_TRANS though AS4_AGGREGATOR is there.
+/// Whether AGGREGATOR has an AS other than AS_TRANS while AS4_AGGREGATOR is present.
 fn is_stale(aggregator: &Option<Aggregator>, as4_aggregator: &Option<Aggregator>) -> bool
     ensures { result ≡ is_stale aggregator.now as4_aggregator.now }
 {
@@ -70,7 +70,7 @@ fn is_stale(aggregator: &Option<Aggregator>, as4_aggregator: &Option<Aggregator>
     }
 }
 
-/// AS4_AGGREGATOR's values, where AGGREGATOR has AS_TRANS. Partial is AGGREGATOR's.
+/// Returns AS4_AGGREGATOR's values if AGGREGATOR has AS_TRANS. The partial flag is AGGREGATOR's.
 fn aggregator_of(
     aggregator: Option<Aggregator>,
     as4_aggregator: Option<Aggregator>,
@@ -88,7 +88,7 @@ fn aggregator_of(
     }
 }
 
-/// The path of both, or AS_PATH where the AS4 attributes are stale.
+/// Returns the path of both, or AS_PATH if the AS4 attributes are stale.
 fn path_of(
     alloc: Global,
     stale: bool,
@@ -104,7 +104,7 @@ fn path_of(
 }
 
 impl Said {
-    /// Nothing.
+    /// Returns what no attributes give.
     #[tactic(auto, unfolding(crate::specs::Saying::said_in))]
     pub fn new(alloc: Global) -> Said
         ensures { (wide : Bool) → result ≡ said_in wide [] }
@@ -122,7 +122,7 @@ impl Said {
         }
     }
 
-    /// Takes in what a further attribute says, or answers its fault.
+    /// Adds what a further attribute gives, or returns its fault.
     #[tactic(auto, unfolding(bgp_types::specs::Faults::own_fault, crate::specs::Saying::with_attr))]
     pub fn add(&mut self, alloc: Global, piece: &Piece, wide: bool) -> Result<(), CodecFault>
         requires { IsPiece piece.now }
@@ -153,7 +153,7 @@ impl Said {
         Ok(())
     }
 
-    /// What they say together.
+    /// Returns what the attributes give together. If memory runs out, the value is lost.
     pub fn found(self, alloc: Global) -> Result<FoundAttrs, NoMemory>
         ensures { IfOk result (λ found. found ≡ found_of self) }
     {

@@ -1,4 +1,4 @@
-//! What one attribute says, or its fault (RFC 4271, section 6.3).
+//! Reads one attribute, or finds its fault (RFC 4271, section 6.3).
 
 ghost use Rattle.std.specs.Prelude.{◌≡◌, ◌==◌, ◌+◌, bit_and, length, not, Some, IfOk};
 ghost use Rattle.std.specs.Int.{byte_len};
@@ -23,7 +23,7 @@ pub const TRANSITIVE: u8 = 0x40;
 
 pub const PARTIAL: u8 = 0x20;
 
-/// The subcodes of the faults that have the attribute as their data.
+/// The subcodes of the faults whose data is the attribute.
 const UNKNOWN_WELL_KNOWN: u8 = 2;
 
 const WRONG_FLAGS: u8 = 4;
@@ -38,7 +38,7 @@ const WRONG_NEXT_HOP: u8 = 8;
 const MALFORMED_PATH: u8 = 11;
 
 impl Piece<'_> {
-    /// A fault with the attribute as its data.
+    /// Returns a fault with the attribute as its data.
     fn fault(&self, alloc: Global, subcode: u8) -> CodecFault
         requires { IsPiece self.now }
         ensures { Stops result (Some (about subcode (attr_octets (wire self.now)))) }
@@ -65,7 +65,7 @@ impl Piece<'_> {
         self.flags & PARTIAL != 0
     }
 
-    /// The origin that an ORIGIN says.
+    /// Reads the origin in an ORIGIN.
     #[tactic(auto, unfolding(bgp_types::specs::Faults::origin_in))]
     pub fn origin(&self, alloc: Global) -> Result<Origin, CodecFault>
         requires { IsPiece self.now }
@@ -85,7 +85,7 @@ impl Piece<'_> {
         }
     }
 
-    /// The path that an AS_PATH says.
+    /// Reads the path in an AS_PATH.
     #[tactic(auto, unfolding(bgp_types::specs::Faults::path_in))]
     pub fn path(&self, alloc: Global, wide: bool) -> Result<AsPath, CodecFault>
         requires { IsPiece self.now }
@@ -100,7 +100,7 @@ impl Piece<'_> {
         }
     }
 
-    /// The address that a NEXT_HOP says.
+    /// Reads the address in a NEXT_HOP.
     #[tactic(auto, unfolding(bgp_types::specs::Faults::next_hop_in))]
     pub fn next_hop(&self, alloc: Global) -> Result<u32, CodecFault>
         requires { IsPiece self.now }
@@ -119,7 +119,7 @@ impl Piece<'_> {
         Ok(address)
     }
 
-    /// The number that a MULTI_EXIT_DISC says.
+    /// Reads the number in a MULTI_EXIT_DISC.
     #[tactic(auto, unfolding(bgp_types::specs::Faults::med_in))]
     pub fn med(&self, alloc: Global) -> Result<u32, CodecFault>
         requires { IsPiece self.now }
@@ -134,7 +134,7 @@ impl Piece<'_> {
         Ok(BigEndian::read_u32(self.value))
     }
 
-    /// That there is a sound ATOMIC_AGGREGATE.
+    /// Checks an ATOMIC_AGGREGATE.
     #[tactic(auto, unfolding(bgp_types::specs::Faults::atomic_in))]
     pub fn atomic(&self, alloc: Global) -> Result<(), CodecFault>
         requires { IsPiece self.now }
@@ -149,7 +149,7 @@ impl Piece<'_> {
         Ok(())
     }
 
-    /// The values of an AGGREGATOR of the right length.
+    /// Reads the values of an AGGREGATOR of the right length.
     fn aggregator_value(&self, wide: bool) -> Aggregator
         requires { length self.now.value.now ≡ byte_len (as_width wide) + 4 }
         ensures { result ≡ aggregator_of wide (wire self.now) }
@@ -162,7 +162,7 @@ impl Piece<'_> {
         }
     }
 
-    /// The speaker that an AGGREGATOR says.
+    /// Reads the speaker in an AGGREGATOR.
     #[tactic(auto, unfolding(bgp_types::specs::Faults::aggregator_in))]
     pub fn aggregator(&self, alloc: Global, wide: bool) -> Result<Aggregator, CodecFault>
         requires { IsPiece self.now }
@@ -177,7 +177,7 @@ impl Piece<'_> {
         Ok(self.aggregator_value(wide))
     }
 
-    /// That an attribute of a type that isn't well-known is optional.
+    /// Checks that an attribute of a type that isn't well-known is optional.
     #[tactic(auto, unfolding(bgp_types::specs::Faults::other_in))]
     pub fn optional(&self, alloc: Global) -> Result<(), CodecFault>
         requires { IsPiece self.now }
@@ -189,7 +189,7 @@ impl Piece<'_> {
         Ok(())
     }
 
-    /// An attribute of an unknown type, where it is kept.
+    /// Reads an attribute of an unknown type. Returns `None` if it isn't kept.
     #[tactic(auto, unfolding(bgp_types::specs::Faults::other_in))]
     pub fn other(&self, alloc: Global) -> Result<Option<RawAttr>, CodecFault>
         requires { IsPiece self.now }
@@ -208,8 +208,8 @@ impl Piece<'_> {
         }))
     }
 
-    /// The path of an AS4_PATH; none in a wide UPDATE, and where it isn't transitive, is empty or is
-    /// malformed.
+    /// Reads the path of an AS4_PATH. Returns `None` in a wide UPDATE, and if the attribute isn't
+    /// transitive, is empty or is malformed.
     pub fn as4_path(&self, alloc: Global, wide: bool) -> Result<Option<AsPath>, NoMemory>
         ensures { IfOk result (λ path. path ≡ unless_wide wide (as4_path_in (Some (wire self.now)))) }
     {
@@ -222,8 +222,8 @@ impl Piece<'_> {
         }
     }
 
-    /// The speaker of an AS4_AGGREGATOR; none in a wide UPDATE, and where it isn't transitive or
-    /// hasn't 8 octets.
+    /// Reads the speaker of an AS4_AGGREGATOR. Returns `None` in a wide UPDATE, and if the attribute
+    /// isn't transitive or its length isn't 8.
     pub fn as4_aggregator(&self, wide: bool) -> Option<Aggregator>
         ensures { result ≡ unless_wide wide (as4_aggregator_in (Some (wire self.now))) }
     {

@@ -1,4 +1,4 @@
-//! Writing attributes in rising type.
+//! Writes attributes in ascending order of type.
 
 ghost use Rattle.std.specs.Prelude.{◌≡◌, ◌^◌, ◌<◌, ◌≤◌, ◌++◌, ◌∷◌, [], length, map, take, drop, Bool, true, All, IfOk, OnOk};
 ghost use Rattle.std.specs.List.{flat_map, list_any};
@@ -26,7 +26,7 @@ use bgp_types::{
 };
 use std::alloc::Global;
 
-/// The greatest length of one octet.
+/// The greatest length that fits in one octet.
 const MOST_SHORT: usize = 255;
 
 /// Appends an attribute, with extended length only where its value has more than 255 octets.
@@ -48,7 +48,7 @@ fn put_attr(out: &mut Octets, flags: u8, kind: u8, value: &[u8]) -> Result<(), N
     out.extend(value)
 }
 
-/// Appends an AS; AS_TRANS stands for one that two octets don't hold.
+/// Appends an AS; AS_TRANS stands for one that doesn't fit into two octets.
 fn put_as(out: &mut Octets, as_number: u32, wide: bool) -> Result<(), NoMemory>
     ensures { OnOk result (out.new ≡ out.old ++ as_octets wide as_number) }
 {
@@ -71,7 +71,7 @@ fn put_part(out: &mut Octets, kind: u8, ases: &[u32], wide: bool) -> Result<(), 
     Ok(())
 }
 
-/// The value of an AS_PATH.
+/// Returns the value of an AS_PATH.
 fn path_value(alloc: Global, path: &[PathPart], wide: bool) -> Result<Octets, NoMemory>
     requires { All (λ part. length (ases_of part) < 256) path.now }
     ensures { IfOk result (λ value. value ≡ path_octets wide (path_in_width wide path.now)) }
@@ -86,7 +86,7 @@ fn path_value(alloc: Global, path: &[PathPart], wide: bool) -> Result<Octets, No
     Ok(out)
 }
 
-/// The octet of an origin.
+/// Returns the octet of an origin.
 fn origin_octet(origin: Origin) -> u8
     ensures { result ≡ origin_number origin }
 {
@@ -97,7 +97,7 @@ fn origin_octet(origin: Origin) -> u8
     }
 }
 
-/// The flags of an attribute that passes on.
+/// Returns the flags of an optional transitive attribute.
 fn passed(partial: bool) -> u8
     ensures value { result ≡ passed_flags partial }
     ensures flags { AreFlags result }
@@ -109,7 +109,7 @@ fn passed(partial: bool) -> u8
     }
 }
 
-/// Appends a MULTI_EXIT_DISC, where there is one.
+/// Appends a MULTI_EXIT_DISC, if there is one.
 fn put_med(out: &mut Octets, med: Option<u32>) -> Result<(), NoMemory>
     ensures { OnOk result (out.new ≡ out.old ++ flat_map attr_octets (med_written med)) }
 {
@@ -119,7 +119,7 @@ fn put_med(out: &mut Octets, med: Option<u32>) -> Result<(), NoMemory>
     }
 }
 
-/// Appends an ATOMIC_AGGREGATE, where there is one.
+/// Appends an ATOMIC_AGGREGATE, if there is one.
 fn put_atomic(out: &mut Octets, atomic: bool) -> Result<(), NoMemory>
     ensures { OnOk result (out.new ≡ out.old ++ flat_map attr_octets (atomic_written atomic)) }
 {
@@ -129,7 +129,7 @@ fn put_atomic(out: &mut Octets, atomic: bool) -> Result<(), NoMemory>
     put_attr(out, TRANSITIVE, ATOMIC_AGGREGATE, &[])
 }
 
-/// The value of an AGGREGATOR.
+/// Returns the value of an AGGREGATOR.
 fn aggregator_value(alloc: Global, aggregator: &Aggregator, wide: bool) -> Result<Octets, NoMemory>
     ensures { IfOk result (λ value. value ≡ aggregator_octets wide (as_in_width wide aggregator.now.as_number) aggregator.now.address) }
 {
@@ -139,7 +139,7 @@ fn aggregator_value(alloc: Global, aggregator: &Aggregator, wide: bool) -> Resul
     Ok(value)
 }
 
-/// Appends an AGGREGATOR, where there is one.
+/// Appends an AGGREGATOR, if there is one.
 fn put_aggregator(
     alloc: Global,
     out: &mut Octets,
@@ -155,7 +155,7 @@ fn put_aggregator(
     put_attr(out, passed(aggregator.partial), AGGREGATOR, &value)
 }
 
-/// Appends an AS4_PATH, where an AS of the path needs one.
+/// Appends an AS4_PATH, if an AS of the path needs one.
 fn put_as4_path(
     alloc: Global,
     out: &mut Octets,
@@ -173,7 +173,7 @@ fn put_as4_path(
     put_attr(out, OPTIONAL | TRANSITIVE, AS4_PATH, &value)
 }
 
-/// Appends an AS4_AGGREGATOR, where the AS of an AGGREGATOR needs one.
+/// Appends an AS4_AGGREGATOR, if the AS of an AGGREGATOR needs one.
 fn put_as4_aggregator(
     alloc: Global,
     out: &mut Octets,
@@ -203,7 +203,7 @@ fn put_others(out: &mut Octets, others: &[RawAttr]) -> Result<(), NoMemory>
     Ok(())
 }
 
-/// How many attributes at the front have a type below another.
+/// Returns the number of attributes at the front whose type is below another.
 fn count_below(others: &[RawAttr], kind: u8) -> usize
     requires { IsRising other_kind others.now }
     ensures within { result ≤ length others.now }
@@ -220,7 +220,8 @@ fn count_below(others: &[RawAttr], kind: u8) -> usize
     count
 }
 
-/// The attributes of unknown types below the known ones, between them and the AS4 ones, and above.
+/// Returns the attributes of unknown types that are below the known ones, those between them and the
+/// AS4 ones, and those above.
 fn parts_of(others: &[RawAttr]) -> (&[RawAttr], &[RawAttr], &[RawAttr])
     requires rising { IsRising other_kind others.now }
     requires kinds { All IsOther others.now }
@@ -231,7 +232,7 @@ fn parts_of(others: &[RawAttr]) -> (&[RawAttr], &[RawAttr], &[RawAttr])
     (first, middle, last)
 }
 
-/// Appends the known attributes but for the AS4 ones.
+/// Appends the known attributes, except the AS4 ones.
 fn put_known(alloc: Global, out: &mut Octets, attrs: &Attrs, wide: bool) -> Result<(), NoMemory>
     requires counts { All (λ part. length (ases_of part) < 256) attrs.now.path }
     requires room { length (path_octets wide (path_in_width wide attrs.now.path)) < 2 ^ 16 }
@@ -256,9 +257,9 @@ fn put_as4(alloc: Global, out: &mut Octets, attrs: &Attrs, wide: bool) -> Result
     put_as4_aggregator(alloc, out, &attrs.aggregator, wide)
 }
 
-/// Writes attributes in the width of AS numbers: the one written form, in rising type. They are
-/// attributes as `read_attrs` gives them in one of the two widths, and their written form has at
-/// most 65,535 octets; `read_attrs` reads it as the same attributes.
+/// Writes attributes in the given width of AS numbers, in their one written form, in ascending order of
+/// type. They have to be attributes as `read_attrs` gives them in one of the two widths, and their
+/// written form must have at most 65,535 octets. `read_attrs` reads it as the same attributes.
 pub fn write_attrs(alloc: Global, attrs: &Attrs, wide: bool) -> Result<Octets, NoMemory>
     requires { FitsField attrs.now wide }
     ensures { IfOk result (λ octets. octets ≡ spell_attrs wide attrs.now) }

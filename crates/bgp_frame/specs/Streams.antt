@@ -1,4 +1,4 @@
--- A run of calls of a framer.
+-- A sequence of calls of a framer.
 use Rattle.std.specs.Prelude.{◌≡◌, ℕ, ◌≤◌, List, [], ◌∷◌, ◌++◌, length, Option, Some, None}
 use Rattle.std.specs.List.{flat_map}
 use Rattle.bgp_types.specs.declared.fault.HeaderFault.{HeaderFault}
@@ -31,7 +31,7 @@ all_called s (c ∷ calls) = all_called (called s c) calls
 abbrev pub begun : Stream
 begun = record { fed = []; given = []; held = [] }
 
--- The frames and what is held are what was fed; and the frames, with those still in what is held, are the frames of what was fed.
+-- The frames and what is held, joined, are what was fed; and the frames, with those still in what is held, are the frames of what was fed.
 pub record IsStream (s : Stream) : Type 0 where
   pub joined : flat_map (λ frame. frame) s.given ++ s.held ≡ s.fed
   pub frames : (s.given ++ (many frame_at s.held).0, (many frame_at s.held).1) ≡ many frame_at s.fed

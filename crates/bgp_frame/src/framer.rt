@@ -1,4 +1,4 @@
-//! Bytes in, messages out.
+//! Takes the bytes of a stream and gives its messages.
 
 ghost use Rattle.std.specs.Prelude.{◌≡◌, ◌++◌, [], Some, IfOk, IfSome, OnOk, OnErr};
 ghost use Rattle.bgp_types.specs.Header.{frame_at};
@@ -11,17 +11,17 @@ use std::alloc::Global;
 use std::marker::Model;
 use thiserror::Error;
 
-/// A whole message with a sound header: its type, and all of its octets.
+/// A whole message with a sound header: its type, and all of its octets with the header.
 #[derive(Debug, Drop)]
 pub struct Frame {
     pub kind: u8,
     pub bytes: Octets,
 }
 
-/// Why no answer is given.
+/// Why `next` gives no answer.
 #[derive(Clone, Copy, Debug, PartialEq, Eq, Error)]
 pub enum FrameStop {
-    /// The header at the front is faulty. The stream can't be cut any further.
+    /// The header at the front is faulty. The stream can't be divided any further.
     #[error("a faulty header")]
     Header(HeaderFault),
     #[error("no memory")]
@@ -39,7 +39,7 @@ impl std::convert::From<NoMemory> for FrameStop {
     }
 }
 
-/// The bytes of a stream of which no message was given yet.
+/// The bytes of a stream that aren't part of a message already given.
 #[derive(Debug, Drop)]
 pub struct Framer {
     held: ByteQueue,
@@ -54,7 +54,7 @@ impl Model for Framer {
 }
 
 impl Framer {
-    /// Holds no bytes.
+    /// Returns a framer that holds no bytes.
     pub fn new(alloc: Global) -> Framer
         ensures { result ≡ [] }
     {
@@ -63,7 +63,7 @@ impl Framer {
         }
     }
 
-    /// Takes the next piece of the stream. After `NoMemory` nothing of it was taken.
+    /// Takes the next piece of the stream. If memory runs out, nothing changes.
     pub fn feed(&mut self, bytes: &[u8]) -> Result<(), NoMemory>
         ensures ok { OnOk result (self.new ≡ self.old ++ bytes.now) }
         ensures err { OnErr result (self.new ≡ self.old) }
@@ -71,17 +71,17 @@ impl Framer {
         self.held.extend(bytes)
     }
 
-    /// Whether the bytes held begin with a whole message or with a faulty header, so that `next`
-    /// answers with it.
+    /// Whether the bytes held begin with a whole message or with a faulty header, so that `next` has
+    /// something to answer.
     pub fn waits(&self) -> bool
         ensures { result ≡ has_next self.now }
     {
         !matches!(first_frame(self.held.as_slice()), Ok(None))
     }
 
-    /// Gives the next message, where it is whole; none where fewer octets are held than a header
-    /// has, or than a sound header says. A faulty header is answered from then on. After it, and
-    /// after `NoMemory`, the same bytes are held.
+    /// Removes and returns the next message, or returns `None` while fewer octets are held than a
+    /// header has, or than a sound header gives as its length. A faulty header is the answer of every
+    /// call from then on. If the header is faulty or memory runs out, nothing changes.
     pub fn next(&mut self) -> Result<Option<Frame>, FrameStop>
         ensures answer { Next result self.old self.new }
         ensures whole { IfOk result (λ frame. IfSome frame (λ f. frame_at f.bytes ≡ Some (f.bytes, []))) }

@@ -1,4 +1,4 @@
-//! The message at the front of bytes that somebody else holds.
+//! The message at the front of bytes that the caller holds.
 
 ghost use Rattle.std.specs.Prelude.{◌≡◌, [], take, Some, IfOk, IfSome};
 ghost use Rattle.bgp_types.specs.Header.{frame_at};
@@ -14,9 +14,10 @@ pub struct FrontFrame {
     pub len: usize,
 }
 
-/// The message at the front of the bytes, where it is whole; none where there are fewer octets than
-/// a header has, or than a sound header says; the fault where the header is faulty. What comes
-/// behind the message doesn't matter. It copies nothing, and takes the same short time for any bytes.
+/// Returns the message at the front of the bytes if it is whole, `None` if there are fewer octets than
+/// a header has or than a sound header gives as its length, and the fault if the header is faulty. What
+/// comes behind the message doesn't matter. It copies nothing, and takes the same short time for any
+/// bytes.
 #[tactic(auto, unfolding(bgp_types::specs::Header::frame_at), using(bgp_types::proofs::FrameLaws::long_enough))]
 pub fn first_frame(bytes: &[u8]) -> Result<Option<FrontFrame>, HeaderFault>
     ensures front { Begins result bytes.now }

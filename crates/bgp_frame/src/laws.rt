@@ -1,4 +1,4 @@
-//! What holds of a stream after any calls.
+//! What holds of a stream after any sequence of calls.
 
 ghost use Rattle.std.specs.Prelude.{◌≡◌, ◌≤◌, List, Some, length};
 ghost use Rattle.bgp_types.specs.declared.fault.HeaderFault.{HeaderFault};
@@ -6,12 +6,12 @@ ghost use Rattle.bgp_types.specs.Header.{header_fault};
 ghost use Rattle.bgp_frame.specs.Streams.{Stream, Call, all_called, begun, IsStream, IsStuck};
 
 /// After any calls of `feed` and `next`, the frames given and the bytes held, joined, are the bytes
-/// fed, and the frames are those of the joined bytes.
+/// that were fed, and the frames are those of the joined bytes.
 pub fn any_pieces()
     ensures { (calls : List Call) → IsStream (all_called begun calls) }
 {}
 
-/// A faulty header is answered from then on, and no further frame is given.
+/// A faulty header is the answer from then on, and no further frame is given.
 pub fn fault_stays()
     ensures { (before : Stream) (calls : List Call) (fault : HeaderFault) → IsStuck fault before before → IsStuck fault before (all_called before calls) }
 {}

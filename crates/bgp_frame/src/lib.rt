@@ -1,4 +1,5 @@
-//! The messages of a stream of bytes, however it is cut into pieces (RFC 4271, sections 4.1 and 6.1).
+//! Finds the messages of a stream of bytes, however it is cut into pieces (RFC 4271, sections 4.1 and
+//! 6.1).
 #![tactic(auto)]
 
 mod framer;

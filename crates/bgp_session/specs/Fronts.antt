@@ -5,18 +5,18 @@ use Rattle.bgp_story.specs.Legal.{IsGot}
 use Rattle.session_value.specs.Fronts.{BeginsNothing}
 use Rattle.session_value.specs.Sessions.{SessionValue, state, unread}
 
--- a whole message or a faulty header stands at the front of bytes
+-- bytes begin with a whole message or a faulty header
 pub record BeginsSome (bytes : List ℕ) : Type 0 where
   pub front : List ℕ
   pub rest : List ℕ
   pub is : bytes ≡ front ++ rest
   pub got : IsGot front
 
--- The session takes what is unread, and a message or a faulty header is there.
+-- The session isn't closed, and the unread bytes begin with a message or a faulty header.
 pub record CanRead (session : SessionValue) : Type 0 where
   pub unclosed : state session ≢ Closed
   pub begins : BeginsSome (unread session)
 
--- It is closed, or nothing whole is there.
+-- The session is closed, or the unread bytes begin with neither.
 abbrev pub CantRead : SessionValue → Type 0
 CantRead session = (state session ≡ Closed) ⊎ BeginsNothing (unread session)

@@ -1,4 +1,4 @@
--- The session that its parts are, and what they keep.
+-- The value of a session's parts, and the invariant that they keep.
 use Rattle.std.specs.Prelude.{◌≡◌, ◌≢◌, ℕ, ◌+◌, ◌-◌, ◌^◌, ◌<◌, min, max, List, ◌++◌, Option, Some, None, Result, fold, ◌&&◌}
 use Rattle.std.specs.Option.{option_map}
 use Rattle.bgp_types.specs.declared.message.Message.{Message}
@@ -23,7 +23,7 @@ use Rattle.bgp_session.specs.Steps.{MayPass}
 use Rattle.bgp_session.specs.declared.parts.Opened.{Opened}
 use Rattle.bgp_session.specs.declared.parts.Parts.{Parts}
 
--- the end forgets what was acknowledged and what was read: the story has both
+-- the session that parts stand for; how much was acknowledged and read isn't in the end, but in the story
 abbrev pub value_of : Parts → SessionValue
 value_of parts = record {
   config = parts.config;
@@ -53,7 +53,7 @@ after_line n (Tick round) = max n (round + 1)
 abbrev pub after_rounds : List Line → ℕ
 after_rounds lines = fold after_line 0 lines
 
--- The end stands for the endpoint, which is tied to the story, and what is kept beside the story is as it says.
+-- The end stands for the endpoint, which is tied to the story, and what is kept beside the story agrees with it.
 pub record Keeps (parts : Parts) : Type 0 where
   pub stands : EndStands parts.end (value_of parts).end
   pub tied : IsTied (value_of parts)
@@ -65,7 +65,7 @@ pub record Keeps (parts : Parts) : Type 0 where
   pub receive_fits : parts.config.receive_first.0 < 2 ^ 32
   pub remote_as : parts.story.remote_as ≡ parts.config.remote_as
   pub opened : parts.opened ≡ option_map (opened_by (peering_of parts.config).first) (got_open (peering_of parts.config) parts.story.lines)
-  -- the rounds that are left until the hold time is over
+  -- the rounds that are left until the hold time expires
   pub left : parts.left ≡ hold_time (value_of parts) - silence parts.story.lines
   pub next_round : parts.next_round ≡ after_rounds parts.story.lines
 
@@ -75,7 +75,7 @@ pub record Keeps (parts : Parts) : Type 0 where
 abbrev pub reading : Parts → List ℕ → Result Message Notice
 reading parts bytes = message_of (expected_next (peering_of parts.config) parts.story.lines (state_of parts.story.lines)) bytes
 
--- A whole message or a faulty header is at the front of what is unread, and the session takes it.
+-- The unread bytes begin with a whole message or a faulty header, and the session isn't closed.
 pub record AtFront (parts : Parts) (bytes : List ℕ) : Type 0 where
   pub keeps : Keeps parts
   pub unclosed : state_of parts.story.lines ≢ Closed
@@ -85,11 +85,11 @@ pub record AtFront (parts : Parts) (bytes : List ℕ) : Type 0 where
 
 -- ---- rounds
 
--- what answers a round, in the session as it is, and the state then
+-- the lines that answer a round in the session as it is, and the state after them
 abbrev pub round_reply : Parts → ℕ → List Line × SessionState
 round_reply parts round = reply_at (hold_time (value_of parts)) (silence parts.story.lines + 1) round (state_of parts.story.lines)
 
--- A round passes that may.
+-- A round that may pass.
 pub record AtRound (parts : Parts) (round : ℕ) : Type 0 where
   pub keeps : Keeps parts
   pub may : MayPass (value_of parts) round

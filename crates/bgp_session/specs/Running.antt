@@ -1,4 +1,4 @@
--- A running session: its value, and what it alone knows.
+-- A running session: its value, and what only it knows.
 use Rattle.std.specs.Prelude.{ℕ}
 use Rattle.session_value.specs.Sessions.{SessionValue}
 

@@ -1,4 +1,4 @@
--- What the calls of a session answer, and the case by which it changes.
+-- Results of the calls of a session, and the cases by which it changes.
 use Rattle.std.specs.Prelude.{◌≡◌, ◌⊎◌, ℕ, ◌+◌, ◌<◌, ◌≤◌, List, [], ◌∷◌, ◌++◌, length, All, Option, Some, None, IsSome, true}
 use Rattle.std.specs.FinMap as map
 use Rattle.bgp_types.specs.declared.message.Message.TheVariants.{UpdateMsg, KeepaliveMsg}
@@ -28,8 +28,8 @@ use Rattle.bgp_session.specs.declared.answers.TickStep.TheVariants.{Plain, Beat,
 
 -- ---- what is read
 
--- What is answered of a message, or a faulty header, that a session got: the states before and after it, and the prefixes whose routes
--- changed, or those that had routes when the session closed, in rising order.
+-- The result for a message, or a faulty header, that a session got: the states before and after it, and the prefixes whose routes changed, or those
+-- that had routes when the session closed, in ascending order.
 abbrev pub Tells : ReadStep → SessionValue → SessionValue → Type 0
 Tells Opened before after = (state before ≡ states.OpenSent) × (state after ≡ states.OpenConfirm)
 Tells Established before after = (state before ≡ states.OpenConfirm) × (state after ≡ states.Established)
@@ -42,22 +42,22 @@ pub record ReadsFrame (step : ReadStep) (before after : RunningSession) : Type 0
   pub tells : Tells step before.session after.session
   pub same_turn : after.acked_at_turn ≡ before.acked_at_turn
 
--- One message or faulty header is got; none exactly where the session is closed or nothing whole is there, and then it stays as it is.
+-- One message or faulty header is got. None exactly where the session is closed or the unread bytes begin with neither; then nothing changes.
 abbrev pub Reads : Option ReadStep → RunningSession → RunningSession → Type 0
 Reads None before after = CantRead before.session × (after ≡ before)
 Reads (Some step) before after = ReadsFrame step before after
 
 -- ---- rounds
 
--- A round of this number may pass: in OpenConfirm or Established, while a hold time runs, after each round that passed, and with room for a
--- KEEPALIVE of 19 bytes and a NOTIFICATION behind it.
+-- A round of this number may pass: in OpenConfirm or Established, while a hold time runs, with a number above that of each round that passed, and
+-- with room for a KEEPALIVE of 19 bytes and a NOTIFICATION after it.
 pub record MayPass (session : SessionValue) (round : ℕ) : Type 0 where
   pub up : is_up (state session) ≡ true
   pub runs : 0 < hold_time session
   pub later : All (IsEarlier round) session.story
   pub room : length session.end.stream ≤ 1044461
 
--- what is answered of a round: what it put
+-- the result for a round: what it put
 abbrev pub TellsRound : TickStep → SessionValue → ℕ → SessionValue → Type 0
 TellsRound Plain before round after = after.story ≡ before.story ++ Tick round ∷ []
 TellsRound Beat before round after = after.story ≡ before.story ++ Tick round ∷ Put KeepaliveMsg ∷ []
@@ -74,15 +74,15 @@ pub record Ticks (step : TickStep) (before : RunningSession) (round : ℕ) (afte
 abbrev pub offered_length : SessionValue → Update → ℕ
 offered_length session update = length session.end.stream + length (spell (UpdateMsg update) (is_wide (peering_of session.config) session.story))
 
--- a segment that a session sends stands for this one, by the places of the two streams
+-- the segment by places in the two streams that a segment sent by a session stands for
 abbrev pub sent_as : SessionConfig → Segment → PlacedSegment
 sent_as config segment = placed config.send_first.0 config.receive_first.0 segment
 
--- a segment that arrives at it stands for this one
+-- the segment by places that an arriving segment stands for
 abbrev pub received_as : SessionConfig → Segment → PlacedSegment
 received_as config segment = placed config.receive_first.0 config.send_first.0 segment
 
--- The endpoint makes a step that emits the segment for which this one stands, on the way to the remote and with a window of 16,384.
+-- The endpoint makes a step that emits what this segment stands for, on the way to the remote and with a window of 16,384.
 pub record Emits (Step : Endpoint → PlacedSegment → Endpoint → Type 0) (before : SessionValue) (segment : Segment) (after : SessionValue) : Type 0 where
   pub end : Endpoint
   pub step : Step before.end (sent_as before.config segment) end
@@ -99,7 +99,7 @@ EmitsBy Step before (Some segment) after = Emits Step before segment after
 
 -- ---- what arrives
 
--- a segment brings a byte to a place that has none
+-- a segment brings a byte for a place that has none yet
 pub record BringsTo (e : Endpoint) (segment : PlacedSegment) : Type 0 where
   pub place : ℕ
   pub empty : map.get e.arrived place ≡ None
@@ -112,7 +112,7 @@ ArrivesAs (Ahead told) e segment ack = IsAcceptable e segment × IsBeyond e segm
 ArrivesAs Duplicate e segment ack = IsAcceptable e segment × (¬ IsBeyond e segment) × (segment.ack ≤ e.acked) × (¬ BringsTo e segment)
 ArrivesAs Accepted e segment ack = IsAcceptable e segment × (¬ IsBeyond e segment) × ((e.acked < segment.ack) ⊎ BringsTo e segment)
 
--- The endpoint takes the segment for which this one stands.
+-- The endpoint takes what this segment stands for.
 pub record Arrives (arrival : Arrival) (before : RunningSession) (segment : Segment) (after : RunningSession) : Type 0 where
   pub is : ArrivesAs arrival before.session.end (received_as before.session.config segment) segment.ack
   pub end : Endpoint
@@ -121,7 +121,7 @@ pub record Arrives (arrival : Arrival) (before : RunningSession) (segment : Segm
 
 -- ---- looks
 
--- the OPEN of the remote, once it was taken
+-- the OPEN of the remote, once it was received
 abbrev pub remote_open : SessionValue → Option OpenMsg
 remote_open session = got_open (peering_of session.config) session.story
 

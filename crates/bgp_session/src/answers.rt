@@ -1,20 +1,20 @@
-//! What the calls of a session answer.
+//! Results of the calls of a session.
 
 use bgp_types::{NoMemory, PrefixList};
 use thiserror::Error;
 
-/// What the message did that was read.
+/// What the message that was read did.
 #[derive(Debug, Drop)]
 pub enum ReadStep {
-    /// An OPEN was taken, and is answered by a KEEPALIVE.
+    /// An OPEN was received, and is answered by a KEEPALIVE.
     Opened,
-    /// A KEEPALIVE was taken, and the session is established.
+    /// A KEEPALIVE was received, and the session is established.
     Established,
-    /// An UPDATE or a KEEPALIVE was taken in an established session. These prefixes have another route than
-    /// before, or one of the two has none, in rising order: none after a KEEPALIVE.
+    /// An UPDATE or a KEEPALIVE was received in an established session. The routes to these prefixes, in ascending
+    /// order, were added, replaced or removed. There are none after a KEEPALIVE.
     Changed(PrefixList),
-    /// The session closed: a NOTIFICATION was taken, or what is faulty is answered by one. These prefixes had
-    /// routes, in rising order.
+    /// The session closed: a NOTIFICATION was received, or a fault is answered by one. These prefixes, in ascending
+    /// order, had routes.
     Closed(PrefixList),
 }
 
@@ -25,16 +25,16 @@ pub enum TickStep {
     Plain,
     /// A KEEPALIVE was put.
     Beat,
-    /// The hold time is over: a NOTIFICATION was put, and the session closed. These prefixes had routes, in
-    /// rising order.
+    /// The hold time has expired: a NOTIFICATION was put, and the session closed. These prefixes, in ascending order,
+    /// had routes.
     Expired(PrefixList),
 }
 
 /// Why an UPDATE isn't put.
 #[derive(Clone, Copy, Debug, PartialEq, Eq, Error)]
 pub enum OfferStop {
-    /// The stream would have this length. An established session puts at most 1,044,480 bytes, so that a
-    /// NOTIFICATION has room behind them.
+    /// The stream would reach this length. An established session puts at most 1,044,480 bytes, so that a NOTIFICATION
+    /// has room after them.
     #[error("the stream would have {length} bytes")]
     StreamFull { length: usize },
     #[error("no memory")]

@@ -1,4 +1,4 @@
-//! A session begins: its OPEN is put.
+//! The beginning of a session: its OPEN is put.
 
 ghost use Rattle.std.specs.Prelude.{◌≡◌, ◌≤◌, ◌^◌, length, false, IfOk};
 ghost use Rattle.bgp_types.specs.Spelling.{spell};
@@ -20,16 +20,16 @@ use std::alloc::Global;
 use tcp_end::End;
 use tcp_seq::Way;
 
-/// The code of the capability of four-octet AS numbers (RFC 6793, section 9).
+/// Capability code for support for four-octet AS numbers (RFC 6793, section 9).
 const FOUR_OCTET_AS: u8 = 65;
 
-/// The code of the capability of multiprotocol extensions (RFC 4760, section 8).
+/// Capability code for multiprotocol extensions (RFC 4760, section 8).
 const MULTIPROTOCOL: u8 = 1;
 
 /// The value of that capability for IPv4 unicast: AFI 1 in two octets, a reserved octet, and SAFI 1.
 const IPV4_UNICAST: [u8; 4] = [0, 1, 0, 1];
 
-/// The capability of multiprotocol extensions, for IPv4 unicast.
+/// Returns the capability for multiprotocol extensions, for IPv4 unicast.
 fn unicast_cap(alloc: Global) -> Result<Cap, NoMemory>
     ensures { IfOk result (λ cap. cap ≡ unicast_cap_lem) }
 {
@@ -39,7 +39,7 @@ fn unicast_cap(alloc: Global) -> Result<Cap, NoMemory>
     })
 }
 
-/// The capability of four-octet AS numbers, which says the AS.
+/// Returns the capability for four-octet AS numbers, which carries the AS number (RFC 6793, section 3).
 fn as_cap(alloc: Global, as_number: u32) -> Result<Cap, NoMemory>
     ensures { IfOk result (λ cap. cap ≡ as_cap_lem as_number) }
 {
@@ -49,7 +49,8 @@ fn as_cap(alloc: Global, as_number: u32) -> Result<Cap, NoMemory>
     })
 }
 
-/// The capabilities in the OPEN that the session puts: IPv4 unicast where that is asked for, then four-octet AS numbers where it offers them.
+/// Returns the capabilities in the OPEN that the session puts: IPv4 unicast if the configuration asks for it, then
+/// four-octet AS numbers if it offers them.
 fn home_caps(alloc: Global, config: &SessionConfig) -> Result<Caps, NoMemory>
     ensures { IfOk result (λ caps. caps ≡ home_caps_lem config.now.home_as config.now.offered config.now.unicast) }
 {
@@ -63,7 +64,7 @@ fn home_caps(alloc: Global, config: &SessionConfig) -> Result<Caps, NoMemory>
     Ok(caps)
 }
 
-/// The OPEN that the session puts.
+/// Returns the OPEN that the session puts.
 fn first_open(alloc: Global, config: &SessionConfig) -> Result<OpenMsg, NoMemory>
     ensures { IfOk result (λ first. first ≡ (peering_of config.now).first) }
 {
@@ -75,7 +76,7 @@ fn first_open(alloc: Global, config: &SessionConfig) -> Result<OpenMsg, NoMemory
     })
 }
 
-/// The octets of that OPEN.
+/// Returns the octets of the OPEN that the session puts.
 fn first_octets(alloc: Global, config: &SessionConfig) -> Result<Octets, NoMemory>
     requires { IsPeering (peering_of config.now) }
     ensures { IfOk result (λ octets. octets ≡ spell (messages.OpenMsg (peering_of config.now).first) false) }
@@ -84,7 +85,7 @@ fn first_octets(alloc: Global, config: &SessionConfig) -> Result<Octets, NoMemor
     write_message(alloc, &Message::OpenMsg(open), false)
 }
 
-/// The endpoint of the session, which sends these octets first.
+/// Returns the endpoint of a new session, with these octets waiting to be sent.
 fn first_end(alloc: Global, config: &SessionConfig, octets: &[u8]) -> Result<End, NoMemory>
     requires { length octets.now ≤ 2 ^ 20 }
     ensures { IfOk result (λ end. end ≡ record (fresh ways.Remote config.now.peering config.now.send_first config.now.receive_first) { waiting = octets.now }) }
@@ -100,7 +101,7 @@ fn first_end(alloc: Global, config: &SessionConfig, octets: &[u8]) -> Result<End
     Ok(end)
 }
 
-/// The parts of a session that has put its OPEN.
+/// Returns the parts of a session that has put its OPEN.
 pub(crate) fn first_parts(alloc: Global, config: SessionConfig) -> Result<Parts, NoMemory>
     requires { IsPeering (peering_of config) }
     ensures value { IfOk result (λ parts. value_of parts ≡ begun config) }

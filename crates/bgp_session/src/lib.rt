@@ -1,5 +1,5 @@
-//! A home BGP session: one story over one endpoint, with the routes that it heard and told (RFC 4271, sections 3.2, 6 and
-//! 8.2.2), and its way from one router to another.
+//! A home BGP session: one story over one endpoint, with the routes that it heard and told (RFC 4271, sections 3.2, 6
+//! and 8.2.2), and its move from one router to another.
 #![tactic(auto)]
 
 mod answers;

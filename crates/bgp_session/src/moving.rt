@@ -1,5 +1,5 @@
-//! The way of a session from one router to another. No call of it takes memory or can be refused, and each moves one
-//! box, whatever the session holds.
+//! The move of a session from one router to another. None of its calls takes memory or can be refused, and each moves
+//! one box, whatever the session holds.
 
 ghost use Rattle.std.specs.Prelude.{◌≡◌};
 ghost use Rattle.session_value.specs.Sessions.{state};
@@ -10,7 +10,7 @@ use bgp_types::SessionState;
 use session_value::SessionConfig;
 use std::marker::Model;
 
-/// A session that does nothing more at the router that has it.
+/// A session that is frozen: it does nothing more at the router that holds it.
 #[derive(Drop)]
 pub struct FrozenSession {
     session: Session,
@@ -51,7 +51,7 @@ impl FrozenSession {
         FrozenSession { session }
     }
 
-    /// The session leaves its router. It is the same session.
+    /// Lets the session leave its router. The session doesn't change.
     pub fn leave(self) -> Capsule
         ensures { result ≡ self }
     {
@@ -61,7 +61,7 @@ impl FrozenSession {
 }
 
 impl Capsule {
-    /// The session goes on where it landed, or where it came back to. It is the same session.
+    /// Lets the session go on at the router where it landed, or to which it came back. The session doesn't change.
     pub fn land(self) -> Session
         ensures { result ≡ self }
     {
@@ -69,21 +69,21 @@ impl Capsule {
         session
     }
 
-    /// The state of the session (RFC 4271, section 8.2.2).
+    /// Returns the state of the session (RFC 4271, section 8.2.2).
     pub fn state(&self) -> SessionState
         ensures { result ≡ state self.now.session }
     {
         self.session.state()
     }
 
-    /// The story of the session.
+    /// Returns the story of the session.
     pub fn story(&self) -> &Story
         ensures { result.now ≡ record { lines = self.now.session.story; remote_as = self.now.session.config.remote_as } }
     {
         self.session.story()
     }
 
-    /// What the session began with.
+    /// Returns the configuration with which the session began.
     pub fn config(&self) -> &SessionConfig
         ensures { result.now ≡ self.now.session.config }
     {

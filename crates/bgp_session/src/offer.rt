@@ -1,4 +1,4 @@
-//! UPDATEs that a session puts.
+//! Putting UPDATEs on a session.
 
 ghost use Rattle.std.specs.Prelude.{ℕ, ◌≡◌, ◌<◌, Ok, OnOk};
 ghost use Rattle.bgp_types.specs.declared.message.SessionState.TheVariants as states;
@@ -17,11 +17,11 @@ use bgp_story::Line;
 use bgp_types::{Message, NoMemory, Update, message_len};
 use bgp_wire::write_message;
 
-/// How many bytes a session puts at most as long as it isn't closed, so that a NOTIFICATION has room behind them in a stream of
+/// The limit of the bytes put on a session that isn't closed, so that a NOTIFICATION has room after them in a stream of
 /// 1,048,576.
 const MOST_PUT: usize = 1_044_480;
 
-/// What a message tells is told.
+/// Applies a message to the routes that were told. Only an UPDATE changes them.
 fn tell(told: &mut AdjRib, message: &Message) -> Result<(), NoMemory>
     ensures { OnOk result (told.new ≡ apply_if told.old (update_in (Ok message.now))) }
 {
@@ -32,7 +32,7 @@ fn tell(told: &mut AdjRib, message: &Message) -> Result<(), NoMemory>
 }
 
 impl Parts {
-    /// Puts an UPDATE.
+    /// Puts an UPDATE. If the stream is full, nothing changes.
     pub(crate) fn offer(&mut self, update: Update) -> Result<(), OfferStop>
         requires keeps { Keeps self.old }
         requires established { state_of self.old.story.lines ≡ states.Established }

@@ -1,4 +1,4 @@
-//! What a session is made of, and how its story and its endpoint change together.
+//! The parts of a session, and how its story and its endpoint change together.
 
 ghost use Rattle.std.specs.Prelude.{◌≡◌, ◌≤◌, ◌+◌, ◌^◌, ◌++◌, ◌∷◌, false, length, OnOk, OnErr, IfOk, IfSome};
 ghost use Rattle.std.specs.List.{flat_map};
@@ -18,18 +18,18 @@ use session_value::SessionConfig;
 use std::alloc::Global;
 use tcp_end::{End, SendStop};
 
-/// What the two OPENs settled, once the remote's was taken.
+/// What the two OPENs settled, once the remote's was received.
 #[derive(Clone, Copy, Debug)]
 pub(crate) struct Opened {
     /// The BGP Identifier of the remote.
     pub identifier: u32,
-    /// The hold time in seconds, the smaller of the two. 0 is none.
+    /// The hold time in seconds, the smaller of the two offered. 0 means that there is none.
     pub hold: u16,
     /// Whether AS numbers have four octets.
     pub wide: bool,
 }
 
-/// What a session is made of. What was acknowledged and what was read stand in the story alone.
+/// The parts of a session. How much was acknowledged and read is recorded in the story alone.
 #[derive(Drop)]
 pub(crate) struct Parts {
     pub alloc: Global,
@@ -39,9 +39,9 @@ pub(crate) struct Parts {
     pub told: AdjRib,
     pub end: End,
     pub opened: Option<Opened>,
-    /// How many rounds are left until the hold time is over.
+    /// The number of rounds left until the hold time expires.
     pub left: u32,
-    /// The least number that the next round may have: above those of all that passed.
+    /// The least number that the next round may have: above those of all rounds that passed.
     pub next_round: u64,
 }
 
@@ -58,7 +58,7 @@ pub(crate) fn send(end: &mut End, octets: &[u8]) -> Result<(), NoMemory>
     }
 }
 
-/// The octets of an answer, which are the same in each width of AS numbers.
+/// Returns the octets of an answer, or none without one. They are the same in each width of AS numbers.
 pub(crate) fn written(alloc: Global, answer: &Option<Message>) -> Result<Octets, NoMemory>
     requires { IfSome answer.now (λ message. IsWritable message false) }
     ensures { IfOk result (λ octets. octets ≡ flat_map (put_in false) (answered answer.now)) }
@@ -73,8 +73,8 @@ impl Parts {
     ghost use Rattle.bgp_session.specs.Inner.{Keeps, hold_of};
     ghost use Rattle.bgp_session.specs.Steps.{identifier_of};
 
-    /// Sends octets, and adds to the story the line, and the message in answer to it, that put them. If memory runs out,
-    /// nothing changes.
+    /// Sends octets, and adds to the story the line that caused them, with the message that answers it, if there is
+    /// one. If memory runs out, nothing changes.
     pub(crate) fn write_down(
         &mut self,
         octets: &[u8],
@@ -97,7 +97,7 @@ impl Parts {
         }
     }
 
-    /// Whether AS numbers have four octets.
+    /// Returns whether AS numbers have four octets.
     pub(crate) fn wide(&self) -> bool
         requires { Keeps self.now }
         ensures { result ≡ is_wide (peering_of self.now.config) self.now.story.lines }
@@ -108,7 +108,7 @@ impl Parts {
         }
     }
 
-    /// The hold time that the OPENs settled, 0 before.
+    /// Returns the hold time that the OPENs settled, in seconds; 0 before that.
     pub(crate) fn hold_so_far(&self) -> u32
         ensures { result ≡ hold_of self.now.opened }
     {
@@ -118,7 +118,7 @@ impl Parts {
         }
     }
 
-    /// The hold time.
+    /// Returns the hold time in seconds.
     pub(crate) fn hold(&self) -> u32
         requires { Keeps self.now }
         ensures { result ≡ hold_lem (peering_of self.now.config) self.now.story.lines }
@@ -126,7 +126,7 @@ impl Parts {
         self.hold_so_far()
     }
 
-    /// The BGP Identifier of the remote.
+    /// Returns the BGP Identifier of the remote, once its OPEN was received.
     pub(crate) fn remote_identifier(&self) -> Option<u32>
         requires { Keeps self.now }
         ensures { result ≡ option_map identifier_of (got_open (peering_of self.now.config) self.now.story.lines) }
@@ -137,7 +137,7 @@ impl Parts {
         }
     }
 
-    /// What is expected next.
+    /// Returns which messages are expected next.
     #[tactic(auto, using(bgp_story::proofs::Ranges::offers_home))]
     pub(crate) fn expected(&self) -> Expected
         requires { Keeps self.now }

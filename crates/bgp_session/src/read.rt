@@ -1,4 +1,4 @@
-//! What a session reads, and how it answers (RFC 4271, sections 6 and 8.2.2).
+//! Reading messages, and answering them (RFC 4271, sections 6 and 8.2.2).
 
 ghost use Rattle.std.specs.Prelude.{◌≡◌, ◌≢◌, ◌≤◌, ◌++◌, ◌∷◌, [], true, false, length, take, drop, Ok, Err, Some, is_some, IfOk, OnOk, OnErr, MatchBool};
 ghost use Rattle.std.specs.FinMap as map;
@@ -27,12 +27,12 @@ use bgp_types::{
 };
 use bgp_wire::{CodecFault, header_notice, read_message};
 
-/// The code of the capability of four-octet AS numbers, and its length (RFC 6793, section 3).
+/// Capability code for support for four-octet AS numbers (RFC 6793, section 3).
 const FOUR_OCTET_AS: u8 = 65;
 
 const FOUR_OCTETS: usize = 4;
 
-/// Whether the capabilities of an OPEN offer AS numbers of four octets.
+/// Returns whether the capabilities of an OPEN offer four-octet AS numbers (RFC 6793, section 3).
 fn offers(caps: &[Cap]) -> bool
     ensures { result ≡ is_some (as_said caps.now) }
 {
@@ -45,7 +45,7 @@ fn offers(caps: &[Cap]) -> bool
 }
 
 impl Parts {
-    /// The first bytes that are ready.
+    /// Returns the first `len` bytes that are ready.
     fn first_ready(&self, len: usize) -> Result<Octets, NoMemory>
         requires { len ≤ length self.now.end.ready }
         ensures { IfOk result (λ bytes. bytes ≡ take len self.now.end.ready) }
@@ -53,7 +53,7 @@ impl Parts {
         Octets::from_slice(self.alloc, &self.end.ready()[..len])
     }
 
-    /// Writes down what is got with its answer. If memory runs out, nothing changes.
+    /// Adds to the story what was got and its answer, which is sent. If memory runs out, nothing changes.
     fn take_down(&mut self, bytes: Octets, answer: Option<Message>) -> Result<(), NoMemory>
         requires front { AtFront self.old bytes }
         requires reply { (reply_to (reading self.old bytes)).0 ≡ answered answer }
@@ -68,7 +68,7 @@ impl Parts {
         Ok(())
     }
 
-    /// What an OPEN settles.
+    /// Returns what an OPEN of the remote settles.
     #[tactic(auto, using(bgp_story::proofs::Ranges::offers_home))]
     fn opened_with(&self, theirs: &OpenMsg) -> Opened
         requires { Keeps self.now }
@@ -81,7 +81,7 @@ impl Parts {
         }
     }
 
-    /// An OPEN is answered by a KEEPALIVE.
+    /// Answers an OPEN by a KEEPALIVE.
     fn confirm(&mut self, bytes: Octets, theirs: &OpenMsg) -> Result<ReadStep, NoMemory>
         requires front { AtFront self.old bytes }
         requires reading { reading self.old bytes ≡ Ok (messages.OpenMsg theirs.now) }
@@ -95,7 +95,7 @@ impl Parts {
         Ok(ReadStep::Opened)
     }
 
-    /// A KEEPALIVE has no answer, and establishes the session where it isn't yet.
+    /// Takes a KEEPALIVE. It has no answer, and establishes the session if it isn't established yet.
     fn establish(&mut self, bytes: Octets) -> Result<ReadStep, NoMemory>
         requires front { AtFront self.old bytes }
         requires reading { reading self.old bytes ≡ Ok messages.KeepaliveMsg }
@@ -111,7 +111,7 @@ impl Parts {
         }
     }
 
-    /// An UPDATE has no answer, and changes the routes that were heard.
+    /// Takes an UPDATE. It has no answer, and changes the routes that were heard.
     fn hear(&mut self, bytes: Octets, update: &Update) -> Result<ReadStep, NoMemory>
         requires front { AtFront self.old bytes }
         requires reading { reading self.old bytes ≡ Ok (messages.UpdateMsg update.now) }
@@ -122,7 +122,7 @@ impl Parts {
         Ok(ReadStep::Changed(self.heard.apply(update)?))
     }
 
-    /// All routes go.
+    /// Removes all routes, those heard and those told.
     pub(crate) fn drop_routes(&mut self)
         ensures { self.new ≡ record self.old { heard = map.empty; told = map.empty } }
     {
@@ -130,7 +130,7 @@ impl Parts {
         self.told.clear();
     }
 
-    /// A NOTIFICATION has no answer, and closes the session.
+    /// Takes a NOTIFICATION. It has no answer, and closes the session.
     fn close(&mut self, bytes: Octets) -> Result<ReadStep, NoMemory>
         requires front { AtFront self.old bytes }
         requires reply { reply_to (reading self.old bytes) ≡ ([], states.Closed) }
@@ -143,7 +143,7 @@ impl Parts {
         Ok(ReadStep::Closed(heard))
     }
 
-    /// What is faulty is answered by a NOTIFICATION, which closes the session.
+    /// Answers a fault by a NOTIFICATION, which closes the session.
     fn refuse(&mut self, bytes: Octets, notice: Notice) -> Result<ReadStep, NoMemory>
         requires front { AtFront self.old bytes }
         requires fault { reading self.old bytes ≡ Err notice }
@@ -156,7 +156,7 @@ impl Parts {
         Ok(ReadStep::Closed(heard))
     }
 
-    /// Acts on a message that is read.
+    /// Acts on a message that was read.
     fn take(&mut self, bytes: Octets, message: Message) -> Result<ReadStep, NoMemory>
         requires front { AtFront self.old bytes }
         requires reading { reading self.old bytes ≡ Ok message }
@@ -171,7 +171,7 @@ impl Parts {
         }
     }
 
-    /// Reads a whole frame, and acts on it.
+    /// Reads a whole message of `len` octets, and acts on it.
     fn read_frame(&mut self, len: usize) -> Result<ReadStep, NoMemory>
         requires keeps { Keeps self.old }
         requires unclosed { state_of self.old.story.lines ≢ states.Closed }
@@ -189,7 +189,7 @@ impl Parts {
         }
     }
 
-    /// Refuses the faulty header at the front.
+    /// Answers the faulty header that comes first in what is ready.
     fn refuse_header(&mut self, fault: HeaderFault) -> Result<ReadStep, NoMemory>
         requires keeps { Keeps self.old }
         requires unclosed { state_of self.old.story.lines ≢ states.Closed }
@@ -203,7 +203,7 @@ impl Parts {
         self.refuse(bytes, notice)
     }
 
-    /// Reads the message at the front of what is ready, or its faulty header, and answers it.
+    /// Reads the first message of what is ready, or its faulty header, and answers it.
     pub(crate) fn read(&mut self) -> Result<Option<ReadStep>, NoMemory>
         requires { Keeps self.old }
         ensures step { IfOk result (λ step. Reads step (running self.old) (running self.new)) }
@@ -219,7 +219,7 @@ impl Parts {
         }
     }
 
-    /// Whether there is something to read.
+    /// Returns whether there is something to read.
     pub(crate) fn frame_waits(&self) -> bool
         requires { Keeps self.now }
         ensures { MatchBool result (CanRead (value_of self.now)) (CantRead (value_of self.now)) }

@@ -1,4 +1,4 @@
-//! The segments of a session: those that arrive, and those that it emits.
+//! The segments of a session: arriving and emitted.
 
 ghost use Rattle.std.specs.Prelude.{◌≡◌, ◌<◌, ◌≤◌, ◌+◌, ◌^◌, ◌↔◌, ◌⊎◌, length, min, true, IsNone, IsSome, IfNone, IfOk, OnOk};
 ghost use Rattle.tcp_seq.specs.declared.segment.Way.TheVariants as ways;
@@ -27,7 +27,7 @@ impl Parts {
         self.end.arrive(segment)
     }
 
-    /// The next bytes that were never emitted.
+    /// Emits the next bytes that were never emitted.
     pub(crate) fn next_segment(&mut self) -> Result<Option<Segment>, NoMemory>
         requires { Keeps self.old }
         ensures none { IfOk result (λ answer. IsNone answer ↔ (next_length (value_of self.old).end ≡ 0)) }
@@ -40,7 +40,7 @@ impl Parts {
         self.end.next_segment()
     }
 
-    /// A retransmission turn.
+    /// Makes a retransmission turn.
     pub(crate) fn turn(&mut self) -> Result<Option<Segment>, NoMemory>
         requires { Keeps self.old }
         ensures none { IfOk result (λ answer. IsNone answer ↔ ((again_length (value_of self.old).end ≡ 0) ⊎ (self.old.end.acked_at_turn < (value_of self.old).end.acked))) }
@@ -53,7 +53,7 @@ impl Parts {
         self.end.turn()
     }
 
-    /// The answer that is owed.
+    /// Emits the acknowledgement that is owed.
     pub(crate) fn answer(&mut self) -> Option<Segment>
         requires { Keeps self.old }
         ensures some { IsSome result ↔ ((value_of self.old).end.owed ≡ true) }

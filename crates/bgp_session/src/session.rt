@@ -25,11 +25,11 @@ use std::marker::Model;
 use tcp_end::Arrival;
 use tcp_seq::Segment;
 
-/// A home session, in one box. Contracts see it as one value: its configuration, its story, the routes that it heard and told,
-/// and its endpoint over whole numbers, whose stream is what the story put, and which has read what the story got. Beside that they see
-/// how much was acknowledged at the last retransmission turn.
+/// A home session, in one box. Contracts see it as one value: its configuration, its story, the routes that it heard
+/// and told, and its endpoint over whole numbers, whose stream is what the story put, and which has read what the story
+/// got. They also see how much was acknowledged at the last retransmission turn.
 ///
-/// A call that answers `NoMemory` may have done a part of its work: the session may only be dropped then.
+/// A call that returns `NoMemory` may have done part of its work. The session can then only be dropped.
 #[derive(Drop)]
 pub struct Session {
     parts: Box<Parts>,
@@ -51,9 +51,9 @@ impl Model for Session {
 }
 
 impl Session {
-    /// The session that has put its OPEN, of which nothing was emitted. The OPEN is one that a home side puts, and the remote
-    /// has an AS: hold time 0 or at least 3 seconds, the address of a host as identifier, and AS numbers from 1 on (RFC 4271,
-    /// section 4.2; RFC 7607).
+    /// Returns a session that has put its OPEN and emitted nothing. The configuration must give an OPEN that a home
+    /// side may put, and an AS of the remote: hold time 0 or at least 3 seconds, the address of a host as identifier,
+    /// and AS numbers from 1 on (RFC 4271, section 4.2; RFC 7607).
     pub fn begin(alloc: Global, config: SessionConfig) -> Result<Session, NoMemory>
         requires { IsPeering (peering_of config) }
         ensures { IfOk result (λ session. session ≡ record { session = begun config; acked_at_turn = 0 }) }
@@ -62,8 +62,8 @@ impl Session {
         Ok(Session { parts })
     }
 
-    /// Takes a segment that arrives, of this peering, on the way home, with at most 65,535 bytes and with numbers that stand for
-    /// places of streams of at most 1 MiB, or of a window at their end.
+    /// Takes an arriving segment. It must be of this peering and on its way home, have at most 65,535 bytes, and have
+    /// sequence numbers within streams of at most 1 MiB or a window at their end.
     pub fn arrive(&mut self, segment: &Segment) -> Result<Arrival, NoMemory>
         requires peering { segment.now.peering ≡ self.old.session.config.peering }
         requires way { segment.now.way ≡ ways.Home }
@@ -74,23 +74,24 @@ impl Session {
         self.parts.arrive(segment)
     }
 
-    /// Reads one message, or a faulty header, and answers it (RFC 4271, sections 6 and 8.2.2). None where the session is closed, or
-    /// what is unread begins with no whole message and no faulty header.
+    /// Reads one message, or a faulty header, and answers it (RFC 4271, sections 6 and 8.2.2). Returns `None` if the
+    /// session is closed, or if the unread bytes begin with neither a whole message nor a faulty header.
     pub fn read(&mut self) -> Result<Option<ReadStep>, NoMemory>
         ensures { IfOk result (λ step. Reads step self.old self.new) }
     {
         self.parts.read()
     }
 
-    /// Puts an UPDATE that either withdraws or announces, can be written in the width of the session, and changes what was told for
-    /// each of its prefixes. The session is established.
+    /// Puts an UPDATE. It must either withdraw or announce, be writable in the session's width of AS numbers, and
+    /// change what was told for each of its prefixes. The session must be established.
     pub fn offer(&mut self, update: Update) -> Result<(), OfferStop>
         requires established { state self.old.session ≡ states.Established }
         requires one_way { IsOneWay update (is_wide (peering_of self.old.session.config) self.old.session.story) }
         requires changes { Changes self.old.session.told update }
         ensures ok { OnOk result (PutsUpdate self.old.session update self.new.session) }
 
-        // The stream is full exactly where it would pass 1,044,480 bytes. Then the length is told, and nothing changes.
+        // The stream is full exactly where it would pass 1,044,480 bytes. Then the error has that length, and nothing
+        // changes.
         ensures full { 1044480 < offered_length self.old.session update → result ≡ Err (OfferStop.StreamFull (offered_length self.old.session update)) }
         ensures only_full { (n : ℕ) → result ≡ Err (OfferStop.StreamFull n) → (n ≡ offered_length self.old.session update) × (1044480 < n) × (self.new ≡ self.old) }
         ensures same_turn { OnOk result (self.new.acked_at_turn ≡ self.old.acked_at_turn) }
@@ -98,15 +99,15 @@ impl Session {
         self.parts.offer(update)
     }
 
-    /// Whether a round of this number may pass. The session is in OpenConfirm or Established and has a hold time, the number is
-    /// above that of each round that passed, and at most 1,044,461 bytes were put.
+    /// Returns whether a round of this number may pass: the session is in OpenConfirm or Established and has a hold
+    /// time, the number is above that of each round that passed, and at most 1,044,461 bytes were put.
     pub fn may_pass(&self, round: u32) -> bool
         ensures { MatchBool result (MayPass self.now.session round) (¬ MayPass self.now.session round) }
     {
         self.parts.may_pass(round)
     }
 
-    /// A round of one second passes, which may (RFC 4271, sections 4.4, 6.5 and 10).
+    /// Lets a round of one second pass (RFC 4271, sections 4.4, 6.5 and 10). It must be one that may pass.
     pub fn tick(&mut self, round: u32) -> Result<TickStep, NoMemory>
         requires { MayPass self.old.session round }
         ensures { IfOk result (λ step. Ticks step self.old round self.new) }
@@ -114,8 +115,8 @@ impl Session {
         self.parts.tick(round)
     }
 
-    /// The next bytes of the stream that were never emitted, at most 1,024 and as many as the flight of 15,360 leaves. Where there are none,
-    /// all is emitted that may be.
+    /// Emits the next bytes of the stream that were never emitted: at most 1,024, and no more than the flight of 15,360
+    /// bytes leaves room for. Returns `None` if all that may be emitted was emitted.
     pub fn next_segment(&mut self) -> Result<Option<Segment>, NoMemory>
         ensures none { IfOk result (λ answer. IsNone answer ↔ (next_length self.old.session.end ≡ 0)) }
         ensures all { IfOk result (λ answer. IfNone answer (self.old.session.end.emitted ≡ min (length self.old.session.end.stream) (self.old.session.end.acked + 15360))) }
@@ -126,8 +127,8 @@ impl Session {
         self.parts.next_segment()
     }
 
-    /// A retransmission turn: the first 1,024 outstanding bytes again, or all of them, unless some were acknowledged since the last
-    /// turn.
+    /// Makes a retransmission turn: emits the first 1,024 outstanding bytes again, or all if there are fewer, unless
+    /// some were acknowledged since the last turn.
     pub fn turn(&mut self) -> Result<Option<Segment>, NoMemory>
         ensures none { IfOk result (λ answer. IsNone answer ↔ ((again_length self.old.session.end ≡ 0) ⊎ (self.old.acked_at_turn < self.old.session.end.acked))) }
         ensures step { IfOk result (λ answer. EmitsBy EmitsAgain self.old.session answer self.new.session) }
@@ -138,7 +139,8 @@ impl Session {
         self.parts.turn()
     }
 
-    /// The answer that is owed: a segment without bytes, at the number that is emitted next. It takes no memory.
+    /// Emits the acknowledgement that is owed: a segment without bytes, at the next sequence number to be emitted. It
+    /// takes no memory.
     pub fn answer(&mut self) -> Option<Segment>
         ensures some { IsSome result ↔ (self.old.session.end.owed ≡ true) }
         ensures step { EmitsBy EmitsAnswer self.old.session result self.new.session }
@@ -147,28 +149,28 @@ impl Session {
         self.parts.answer()
     }
 
-    /// The state (RFC 4271, section 8.2.2).
+    /// Returns the state of the session (RFC 4271, section 8.2.2).
     pub fn state(&self) -> SessionState
         ensures { result ≡ state self.now.session }
     {
         self.parts.story.state()
     }
 
-    /// The routes that were heard and not withdrawn: the Adj-RIB-In.
+    /// Returns the Adj-RIB-In: the routes that were heard and not withdrawn.
     pub fn heard(&self) -> &AdjRib
         ensures { result.now ≡ self.now.session.heard }
     {
         &self.parts.heard
     }
 
-    /// The routes that were told and not withdrawn: the Adj-RIB-Out.
+    /// Returns the Adj-RIB-Out: the routes that were told and not withdrawn.
     pub fn told(&self) -> &AdjRib
         ensures { result.now ≡ self.now.session.told }
     {
         &self.parts.told
     }
 
-    /// The story. The endpoint is tied to it.
+    /// Returns the story, to which the endpoint is tied.
     pub fn story(&self) -> &Story
         ensures story { result.now ≡ record { lines = self.now.session.story; remote_as = self.now.session.config.remote_as } }
         ensures tied { IsTied self.now.session }
@@ -176,7 +178,7 @@ impl Session {
         &self.parts.story
     }
 
-    /// The story, of a session of which nothing else is wanted any more. It takes no memory.
+    /// Consumes the session, and returns its story. It takes no memory.
     pub fn into_story(self) -> Story
         ensures { result ≡ record { lines = self.session.story; remote_as = self.session.config.remote_as } }
     {
@@ -185,57 +187,57 @@ impl Session {
         story
     }
 
-    /// What the session began with.
+    /// Returns the configuration with which the session began.
     pub fn config(&self) -> &SessionConfig
         ensures { result.now ≡ self.now.session.config }
     {
         &self.parts.config
     }
 
-    /// How many bytes were put.
+    /// Returns the number of bytes that were put.
     pub fn put_len(&self) -> u32
         ensures { result ≡ length self.now.session.end.stream }
     {
         self.parts.end.stream_len()
     }
 
-    /// Whether all bytes that were put are acknowledged.
+    /// Returns whether all bytes that were put are acknowledged.
     pub fn all_acked(&self) -> bool
         ensures { IsTrue result ↔ (self.now.session.end.acked ≡ length self.now.session.end.stream) }
     {
         self.parts.end.acked() == self.parts.end.stream_len()
     }
 
-    /// Whether `read` has something to read.
+    /// Returns whether `read` has something to read.
     pub fn frame_waits(&self) -> bool
         ensures { MatchBool result (CanRead self.now.session) (CantRead self.now.session) }
     {
         self.parts.frame_waits()
     }
 
-    /// Whether AS numbers have four octets: both sides offered it (RFC 6793, section 4.1).
+    /// Returns whether AS numbers have four octets: both sides offered the capability (RFC 6793, section 4.1).
     pub fn wide(&self) -> bool
         ensures { result ≡ is_wide (peering_of self.now.session.config) self.now.session.story }
     {
         self.parts.wide()
     }
 
-    /// The hold time in seconds, the smaller of the two that the OPENs offer: 0 for none, and before the remote's was taken
-    /// (RFC 4271, section 4.2).
+    /// Returns the hold time in seconds, the smaller of the two that the OPENs offer (RFC 4271, section 4.2). 0 means
+    /// that there is none, or that the remote's OPEN was not received yet.
     pub fn hold(&self) -> u32
         ensures { result ≡ hold_time self.now.session }
     {
         self.parts.hold()
     }
 
-    /// The BGP Identifier of the remote, once its OPEN was taken.
+    /// Returns the BGP Identifier of the remote, once its OPEN was received.
     pub fn remote_identifier(&self) -> Option<u32>
         ensures { result ≡ option_map identifier_of (remote_open self.now.session) }
     {
         self.parts.remote_identifier()
     }
 
-    /// Freezes an established session: it can do no more than leave. This takes no memory.
+    /// Freezes an established session: from then on it can only leave. It takes no memory.
     pub fn freeze(self) -> FrozenSession
         requires { state self.session ≡ states.Established }
         ensures { result ≡ self }

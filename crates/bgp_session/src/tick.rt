@@ -17,13 +17,13 @@ use bgp_story::Line;
 use bgp_types::{Message, NoMemory, Notice, Octets, SessionState};
 use std::alloc::Global;
 
-/// The code of Hold Timer Expired.
+/// NOTIFICATION error code for Hold Timer Expired (RFC 4271, section 4.5).
 const HOLD_EXPIRED: u8 = 4;
 
-/// How many bytes a session put at most when a round passes: a KEEPALIVE has 19, and what is put stays at 1,044,480 at most.
+/// The limit of the bytes put when a round passes: a KEEPALIVE has 19, and at most 1,044,480 are put in all.
 const MOST_PUT: u32 = 1_044_461;
 
-/// Whether a hold time may run in a state.
+/// Returns whether a hold time may run in a state.
 fn is_up(state: SessionState) -> bool
     ensures { result ≡ is_up_lem state }
 {
@@ -33,7 +33,7 @@ fn is_up(state: SessionState) -> bool
     }
 }
 
-/// Hold Timer Expired.
+/// Returns the NOTIFICATION that says Hold Timer Expired.
 fn hold_over(alloc: Global) -> Notice
     ensures { result ≡ hold_expired }
 {
@@ -45,7 +45,7 @@ fn hold_over(alloc: Global) -> Notice
 }
 
 impl Parts {
-    /// Writes a round down with its answer. If memory runs out, nothing changes.
+    /// Adds a round with its answer to the story, and sends the answer. If memory runs out, nothing changes.
     fn pass_down(&mut self, round: u32, answer: Option<Message>) -> Result<(), NoMemory>
         requires at { AtRound self.old round }
         requires reply { (round_reply self.old round).0 ≡ answered answer }
@@ -59,7 +59,7 @@ impl Parts {
         Ok(())
     }
 
-    /// The hold time is over: a NOTIFICATION is put, and the session closes.
+    /// Puts the NOTIFICATION for an expired hold time, and closes the session.
     fn expire(&mut self, round: u32) -> Result<TickStep, NoMemory>
         requires at { AtRound self.old round }
         requires reply { round_reply self.old round ≡ (lines.Put (messages.NoticeMsg hold_expired) ∷ [], states.Closed) }
@@ -73,7 +73,7 @@ impl Parts {
         Ok(TickStep::Expired(heard))
     }
 
-    /// A KEEPALIVE is put.
+    /// Puts a KEEPALIVE.
     fn beat(&mut self, round: u32) -> Result<TickStep, NoMemory>
         requires at { AtRound self.old round }
         requires reply { round_reply self.old round ≡ (lines.Put messages.KeepaliveMsg ∷ [], state_of self.old.story.lines) }
@@ -84,7 +84,7 @@ impl Parts {
         Ok(TickStep::Beat)
     }
 
-    /// Nothing is put.
+    /// Puts nothing.
     fn pass(&mut self, round: u32) -> Result<TickStep, NoMemory>
         requires at { AtRound self.old round }
         requires reply { round_reply self.old round ≡ ([], state_of self.old.story.lines) }
@@ -95,7 +95,7 @@ impl Parts {
         Ok(TickStep::Plain)
     }
 
-    /// Whether a round of this number may pass.
+    /// Returns whether a round of this number may pass.
     pub(crate) fn may_pass(&self, round: u32) -> bool
         requires { Keeps self.now }
         ensures { MatchBool result (MayPass (value_of self.now) round) (¬ MayPass (value_of self.now) round) }
@@ -112,7 +112,7 @@ impl Parts {
         self.end.stream_len() <= MOST_PUT
     }
 
-    /// A round passes.
+    /// Lets a round pass.
     pub(crate) fn tick(&mut self, round: u32) -> Result<TickStep, NoMemory>
         requires { AtRound self.old round }
         ensures step { IfOk result (λ step. Ticks step (running self.old) round (running self.new)) }

@@ -21,7 +21,7 @@ PutsNoOpen (Put message) = IsNoOpen message
 PutsNoOpen (Got _) = Unit {0}
 PutsNoOpen (Tick _) = Unit {0}
 
--- the OPEN of the peering stands first, and no other is put
+-- the OPEN of the peering stands first, and no other OPEN is put
 pub record OpensOnce (p : Peering) (lines : List Line) : Type 0 where
   pub rest : List Line
   pub first : lines ≡ Put (OpenMsg p.first) ∷ rest
@@ -41,7 +41,7 @@ pub record EndsInFault (p : Peering) (lines : List Line) (n : Notice) : Type 0 w
   pub last : lines ≡ before ++ Got bytes ∷ []
   pub fault : first_fault bytes (expected_next p before state) ≡ Some n
 
--- the last of these lines is the round at which the hold time is over
+-- the last of these lines is the round in which the hold time expires
 pub record EndsInSilence (p : Peering) (lines : List Line) (n : Notice) : Type 0 where
   pub before : List Line
   pub round : ℕ

@@ -1,5 +1,5 @@
--- The legal stories of a peering (RFC 4271, sections 4.2, 6 and 8.2.2). Nothing in them tells in which
--- router a session stands, or that it was moved.
+-- The legal stories of a peering (RFC 4271, sections 4.2, 6 and 8.2.2). Nothing in them depends on the router in which a session is, or on whether it
+-- was moved.
 use Rattle.std.specs.Prelude.{◌≡◌, ◌≢◌, ℕ, ◌+◌, ◌/◌, ◌%◌, ◌<◌, ◌==◌, min, length, List, [], ◌∷◌, ◌++◌, Option, Some, None, Result, Ok, Err, Bool, true, false, ◌&&◌, ◌⊎◌, IsSome, All, fold, if◌then◌else◌}
 use Rattle.bgp_types.specs.declared.fault.Expected.{Expected}
 use Rattle.bgp_types.specs.declared.message.Message.{Message}
@@ -21,12 +21,12 @@ pub record Peering : Type 0 where
   pub first : open_type.OpenMsg
   pub remote_as : ℕ
 
--- The OPEN is one that a home side puts, and the remote has an AS.
+-- The OPEN is one that a home side can put, and the remote has an AS.
 pub record IsPeering (p : Peering) : Type 0 where
   pub home : IsHomeOpen p.first
   pub remote_as : IsAsNumber p.remote_as
 
--- ---- what the lines so far say
+-- ---- what the lines so far give
 
 abbrev pub open_in : Result Message Notice → Option open_type.OpenMsg
 open_in (Ok (OpenMsg o)) = Some o
@@ -35,14 +35,14 @@ open_in (Ok (NoticeMsg _)) = None
 open_in (Ok KeepaliveMsg) = None
 open_in (Err _) = None
 
--- The OPEN that was got: the first Got is that, or ends the session.
+-- The OPEN that was got. The first Got line is either that OPEN, or ends the session.
 abbrev pub got_open : Peering → List Line → Option open_type.OpenMsg
 got_open p [] = None
 got_open p (Put _ ∷ lines) = got_open p lines
 got_open p (Tick _ ∷ lines) = got_open p lines
 got_open p (Got bytes ∷ lines) = open_in (message_of (record { state = OpenSent; remote_as = p.remote_as; offered = offers p.first; wide = false }) bytes)
 
--- A session has AS numbers of four octets exactly where both OPENs offer them.
+-- A session has AS numbers of four octets if and only if both OPENs offer them.
 abbrev pub both_offer : open_type.OpenMsg → Option open_type.OpenMsg → Bool
 both_offer first None = false
 both_offer first (Some o) = offers first && offers o
@@ -50,7 +50,7 @@ both_offer first (Some o) = offers first && offers o
 abbrev pub is_wide : Peering → List Line → Bool
 is_wide p lines = both_offer p.first (got_open p lines)
 
--- The hold time of a session is the smaller of the two OPENs; 0 is none.
+-- The hold time of a session is the smaller one of the two OPENs; 0 means none.
 abbrev pub smaller_hold : open_type.OpenMsg → Option open_type.OpenMsg → ℕ
 smaller_hold first None = 0
 smaller_hold first (Some o) = min first.hold o.hold
@@ -58,11 +58,11 @@ smaller_hold first (Some o) = min first.hold o.hold
 abbrev pub hold : Peering → List Line → ℕ
 hold p lines = smaller_hold p.first (got_open p lines)
 
--- what is expected_next next
+-- what is expected next
 abbrev pub expected_next : Peering → List Line → SessionState → Expected
 expected_next p lines state = record { state = state; remote_as = p.remote_as; offered = offers p.first; wide = is_wide p lines }
 
--- the rounds since something was got: as long as a session isn't closed, that was an OPEN, an UPDATE or a KEEPALIVE
+-- the rounds since something was got: while a session isn't closed, that was an OPEN, an UPDATE or a KEEPALIVE
 abbrev pub count_round : ℕ → Line → ℕ
 count_round n (Put _) = n
 count_round n (Got _) = 0
@@ -90,7 +90,7 @@ pub record IsOneWay (u : Update) (wide : Bool) : Type 0 where
   pub writable : IsWritable (UpdateMsg u) wide
   pub one_way : ((u.withdrawn ≢ []) × (u.nlri ≡ [])) ⊎ ((u.withdrawn ≡ []) × (u.nlri ≢ []))
 
--- the hold time runs
+-- the hold timer runs
 abbrev pub is_up : SessionState → Bool
 is_up OpenSent = false
 is_up OpenConfirm = true
@@ -106,19 +106,19 @@ IsEarlier round (Tick earlier) = earlier < round
 abbrev pub hold_expired : Notice
 hold_expired = record { code = 4; subcode = 0; info = [] }
 
--- the answer to a round, and the state then: at the hold time the session ends; in each round whose number is a multiple of its
--- third, rounded down, a KEEPALIVE is put (RFC 4271, sections 4.4 and 10)
+-- the answer to a round, and the state then: when the hold time expires the session ends; in each round whose number is a multiple of a third of the
+-- hold time, rounded down, a KEEPALIVE is put (RFC 4271, sections 4.4 and 10)
 abbrev pub reply_at : ℕ → ℕ → ℕ → SessionState → List Line × SessionState
 reply_at hold count round state =
     if count == hold then (Put (NoticeMsg hold_expired) ∷ [], Closed)
     else if round % (hold / 3) == 0 then (Put KeepaliveMsg ∷ [], state)
     else ([], state)
 
--- A legal story, and the state of its session. Which UPDATEs change what was told is left to `Changes`.
+-- A legal story, and the state of its session. `Changes` says which UPDATEs change what was told.
 pub data Legal (Changes : List Line → Update → Type 0) (p : Peering) : List Line → SessionState → Type 0 where
   -- the OPEN of a home side is put
   opened : (lines : List Line) → IsPeering p → lines ≡ Put (OpenMsg p.first) ∷ [] → Legal Changes p lines OpenSent
-  -- in a state other than Closed something is got, and answered
+  -- in a state other than Closed something is got and answered
   got : (before : List Line) (state : SessionState) (bytes : List ℕ) (answer : List Line) (next : SessionState) (lines : List Line) →
       Legal Changes p before state → state ≢ Closed → IsGot bytes →
       reply_to (message_of (expected_next p before state) bytes) ≡ (answer, next) →
@@ -127,12 +127,12 @@ pub data Legal (Changes : List Line → Update → Type 0) (p : Peering) : List 
   updated : (before : List Line) (u : Update) (lines : List Line) →
       Legal Changes p before Established → IsOneWay u (is_wide p before) → Changes before u →
       lines ≡ before ++ Put (UpdateMsg u) ∷ [] → Legal Changes p lines Established
-  -- in OpenConfirm and Established, with a hold time, a round passes, and is answered
+  -- in OpenConfirm and Established, with a hold time, a round passes and is answered
   passed : (before : List Line) (state : SessionState) (round : ℕ) (answer : List Line) (next : SessionState) (lines : List Line) →
       Legal Changes p before state → is_up state ≡ true → 0 < hold p before → All (IsEarlier round) before →
       reply_at (hold p before) (silence before + 1) round state ≡ (answer, next) →
       lines ≡ before ++ Tick round ∷ answer → Legal Changes p lines next
 
--- The form that leaves aside whether an UPDATE changes what was told.
+-- The form that doesn't require that an UPDATE changes what was told.
 abbrev pub Allowed : Peering → List Line → SessionState → Type 0
 Allowed p lines state = Legal (λ _ _. Unit {0}) p lines state

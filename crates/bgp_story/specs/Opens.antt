@@ -7,7 +7,7 @@ use Rattle.bgp_types.specs.OpenBody.{as_said}
 use Rattle.bgp_types.specs.PathOctets.{narrow_as}
 use Rattle.bgp_types.specs.Values.{is_no_host, is_short_hold}
 
--- the capability of four-octet AS numbers, which says the AS
+-- the capability of four-octet AS numbers, which holds the AS
 abbrev pub as_cap : ℕ → Cap
 as_cap as_number = record { code = 65; bytes = to_be_bytes w32 as_number }
 
@@ -16,21 +16,20 @@ as_cap as_number = record { code = 65; bytes = to_be_bytes w32 as_number }
 abbrev pub unicast_cap : Cap
 unicast_cap = record { code = 1; bytes = 0 ∷ 1 ∷ 0 ∷ 1 ∷ [] }
 
--- the capabilities in the OPEN of the home side: IPv4 unicast where that is asked for, then the home AS where four-octet AS numbers are
--- offered
+-- the capabilities in the OPEN of the home side: IPv4 unicast if that is wanted, then the home AS if four-octet AS numbers are offered
 abbrev pub home_caps : (home_as : ℕ) → (offered unicast : Bool) → List Cap
 home_caps home_as offered unicast = (if unicast then unicast_cap ∷ [] else []) ++ (if offered then as_cap home_as ∷ [] else [])
 
--- It has the home AS, or 23456 where two octets don't hold that; the hold time; the identifier; and the capabilities.
+-- It has the home AS, or AS_TRANS, 23456, if that doesn't fit into two octets; the hold time; the identifier; and the capabilities.
 abbrev pub home_open : (home_as hold identifier : ℕ) → (offered unicast : Bool) → OpenMsg
 home_open home_as hold identifier offered unicast = record { as_number = narrow_as home_as; hold = hold; identifier = identifier; caps = home_caps home_as offered unicast }
 
--- the number of an AS: 0 is none (RFC 7607, section 2), and four octets hold it (RFC 6793, section 3)
+-- the number of an AS: 0 is none (RFC 7607, section 2), and it fits into four octets (RFC 6793, section 3)
 pub record IsAsNumber (as_number : ℕ) : Type 0 where
   pub some : 1 ≤ as_number
   pub fits : as_number < 2 ^ 32
 
--- an OPEN that some home side puts
+-- an OPEN that some home side can put
 pub record IsHomeOpen (first : OpenMsg) : Type 0 where
   pub home_as : ℕ
   pub offered : Bool

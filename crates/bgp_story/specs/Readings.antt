@@ -1,5 +1,4 @@
--- What the lines of a story say as a whole: the octets each way, and the tables of the routes that were
--- told and heard (RFC 4271, section 3.1).
+-- What the lines of a story give as a whole: the octets each way, and the tables of the routes that were told and heard (RFC 4271, section 3.1).
 use Rattle.std.specs.Prelude.{◌≢◌, ℕ, List, [], ◌++◌, Option, Some, None, Result, Ok, Err, Bool, fold, All}
 use Rattle.std.specs.List.{flat_map}
 use Rattle.std.specs.FinMap as map
@@ -48,7 +47,7 @@ abbrev pub announce : Option Attrs → Routes → PrefixValue → Routes
 announce None routes prefix = routes
 announce (Some attrs) routes prefix = map.insert routes prefix attrs
 
--- An UPDATE takes out what it withdraws, and sets what it announces.
+-- An UPDATE removes what it withdraws, and sets what it announces.
 abbrev pub apply : Routes → Update → Routes
 apply routes u = fold (announce u.attrs) (fold map.remove routes u.withdrawn) u.nlri
 
@@ -68,13 +67,13 @@ tell routes (Put message) = apply_if routes (update_in (Ok message))
 tell routes (Got _) = routes
 tell routes (Tick _) = routes
 
--- Only in Established an UPDATE is taken: one that comes earlier closes the session.
+-- An UPDATE is accepted only in Established; an earlier one closes the session.
 abbrev pub hear : Expected → Routes → Line → Routes
 hear e routes (Put _) = routes
 hear e routes (Got bytes) = apply_if routes (update_in (message_of e bytes))
 hear e routes (Tick _) = routes
 
--- nothing once the session is closed
+-- an empty table once the session is closed
 abbrev pub unless_closed : SessionState → Routes → Routes
 unless_closed OpenSent routes = routes
 unless_closed OpenConfirm routes = routes
@@ -88,9 +87,9 @@ told lines = unless_closed (state_of lines) (fold tell map.empty lines)
 abbrev pub heard : Peering → List Line → Routes
 heard p lines = unless_closed (state_of lines) (fold (hear (expected_next p lines Established)) map.empty lines)
 
--- ---- what is told is a change
+-- ---- what is told has to be a change
 
--- each prefix of the UPDATE has another value after it
+-- each prefix of the UPDATE has another value after it than before
 abbrev pub ChangesTold : List Line → Update → Type 0
 ChangesTold lines u = All (λ prefix. map.get (apply (told lines) u) prefix ≢ map.get (told lines) prefix) (u.withdrawn ++ u.nlri)
 

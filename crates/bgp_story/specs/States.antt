@@ -1,5 +1,4 @@
--- What a story's lines tell of its state, without a look into what was got: a line changes it where it
--- ends a case of a legal story.
+-- The state of a story by its lines, without reading what was got: a line changes the state where it ends a case of a legal story.
 use Rattle.std.specs.Prelude.{◌≡◌, ℕ, ◌==◌, length, List, [], ◌∷◌, ◌++◌, Option, Some, None, Bool, ◌&&◌, nat_le, is_none, fold, if◌then◌else◌}
 use Rattle.bgp_types.specs.declared.message.Message.{Message}
 use Rattle.bgp_types.specs.declared.message.Message.TheVariants.{OpenMsg, UpdateMsg, NoticeMsg, KeepaliveMsg}
@@ -28,7 +27,7 @@ with_keepalive_got OpenConfirm = Established
 with_keepalive_got Established = Established
 with_keepalive_got Closed = Closed
 
--- a NOTIFICATION closes, either way
+-- a NOTIFICATION closes the session, whether it is put or got
 abbrev pub after_put : SessionState → Message → SessionState
 after_put state (OpenMsg _) = state
 after_put state (UpdateMsg _) = state
@@ -46,7 +45,7 @@ after state (Tick _) = state
 abbrev pub state_of : List Line → SessionState
 state_of lines = fold after OpenSent lines
 
--- the line of a message that is put in answer, where there is one
+-- the line of a message that is put in answer, if there is one
 abbrev pub answered : Option Message → List Line
 answered None = []
 answered (Some message) = Put message ∷ []

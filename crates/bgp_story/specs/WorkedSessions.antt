@@ -51,7 +51,7 @@ heard_lines hold = Put (OpenMsg (home hold)) ∷ Got open_bytes ∷ Put Keepaliv
 abbrev pub heard_attrs : Attrs
 heard_attrs = record { origin = Igp; path = Sequence (65001 ∷ []) ∷ []; next_hop = 0xC0000201; med = None; atomic = false; aggregator = None; unknown = [] }
 
--- ---- routes that home tells
+-- ---- routes that home advertises
 
 -- 10.0.0.0/8
 abbrev pub ten : PrefixValue
@@ -79,7 +79,7 @@ withdrawn_lines hold = told_lines hold ++ Put (UpdateMsg withdrawal) ∷ []
 abbrev pub beaten_lines : List Line
 beaten_lines = confirmed_lines 90 ++ Tick 30 ∷ Put KeepaliveMsg ∷ []
 
--- ---- a hold time of 3 seconds that runs out: a KEEPALIVE in rounds 1 and 2, and then the NOTIFICATION 4/0
+-- ---- a hold time of 3 seconds that expires: a KEEPALIVE in rounds 1 and 2, and then the NOTIFICATION 4/0
 
 abbrev pub expired_lines : List Line
 expired_lines = confirmed_lines 3 ++ Tick 1 ∷ Put KeepaliveMsg ∷ Tick 2 ∷ Put KeepaliveMsg ∷ Tick 3 ∷ Put (NoticeMsg (record { code = 4; subcode = 0; info = [] })) ∷ []
@@ -99,14 +99,14 @@ wide_open_bytes = framed 1 (0x04 ∷ 0x5B ∷ 0xA0 ∷ 0x00 ∷ 0xB4 ∷ 0xC0 �
 abbrev pub wide_lines : List Line
 wide_lines = Put (OpenMsg wide_home) ∷ Got wide_open_bytes ∷ Put KeepaliveMsg ∷ Got keepalive_bytes ∷ Put (UpdateMsg (announcement_over (4200000000 ∷ []))) ∷ []
 
--- what home puts: its OPEN with AS_TRANS and the capability, a KEEPALIVE, and the announcement, whose path has
--- one AS of four octets, FA56EA00 (hexadecimal)
+-- what home puts: its OPEN with AS_TRANS and the capability, a KEEPALIVE, and the announcement, whose path has one AS of four octets, FA56EA00
+-- (hexadecimal)
 abbrev pub wide_put_bytes : List ℕ
 wide_put_bytes = framed 1 (0x04 ∷ 0x5B ∷ 0xA0 ∷ 0x00 ∷ 0x00 ∷ 0x0A ∷ 0xFF ∷ 0x00 ∷ 0x01 ∷ 0x08 ∷ 0x02 ∷ 0x06 ∷ 0x41 ∷ 0x04 ∷ 0xFA ∷ 0x56 ∷ 0xEA ∷ 0x00 ∷ [])
     ++ keepalive_bytes
     ++ framed 2 (0x00 ∷ 0x00 ∷ 0x00 ∷ 0x14 ∷ 0x40 ∷ 0x01 ∷ 0x01 ∷ 0x00 ∷ 0x40 ∷ 0x02 ∷ 0x06 ∷ 0x02 ∷ 0x01 ∷ 0xFA ∷ 0x56 ∷ 0xEA ∷ 0x00 ∷ 0x40 ∷ 0x03 ∷ 0x04 ∷ 0xC0 ∷ 0x00 ∷ 0x02 ∷ 0x02 ∷ 0x08 ∷ 0x0A ∷ [])
 
--- Home alone offers AS numbers of four octets, to the remote of AS 65001.
+-- Only home offers AS numbers of four octets, to the remote of AS 65001.
 abbrev pub offering_peering : Peering
 offering_peering = record { first = wide_home; remote_as = 65001 }
 
@@ -115,7 +115,7 @@ offering_lines = Put (OpenMsg wide_home) ∷ Got open_bytes ∷ Put KeepaliveMsg
 
 -- ---- the OPEN of home has the capability of IPv4 unicast (RFC 4760, section 8)
 
--- alone: the remote's OPEN has none
+-- the OPEN has no other capability; the remote's OPEN has none
 abbrev pub unicast_home : open_type.OpenMsg
 unicast_home = home_open 65000 0 0x0AFF0001 false true
 

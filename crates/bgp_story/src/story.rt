@@ -12,8 +12,8 @@ use bgp_types::{Message, NoMemory, Octets, OpenMsg, SessionState};
 use std::alloc::Global;
 use std::marker::Model;
 
-/// The lines of a session from its OPEN on, and the AS of the remote, by which they are read. They
-/// begin a legal story. The state of the session is kept beside them.
+/// The lines of a session from its OPEN on, and the AS of the remote, which is needed to read them.
+/// They are the beginning of a legal story. The state of the session is kept beside them.
 #[derive(Debug, Drop)]
 pub struct Story {
     lines: Vec<Line>,
@@ -32,7 +32,7 @@ impl Model for Story {
     ghost invariant = { λ s. (s.state ≡ state_of s.lines.items) × Begins s.remote_as s.lines.items };
 }
 
-/// The state after a message was put.
+/// Returns the state after a message was put.
 fn after_put(state: SessionState, message: &Message) -> SessionState
     ensures { result ≡ after_put_lem state message.now }
 {
@@ -43,7 +43,7 @@ fn after_put(state: SessionState, message: &Message) -> SessionState
     }
 }
 
-/// The state after octets were got.
+/// Returns the state after octets were got.
 fn after_got(state: SessionState, octets: &[u8]) -> SessionState
     ensures { result ≡ after_got_lem state octets.now }
 {
@@ -56,7 +56,7 @@ fn after_got(state: SessionState, octets: &[u8]) -> SessionState
     state
 }
 
-/// Adds a line. If memory runs out, it comes back and nothing changes.
+/// Adds a line. If memory runs out, the line is returned and nothing changes.
 fn add(lines: &mut Vec<Line>, line: Line) -> Result<(), Line>
     ensures ok { OnOk result (lines.new.items ≡ lines.old.items ++ line ∷ []) }
     ensures back { IfErr result (λ back. back ≡ line) }
@@ -85,7 +85,7 @@ fn add_both(lines: &mut Vec<Line>, line: Line, answer: Message) -> Result<(), No
     }
 }
 
-/// The state after a line was added.
+/// Returns the state after a line was added.
 fn after(state: SessionState, line: &Line) -> SessionState
     ensures { result ≡ after_lem state line.now }
 {
@@ -97,9 +97,10 @@ fn after(state: SessionState, line: &Line) -> SessionState
 }
 
 impl Story {
-    /// The story that begins with this OPEN, of a session with a remote of this AS. The OPEN is one that
-    /// a home side puts, with its hold time, its identifier and its AS in range, and the remote's AS is
-    /// not 0 (RFC 4271, section 4.2; RFC 7607).
+    /// Returns the story that begins with this OPEN, of a session with a remote of this AS. The OPEN
+    /// has to be one that a home side can put, with its hold time, its identifier and its AS in range,
+    /// and the remote's AS must not be 0 (RFC 4271, section 4.2; RFC 7607). If memory runs out, the
+    /// OPEN is lost.
     pub fn begin(alloc: Global, first: OpenMsg, remote_as: u32) -> Result<Story, NoMemory>
         requires { IsPeering (record { first = first; remote_as = remote_as }) }
         ensures { IfOk result (λ story. story ≡ record { lines = Put (messages.OpenMsg first) ∷ []; remote_as = remote_as }) }
@@ -113,7 +114,7 @@ impl Story {
         })
     }
 
-    /// Adds a line after which the session has this state.
+    /// Adds a line after which the session has this state. If memory runs out, nothing changes.
     fn add_line(&mut self, line: Line, state: SessionState) -> Result<(), NoMemory>
         requires begins { Begins self.old.remote_as (self.old.lines ++ line ∷ []) }
         requires state { state ≡ state_of (self.old.lines ++ line ∷ []) }
@@ -129,8 +130,8 @@ impl Story {
         }
     }
 
-    /// Adds a message that is put, where the lines with it begin a legal story. If memory runs out, it
-    /// comes back and nothing changes; there is no other failure.
+    /// Adds a message that is put. The lines with it have to begin a legal story. If memory runs out,
+    /// the message is returned and nothing changes; there is no other failure.
     pub fn put(&mut self, message: Message) -> Result<(), Message>
         requires { Begins self.old.remote_as (self.old.lines ++ Put message ∷ []) }
         ensures ok { OnOk result (self.new ≡ record self.old { lines = self.old.lines ++ Put message ∷ [] }) }
@@ -148,8 +149,8 @@ impl Story {
         }
     }
 
-    /// Adds octets that are got, where the lines with them begin a legal story. If memory runs out, they
-    /// come back and nothing changes; there is no other failure.
+    /// Adds octets that are got. The lines with them have to begin a legal story. If memory runs out,
+    /// the octets are returned and nothing changes; there is no other failure.
     pub fn got(&mut self, bytes: Octets) -> Result<(), Octets>
         requires { Begins self.old.remote_as (self.old.lines ++ Got bytes ∷ []) }
         ensures ok { OnOk result (self.new ≡ record self.old { lines = self.old.lines ++ Got bytes ∷ [] }) }
@@ -167,8 +168,8 @@ impl Story {
         }
     }
 
-    /// Adds a round in which the hold time ran, where the lines with it begin a legal story. If memory
-    /// runs out, nothing changes; there is no other failure.
+    /// Adds a round in which the hold timer ran. The lines with it have to begin a legal story. If
+    /// memory runs out, nothing changes; there is no other failure.
     pub fn tick(&mut self, round: u32) -> Result<(), NoMemory>
         requires { Begins self.old.remote_as (self.old.lines ++ Tick round ∷ []) }
         ensures ok { OnOk result (self.new ≡ record self.old { lines = self.old.lines ++ Tick round ∷ [] }) }
@@ -180,8 +181,8 @@ impl Story {
         }
     }
 
-    /// Adds a line and, where there is one, the message that is put in answer to it, where the lines with
-    /// both begin a legal story. If memory runs out, nothing changes; there is no other failure.
+    /// Adds a line and, if there is one, the message that is put in answer to it. The lines with both
+    /// have to begin a legal story. If memory runs out, nothing changes; there is no other failure.
     pub fn add(&mut self, line: Line, answer: Option<Message>) -> Result<(), NoMemory>
         requires { Begins self.old.remote_as (self.old.lines ++ line ∷ answered answer) }
         ensures ok { OnOk result (self.new ≡ record self.old { lines = self.old.lines ++ line ∷ answered answer }) }
@@ -197,14 +198,14 @@ impl Story {
         Ok(())
     }
 
-    /// The state of the session.
+    /// Returns the state of the session.
     pub fn state(&self) -> SessionState
         ensures { result ≡ state_of self.now.lines }
     {
         self.state
     }
 
-    /// The lines in order. They begin a legal story.
+    /// Returns the lines in order. They begin a legal story.
     pub fn lines(&self) -> &[Line]
         ensures lines { result.now ≡ self.now.lines }
         ensures legal { Begins self.now.remote_as self.now.lines }
@@ -212,7 +213,7 @@ impl Story {
         &self.lines
     }
 
-    /// The AS of the remote.
+    /// Returns the AS of the remote.
     pub fn remote_as(&self) -> u32
         ensures { result ≡ self.now.remote_as }
     {

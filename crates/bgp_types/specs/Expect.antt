@@ -1,4 +1,4 @@
--- What a session takes: the type in its state, and the AS of the remote.
+-- What a session accepts: the type of a message in its state, and the AS of the remote.
 use Rattle.std.specs.Prelude.{◌≡◌, ℕ, List, Bool, true, if◌then◌else◌}
 use Rattle.bgp_types.specs.declared.fault.Expected.{Expected}
 use Rattle.bgp_types.specs.declared.message.Cap.{Cap}
@@ -8,7 +8,7 @@ use Rattle.bgp_types.specs.FirstFault.{is_in_state}
 use Rattle.bgp_types.specs.OpenBody.{as_said, is_said, is_field}
 use Rattle.bgp_types.specs.Spelling.{kind_of}
 
--- Where four-octet AS numbers are offered, a capability may say the AS; else the field has it.
+-- Where four-octet AS numbers are offered, a capability may give the AS; else the field has it.
 abbrev pub is_remote_as : Expected → ℕ → List Cap → Bool
 is_remote_as expected field caps = if expected.offered then is_said expected.remote_as field (as_said caps) else is_field expected.remote_as field
 

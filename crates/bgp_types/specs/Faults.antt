@@ -1,4 +1,4 @@
--- What each attribute says, or its fault (RFC 4271, section 6.3).
+-- What each attribute gives, or its fault (RFC 4271, section 6.3).
 use Rattle.std.specs.Prelude.{ℕ, ◌+◌, ◌==◌, List, [], ◌∷◌, ◌++◌, length, take, drop, get_or, Option, Some, None, Result, Ok, Err, Bool, not, bit_and, if◌then◌else◌, is_some}
 use Rattle.std.specs.Int.{w32, from_be_bytes, byte_len}
 use Rattle.bgp_types.specs.declared.attrs.Aggregator.{Aggregator}
@@ -31,7 +31,7 @@ abbrev pub or_fault : {A : Type 0} → Option A → Notice → Result A Notice
 or_fault (Some x) n = Ok x
 or_fault None n = Err n
 
--- the optional and transitive flags are these, and then the rest is as it is
+-- a fault if the optional and transitive flags aren't these, else the given result
 abbrev pub with_flags : {A : Type 0} → ℕ → WireAttr → Result A Notice → Result A Notice
 with_flags mode a read = if bit_and a.flags 192 == mode then read else Err (about 4 (attr_octets a))
 
@@ -74,15 +74,14 @@ aggregator_of wide a =
 unfoldable pub aggregator_in : Bool → WireAttr → Result Aggregator Notice
 aggregator_in wide a = with_flags 192 a (with_size (byte_len (as_width wide) + 4) a (Ok (aggregator_of wide a)))
 
--- an attribute of an unknown type, which is kept where it is transitive
+-- an attribute of an unknown type, which is kept if it is transitive
 abbrev pub kept_raw : WireAttr → Option RawAttr
 kept_raw a = if is_transitive a then Some (record { kind = a.kind; partial = is_partial a; bytes = a.value }) else None
 
 unfoldable pub other_in : WireAttr → Result (Option RawAttr) Notice
 other_in a = if bit_and a.flags 128 == 0 then Err (about 2 (attr_octets a)) else Ok (kept_raw a)
 
--- the tests of one attribute by itself: LOCAL_PREF (type 5) has none, AS4_PATH and AS4_AGGREGATOR
--- (types 17 and 18) have those of an unknown type
+-- the checks of one attribute by itself: LOCAL_PREF (type 5) has none, AS4_PATH and AS4_AGGREGATOR (types 17 and 18) have those of an unknown type
 unfoldable pub own_fault : Bool → WireAttr → Option Notice
 own_fault wide a =
     if a.kind == 1 then fault_in (origin_in a)
@@ -99,7 +98,7 @@ abbrev pub attr_of : ℕ → List WireAttr → Option WireAttr
 attr_of kind [] = None
 attr_of kind (a ∷ others) = if a.kind == kind then Some a else attr_of kind others
 
--- those before it have no attribute of its type, and it has no fault of its own
+-- the fault of an attribute behind these: its type is one of theirs, or it has a fault of its own
 abbrev pub fault_after : Bool → List WireAttr → WireAttr → Option Notice
 fault_after wide before a = if is_some (attr_of a.kind before) then Some (bare 1) else own_fault wide a
 
@@ -107,7 +106,7 @@ abbrev pub first_of : Option Notice → Option Notice → Option Notice
 first_of (Some n) later = Some n
 first_of None later = later
 
--- the attributes from left to right; in the end bytes may be left that are no whole attribute
+-- the first fault of the attributes from left to right; octets left at the end that are no whole attribute are one
 unfoldable pub attrs_fault : Bool → List WireAttr → List WireAttr → List ℕ → Option Notice
 attrs_fault wide before [] [] = None
 attrs_fault wide before [] (octet ∷ rest) = Some (bare 1)

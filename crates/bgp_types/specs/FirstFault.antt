@@ -42,7 +42,7 @@ body_of expected kind body =
     else if kind == 3 then Ok (messages.NoticeMsg (notice_of body))
     else Ok messages.KeepaliveMsg
 
--- a type that the state doesn't take
+-- the fault of a type that the state doesn't accept
 abbrev pub state_fault : Notice
 state_fault = record { code = 5; subcode = 0; info = [] }
 

@@ -1,4 +1,4 @@
--- What a field of attributes says.
+-- What a field of attributes gives.
 use Rattle.std.specs.Prelude.{ℕ, ◌==◌, List, [], ◌∷◌, length, Option, Some, None, Result, Ok, Err, Bool, true, is_some, ◌&&◌, if◌then◌else◌}
 use Rattle.bgp_types.specs.declared.attrs.Aggregator.{Aggregator}
 use Rattle.bgp_types.specs.declared.attrs.RawAttr.{RawAttr}
@@ -17,7 +17,7 @@ abbrev pub said : {A : Type 0} → (WireAttr → Result A Notice) → Option Wir
 said read None = None
 said read (Some a) = ok_in (read a)
 
--- a path that isn't empty
+-- a path, unless it is empty
 abbrev pub if_some_part : Option (List PathPart) → Option (List PathPart)
 if_some_part None = None
 if_some_part (Some []) = None
@@ -33,7 +33,7 @@ abbrev pub as4_aggregator_in : Option WireAttr → Option Aggregator
 as4_aggregator_in None = None
 as4_aggregator_in (Some a) = if is_transitive a && (length a.value == 8) then Some (aggregator_of true a) else None
 
--- in a wide UPDATE neither counts
+-- nothing in a wide UPDATE, where AS4 attributes don't count
 abbrev pub unless_wide : {A : Type 0} → Bool → Option A → Option A
 unless_wide wide said = if wide then None else said
 
@@ -41,7 +41,7 @@ abbrev pub join : Option RawAttr → List RawAttr → List RawAttr
 join None others = others
 join (Some a) others = a ∷ others
 
--- those of an unknown type that are kept
+-- the attributes of unknown types that are kept
 abbrev pub kept : List WireAttr → List RawAttr
 kept [] = []
 kept (a ∷ others) = if is_other a.kind then join (kept_raw a) (kept others) else kept others
@@ -65,6 +65,6 @@ abbrev pub unless : {A : Type 0} → Option Notice → A → Result A Notice
 unless None x = Ok x
 unless (Some n) x = Err n
 
--- the field is cut into attributes; the first fault, or what they say
+-- the field, cut into attributes: their first fault, or what they give
 unfoldable pub attrs_in : Bool → List ℕ → Result FoundAttrs Notice
 attrs_in wide bytes = unless (attrs_fault wide [] (many attr_at bytes).0 (many attr_at bytes).1) (found_in wide (many attr_at bytes).0)

@@ -1,4 +1,4 @@
--- How many octets parts of a message are written in.
+-- The number of octets in which parts of a message are written.
 use Rattle.std.specs.Prelude.{ℕ, ◌+◌, List, length, sum_by, Bool, nat_lt, if◌then◌else◌}
 use Rattle.bgp_types.specs.declared.message.Cap.{Cap}
 use Rattle.bgp_types.specs.declared.path.PathPart.{PathPart}
@@ -16,7 +16,7 @@ part_size wide part = length (part_octets wide part)
 abbrev pub cap_size : Cap → ℕ
 cap_size cap = length (param_octets (cap_octets cap))
 
--- an attribute whose value has so many octets
+-- the length of an attribute whose value has this many octets
 abbrev pub attr_size_of : ℕ → ℕ
 attr_size_of value = if nat_lt 255 value then value + 4 else value + 3
 

@@ -1,5 +1,5 @@
--- Things that stand one after another in bytes. A reader of one thing gives the thing at the front
--- and the bytes after it, or nothing where no whole thing stands there.
+-- Things that stand one after another in bytes. A reader of one thing gives the thing at the front and the bytes after it, or nothing where the front
+-- isn't a whole thing.
 use Rattle.std.specs.Prelude.{ℕ, zero, suc, List, [], ◌∷◌, length, take, drop, Option, Some, None, nat_lt, if◌then◌else◌}
 use Rattle.std.specs.Int.{Width, byte_len, from_be_bytes}
 
@@ -16,7 +16,7 @@ many_within one (suc n) bytes = one_more (one bytes) bytes (many_within one n)
 unfoldable pub many : {A : Type 0} → (List ℕ → Option (A × List ℕ)) → List ℕ → List A × List ℕ
 many one bytes = many_within one (length bytes) bytes
 
--- the things, where they are all of the bytes
+-- the things, if they are all of the bytes
 abbrev pub if_whole : {A : Type 0} → List A → List ℕ → Option (List A)
 if_whole xs [] = Some xs
 if_whole xs (b ∷ rest) = None
@@ -28,7 +28,7 @@ all_of one bytes = if_whole (many one bytes).0 (many one bytes).1
 abbrev pub number_at : Width → List ℕ → Option (ℕ × List ℕ)
 number_at w bytes = if nat_lt (length bytes) (byte_len w) then None else Some (from_be_bytes w (take (byte_len w) bytes), drop (byte_len w) bytes)
 
--- as many octets as a number in front of them says
+-- as many octets as the number in front of them gives
 abbrev pub told_at : Option (ℕ × List ℕ) → Option (List ℕ × List ℕ)
 told_at None = None
 told_at (Some n) = if nat_lt (length n.1) n.0 then None else Some (take n.0 n.1, drop n.0 n.1)

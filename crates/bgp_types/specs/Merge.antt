@@ -10,12 +10,12 @@ abbrev pub lead_part : ℕ → PathPart → PathPart
 lead_part count (Set ases) = Set ases
 lead_part count (Sequence ases) = Sequence (take count ases)
 
--- so many leading ASes, as parts from the left, of which the last is cut if it is a sequence
+-- the first n ASes, as parts from the left; the last one is cut if it is a sequence
 abbrev pub lead : ℕ → List PathPart → List PathPart
 lead count [] = []
 lead count (part ∷ path) = if count == 0 then [] else lead_part count part ∷ lead (count - part_count part) path
 
--- two sequences that meet become one where they have at most 255 ASes together
+-- two sequences that meet become one if they have at most 255 ASes together
 abbrev pub join_parts : PathPart → PathPart → List PathPart
 join_parts (Sequence xs) (Sequence ys) = if nat_le (length xs + length ys) 255 then Sequence (xs ++ ys) ∷ [] else Sequence xs ∷ Sequence ys ∷ []
 join_parts (Set xs) part = Set xs ∷ part ∷ []
@@ -30,17 +30,17 @@ abbrev pub meet : List PathPart → List PathPart → List PathPart
 meet front [] = front
 meet front (part ∷ path) = push_joined front part ++ path
 
--- AS4_PATH stands for the end of AS_PATH, unless it counts more
+-- AS4_PATH replaces the end of AS_PATH, unless it counts more ASes
 unfoldable pub merged_path : List PathPart → List PathPart → List PathPart
 merged_path path as4_path = if nat_lt (path_count path) (path_count as4_path) then path else meet (lead (path_count path - path_count as4_path) path) as4_path
 
--- AS4_AGGREGATOR's values, where AGGREGATOR has AS_TRANS, 23456
+-- AS4_AGGREGATOR's values, if AGGREGATOR has AS_TRANS, 23456
 abbrev pub merged_aggregator : Option Aggregator → Option Aggregator → Option Aggregator
 merged_aggregator None as4 = None
 merged_aggregator (Some a) None = Some a
 merged_aggregator (Some a) (Some b) = if a.as_number == 23456 then Some (record a { as_number = b.as_number; address = b.address }) else Some a
 
--- AGGREGATOR has another AS though AS4_AGGREGATOR is there: then neither AS4 attribute counts
+-- AS4_AGGREGATOR is present but AGGREGATOR has an AS other than AS_TRANS: then neither AS4 attribute counts
 abbrev pub is_stale : Option Aggregator → Option Aggregator → Bool
 is_stale (Some a) (Some b) = not (a.as_number == 23456)
 is_stale _ _ = false

@@ -9,7 +9,7 @@ use Rattle.bgp_types.specs.Many.{all_of}
 use Rattle.bgp_types.specs.PathOctets.{narrow_as}
 use Rattle.bgp_types.specs.Values.{is_no_host, is_short_hold}
 
--- a type or code of one octet, a length of one octet, and so many octets: a parameter or a capability
+-- a parameter or a capability: a type or code of one octet, a length of one octet, and a value of that length
 unfoldable pub cap_at : List ℕ → Option (Cap × List ℕ)
 cap_at [] = None
 cap_at (code ∷ []) = None
@@ -24,12 +24,12 @@ with_caps None later = Err (open_fault 0)
 with_caps (Some caps) (Err n) = Err n
 with_caps (Some caps) (Ok later) = Ok (caps ++ later)
 
--- the capabilities of the parameters, from left to right: each parameter is of type 2 and is capabilities
+-- the capabilities of the parameters, from left to right: each parameter has type 2 and holds capabilities
 unfoldable pub caps_of : List Cap → Result (List Cap) Notice
 caps_of [] = Ok []
 caps_of (param ∷ params) = if param.code == 2 then with_caps (all_of cap_at param.bytes) (caps_of params) else Err (open_fault 4)
 
--- the parameters, whose length is told; nothing where it is told wrongly or one runs past the end
+-- the parameters behind their length; nothing where the length is wrong or a parameter runs past the end
 unfoldable pub params_of : List ℕ → Option (List Cap)
 params_of [] = None
 params_of (size ∷ params) = if length params == size then all_of cap_at params else None
@@ -38,12 +38,12 @@ abbrev pub with_params : Option (List Cap) → Result (List Cap) Notice
 with_params None = Err (open_fault 0)
 with_params (Some params) = caps_of params
 
--- the first AS that a capability of four-octet AS numbers says; one of another length counts as absent
+-- the first AS that a capability of four-octet AS numbers gives; a capability of another length counts as absent
 abbrev pub as_said : List Cap → Option ℕ
 as_said [] = None
 as_said (cap ∷ caps) = if (cap.code == 65) && (length cap.bytes == 4) then Some (from_be_bytes w32 cap.bytes) else as_said caps
 
--- the field is the AS, or AS_TRANS where two octets don't hold it
+-- whether the field is the AS, or AS_TRANS where the AS doesn't fit into two octets
 abbrev pub is_field : ℕ → ℕ → Bool
 is_field remote_as field = field == narrow_as remote_as
 
@@ -67,17 +67,17 @@ identifier_in body = from_be_bytes w32 (take 4 (drop 5 body))
 abbrev pub open_with : List ℕ → List Cap → OpenMsg
 open_with body caps = record { as_number = as_in body; hold = hold_in body; identifier = identifier_in body; caps = caps }
 
--- a test of an OPEN, and what comes after it
+-- the fault if the check fails, else what comes after it
 abbrev pub unless_fault : {A : Type 0} → Bool → Notice → Result A Notice → Result A Notice
 unless_fault fails n later = if fails then Err n else later
 
--- the last test: where four-octet AS numbers are offered, the AS that the OPEN says
+-- the last check: where four-octet AS numbers are offered, the AS that the OPEN gives
 abbrev pub with_said : Expected → List ℕ → Result (List Cap) Notice → Result OpenMsg Notice
 with_said expected body (Err n) = Err n
 with_said expected body (Ok caps) =
     unless_fault (expected.offered && not (is_said expected.remote_as (as_in body) (as_said caps))) (open_fault 2) (Ok (open_with body caps))
 
--- the OPEN of a body, or the first fault
+-- the OPEN of a body, or its first fault
 unfoldable pub open_of : Expected → List ℕ → Result OpenMsg Notice
 open_of expected body =
     unless_fault (not (version_in body == 4)) (record { code = 2; subcode = 1; info = 0 ∷ 4 ∷ [] })

@@ -11,7 +11,7 @@ use Rattle.bgp_types.specs.Paths.{ases_of}
 abbrev pub as_width : Bool → Width
 as_width wide = if wide then w32 else w16
 
--- a part: its kind, how many ASes it has, and these
+-- a part: its kind, the number of its ASes, and the ASes
 abbrev pub part_octets : Bool → PathPart → List ℕ
 part_octets wide (Set ases) = 1 ∷ length ases ∷ flat_map (to_be_bytes (as_width wide)) ases
 part_octets wide (Sequence ases) = 2 ∷ length ases ∷ flat_map (to_be_bytes (as_width wide)) ases
@@ -19,7 +19,7 @@ part_octets wide (Sequence ases) = 2 ∷ length ases ∷ flat_map (to_be_bytes (
 unfoldable pub path_octets : Bool → List PathPart → List ℕ
 path_octets wide path = flat_map (part_octets wide) path
 
--- an AS that two octets don't hold
+-- an AS that doesn't fit into two octets
 abbrev pub is_long_as : ℕ → Bool
 is_long_as as_number = nat_lt 65535 as_number
 
@@ -31,7 +31,7 @@ abbrev pub narrow_part : PathPart → PathPart
 narrow_part (Set ases) = Set (map narrow_as ases)
 narrow_part (Sequence ases) = Sequence (map narrow_as ases)
 
--- the path that AS_PATH has: in a narrow message each AS as two octets can hold it
+-- the path that AS_PATH has: in a narrow message each AS as it fits into two octets
 abbrev pub path_in_width : Bool → List PathPart → List PathPart
 path_in_width wide path = if wide then path else map narrow_part path
 
@@ -41,7 +41,7 @@ has_long_as path = list_any (λ part. list_any is_long_as (ases_of part)) path
 
 -- ---- reading
 
--- count numbers of a width, of bytes that have them
+-- the first count numbers of a width in bytes
 abbrev pub numbers : Width → ℕ → List ℕ → List ℕ
 numbers w zero bytes = []
 numbers w (suc n) bytes = from_be_bytes w (take (byte_len w) bytes) ∷ numbers w n (drop (byte_len w) bytes)

@@ -20,6 +20,6 @@ abbrev pub ases_of : PathPart → List ℕ
 ases_of (Set ases) = ases
 ases_of (Sequence ases) = ases
 
--- the AS stands in some part of the path
+-- the AS is in some part of the path
 abbrev pub HoldsAs : List PathPart → ℕ → Type 0
 HoldsAs path as_number = Any (λ part. Contains (ases_of part) as_number) path

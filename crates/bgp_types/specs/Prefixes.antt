@@ -19,7 +19,7 @@ cleared len address = address / 2 ^ (32 - len) * 2 ^ (32 - len)
 abbrev pub prefix_of : ℕ → ℕ → PrefixValue
 prefix_of len address = record { address = cleared len address; len = len }
 
--- an address of 32 bits of which none past the length is set
+-- an address of 32 bits in which no bit past the length is set
 pub record IsPrefix (p : PrefixValue) : Type 0 where
   pub len : p.len ≤ 32
   pub address : p.address < 2 ^ 32
@@ -30,11 +30,11 @@ pub record Covers (p q : PrefixValue) : Type 0 where
   pub shorter : p.len ≤ q.len
   pub front : cleared p.len q.address ≡ p.address
 
--- how many octets hold so many bits
+-- how many octets hold this many bits
 abbrev pub octets_for : ℕ → ℕ
 octets_for len = (len + 7) / 8
 
--- a prefix as it is written: its length, and the fewest octets that hold so many bits
+-- a prefix as it is written: its length, and the fewest octets that hold that many bits
 abbrev pub prefix_octets : PrefixValue → List ℕ
 prefix_octets p = p.len ∷ take (octets_for p.len) (to_be_bytes w32 p.address)
 
@@ -49,7 +49,7 @@ pub record WirePrefix : Type 0 where
   pub len : ℕ
   pub octets : List ℕ
 
--- The length is at most 32, and there are the fewest octets that hold so many bits.
+-- The length is at most 32, and the octets are the fewest that hold that many bits.
 pub record IsWirePrefix (p : WirePrefix) : Type 0 where
   pub len : p.len ≤ 32
   pub octets : length p.octets ≡ octets_for p.len
@@ -57,7 +57,7 @@ pub record IsWirePrefix (p : WirePrefix) : Type 0 where
 abbrev pub wire_octets : WirePrefix → List ℕ
 wire_octets p = p.len ∷ p.octets
 
--- bits past the length don't matter
+-- the prefix that it gives; bits past the length don't matter
 abbrev pub prefix_said : WirePrefix → PrefixValue
 prefix_said p = prefix_of p.len (address_of p.octets)
 
@@ -74,12 +74,12 @@ same_prefix p q = (p.address == q.address) && (p.len == q.len)
 abbrev pub put_once : List PrefixValue → PrefixValue → List PrefixValue
 put_once seen p = if list_any (same_prefix p) seen then seen else seen ++ p ∷ []
 
--- each prefix counts once, at its first place
+-- the prefixes that aren't in the first list, each at its first place only
 abbrev pub once_after : List PrefixValue → List PrefixValue → List PrefixValue
 once_after seen [] = seen
 once_after seen (p ∷ prefixes) = once_after (put_once seen p) prefixes
 
--- where a prefix stands first in a list
+-- the first place of a prefix in a list
 abbrev pub first_place : List PrefixValue → PrefixValue → ℕ
 first_place prefixes p = position_or_len (same_prefix p) prefixes
 

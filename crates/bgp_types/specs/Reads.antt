@@ -28,12 +28,12 @@ pub record ReadsPrefixes (field : List ℕ) (prefixes : List PrefixValue) : Type
 
 -- ---- attributes
 
--- no two members have one number
+-- no two members have the same number
 abbrev pub Differ : {A : Type 0} → (A → ℕ) → List A → Type 0
 Differ key [] = Unit {0}
 Differ key (x ∷ xs) = AllByRecursion (λ y. key y ≢ key x) xs × Differ key xs
 
--- each attribute is sound, no two are of one type, and this is what they say
+-- each attribute is sound, no two have the same type, and this is what they give
 pub record ReadsAttrs (wide : Bool) (field : List ℕ) (found : FoundAttrs) : Type 0 where
   pub attrs : List WireAttr
   pub octets : field ≡ flat_map attr_octets attrs

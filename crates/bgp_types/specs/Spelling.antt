@@ -42,7 +42,7 @@ med_written (Some med) = written 128 4 (to_be_bytes w32 med) ∷ []
 abbrev pub atomic_written : Bool → List WireAttr
 atomic_written atomic = if atomic then written 64 6 [] ∷ [] else []
 
--- optional and transitive, and partial where it is so
+-- optional and transitive, and partial where the attribute is
 abbrev pub passed_flags : Bool → ℕ
 passed_flags partial = if partial then 224 else 192
 
@@ -53,11 +53,11 @@ abbrev pub aggregator_written : Bool → Option Aggregator → List WireAttr
 aggregator_written wide None = []
 aggregator_written wide (Some a) = written (passed_flags a.partial) 7 (aggregator_octets wide (if wide then a.as_number else narrow_as a.as_number) a.address) ∷ []
 
--- AS4_PATH with the whole path, in a narrow message whose path has an AS that two octets don't hold
+-- AS4_PATH with the whole path, in a narrow message whose path has an AS that doesn't fit into two octets
 abbrev pub as4_path_written : Bool → List PathPart → List WireAttr
 as4_path_written wide path = if not wide && has_long_as path then written 192 17 (path_octets true path) ∷ [] else []
 
--- AS4_AGGREGATOR likewise
+-- AS4_AGGREGATOR, in a narrow message whose aggregator has such an AS
 abbrev pub as4_aggregator_written : Bool → Option Aggregator → List WireAttr
 as4_aggregator_written wide None = []
 as4_aggregator_written wide (Some a) = if not wide && is_long_as a.as_number then written 192 18 (aggregator_octets true a.as_number a.address) ∷ [] else []
@@ -75,7 +75,7 @@ attrs_written wide a =
     ++ (as4_aggregator_written wide a.aggregator
     ++ map other_written a.unknown)))))
 
--- the attributes in rising type
+-- the attributes in ascending order of type
 unfoldable pub spell_attrs : Bool → Attrs → List ℕ
 spell_attrs wide a = flat_map attr_octets (in_rising wire_kind (attrs_written wide a))
 
@@ -128,7 +128,7 @@ spell_body KeepaliveMsg wide = []
 abbrev pub marker : List ℕ
 marker = 255 ∷ 255 ∷ 255 ∷ 255 ∷ 255 ∷ 255 ∷ 255 ∷ 255 ∷ 255 ∷ 255 ∷ 255 ∷ 255 ∷ 255 ∷ 255 ∷ 255 ∷ 255 ∷ []
 
--- a message of this type: the marker, the length of the whole, the type, and what follows
+-- a message of this type: the marker, the length of the whole message, the type, and the body
 abbrev pub framed : ℕ → List ℕ → List ℕ
 framed kind body = marker ++ (to_be_bytes w16 (19 + length body) ++ kind ∷ body)
 

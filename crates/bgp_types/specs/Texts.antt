@@ -1,4 +1,4 @@
--- Addresses and prefixes as texts.
+-- Addresses and prefixes as text.
 use Rattle.std.specs.Prelude.{◌≡◌, ◌≢◌, ℕ, ◌*◌, ◌^◌, ◌<◌, ◌≤◌, List, ◌++◌, codes, decimal, length, slice_index}
 use Rattle.std.specs.Int.{w32, to_be_bytes}
 use Rattle.std.specs.Net.Text.{ipv4_text}
@@ -33,7 +33,7 @@ IsHost address = (address ≢ 0) × (address < 224 * 2 ^ 24)
 abbrev pub IsLengthText : List ℕ → ℕ → Type 0
 IsLengthText text len = (len ≤ 32) × (text ≡ decimal len)
 
--- The text begins as a decimal without a sign or leading zeros does: with a digit, with 0 only where that is all.
+-- The text begins like a decimal without a sign or leading zeros: with a digit, and with 0 only where that is all.
 pub record BeginsPlainly (written : List ℕ) : Type 0 where
   pub some : 0 < length written
   pub digit_from : 48 ≤ slice_index written 0

@@ -26,7 +26,7 @@ abbrev pub with_withdrawn_field : Option (List ℕ × List ℕ) → Option Field
 with_withdrawn_field None = None
 with_withdrawn_field (Some w) = with_attrs_field w.0 (told_at (number_at w16 w.1))
 
--- two fields behind their lengths, and the rest; nothing where one runs past the end
+-- two fields behind their lengths, and the rest; nothing where a field runs past the end
 unfoldable pub fields_of : List ℕ → Option Fields
 fields_of body = with_withdrawn_field (told_at (number_at w16 body))
 
@@ -40,7 +40,7 @@ with_known (Some o) (Some p) (Some n) found = Ok (record { origin = o; path = p;
 unfoldable pub all_known : FoundAttrs → Result Attrs Notice
 all_known found = with_known found.origin found.path found.next_hop found
 
--- a prefix that is announced too isn't withdrawn
+-- the withdrawn prefixes without those that are announced too
 abbrev pub apart : List PrefixValue → List PrefixValue → List PrefixValue
 apart withdrawn nlri = filter (λ p. not (list_any (same_prefix p) nlri)) withdrawn
 
@@ -49,7 +49,7 @@ with_nlri withdrawn (Err n) nlri = Err n
 with_nlri withdrawn (Ok a) None = Err (bare 10)
 with_nlri withdrawn (Ok a) (Some nlri) = Ok (record { withdrawn = apart withdrawn nlri; attrs = Some a; nlri = nlri })
 
--- without announced prefixes the attributes are tested and then dropped
+-- without announced prefixes the attributes are checked and then dropped
 abbrev pub with_found : List PrefixValue → Result FoundAttrs Notice → List ℕ → Result Update Notice
 with_found withdrawn (Err n) nlri = Err n
 with_found withdrawn (Ok found) [] = Ok (record { withdrawn = withdrawn; attrs = None; nlri = [] })
@@ -63,6 +63,6 @@ abbrev pub with_fields : Bool → Option Fields → Result Update Notice
 with_fields wide None = Err (bare 1)
 with_fields wide (Some f) = with_withdrawn wide (prefixes_of f.withdrawn) f
 
--- the UPDATE of a body, or the first fault
+-- the UPDATE of a body, or its first fault
 unfoldable pub update_of : Bool → List ℕ → Result Update Notice
 update_of wide body = with_fields wide (fields_of body)

@@ -1,5 +1,4 @@
--- An attribute as it stands in its field: flags, type, a length of one octet or of two, and so many
--- octets (RFC 4271, section 4.3).
+-- An attribute as it stands in its field: flags, type, a length of one octet or of two, and a value of that length (RFC 4271, section 4.3).
 use Rattle.std.specs.Prelude.{◌<◌, [], Option, Some, None, ℕ, ◌+◌, ◌==◌, List, ◌∷◌, ◌++◌, length, bit_and, nat_lt, if◌then◌else◌}
 use Rattle.std.specs.Int.{Width, w8, w16, to_be_bytes}
 use Rattle.bgp_types.specs.Many.{number_at, told_at}
@@ -12,7 +11,7 @@ pub record WireAttr : Type 0 where
 abbrev pub wire_kind : WireAttr → ℕ
 wire_kind a = a.kind
 
--- the flag 10 (hexadecimal), extended length, makes the length two octets
+-- the flag 10 (hexadecimal), extended length, makes the length field two octets
 abbrev pub size_width : ℕ → Width
 size_width flags = if bit_and flags 16 == 0 then w8 else w16
 
@@ -20,14 +19,14 @@ size_width flags = if bit_and flags 16 == 0 then w8 else w16
 abbrev pub attr_octets : WireAttr → List ℕ
 attr_octets a = a.flags ∷ a.kind ∷ to_be_bytes (size_width a.flags) (length a.value) ++ a.value
 
--- as it is written: extended length only where the value has more than 255 octets
+-- an attribute as it is written: extended length only where the value has more than 255 octets
 abbrev pub written : ℕ → ℕ → List ℕ → WireAttr
 written flags kind value = record { flags = if nat_lt 255 (length value) then flags + 16 else flags; kind = kind; value = value }
 
 abbrev pub size_limit : ℕ → ℕ
 size_limit flags = if bit_and flags 16 == 0 then 256 else 65536
 
--- its octets say it
+-- its numbers fit into their octets, and its length is that of the value
 pub record IsWireAttr (a : WireAttr) : Type 0 where
   pub flags : a.flags < 256
   pub kind : a.kind < 256

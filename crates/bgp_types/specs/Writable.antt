@@ -1,4 +1,4 @@
--- Which messages have a written form that is read back (RFC 4271, section 4).
+-- Which messages have a written form that reads back as themselves (RFC 4271, section 4).
 use Rattle.std.specs.Prelude.{◌≡◌, ◌≢◌, ◌^◌, ◌<◌, ◌≤◌, List, [], ◌++◌, length, Option, Some, None, IfSome, All, Bool, true, false}
 use Rattle.std.specs.List.{flat_map, IsDistinct}
 use Rattle.bgp_types.specs.declared.attrs.Aggregator.{Aggregator}
@@ -45,12 +45,12 @@ pub record IsWritableOpen (o : open_type.OpenMsg) : Type 0 where
   pub identifier : is_no_host o.identifier ≡ false
   pub params : length (flat_map (λ cap. param_octets (cap_octets cap)) o.caps) < 256
 
--- there are attributes exactly where prefixes are announced
+-- attributes are present if and only if prefixes are announced
 abbrev pub HasAttrsFor : Option Attrs → List PrefixValue → Type 0
 HasAttrsFor None nlri = nlri ≡ []
 HasAttrsFor (Some a) nlri = (nlri ≢ []) × IsWritableAttrs a
 
--- No prefix stands twice, in one list or in both.
+-- No prefix occurs twice, in one list or in both.
 pub record IsWritableUpdate (u : Update) : Type 0 where
   pub withdrawn : All IsPrefix u.withdrawn
   pub nlri : All IsPrefix u.nlri

@@ -8,24 +8,24 @@ ghost use Rattle.bgp_types.specs.Paths.{ases_of};
 
 use crate::path::PathPart;
 
-/// AS_TRANS, which stands for an AS that two octets don't hold (RFC 6793, section 9).
+/// AS_TRANS, which stands in two octets for an AS that needs four (RFC 6793, section 9).
 pub const AS_TRANS: u16 = 23456;
 
-/// How many octets an AS has: four where the message is wide, else two.
+/// Returns the number of octets of an AS: four where the message is wide, else two.
 pub fn as_size(wide: bool) -> usize
     ensures { result ≡ byte_len (as_width wide) }
 {
     if wide { 4 } else { 2 }
 }
 
-/// Whether two octets don't hold the AS.
+/// Whether the AS doesn't fit into two octets.
 pub fn is_long_as(as_number: u32) -> bool
     ensures { result ≡ is_long_as as_number }
 {
     as_number > u32::from(u16::MAX)
 }
 
-/// The AS in two octets: AS_TRANS where they don't hold it.
+/// Returns the AS in two octets: AS_TRANS where it doesn't fit.
 pub fn narrow_as(as_number: u32) -> u16
     ensures { result ≡ narrow_as as_number }
 {

@@ -3,7 +3,7 @@
 use crate::path::AsPath;
 use graft_edge::{Items, NoMemory, Octets, TryCopy};
 
-/// How a route came into BGP.
+/// How a route came into BGP: the value of ORIGIN.
 #[derive(Clone, Copy, Debug, PartialEq, Eq, PartialOrd, Ord, Hash)]
 pub enum Origin {
     Igp,
@@ -19,7 +19,7 @@ pub struct Aggregator {
     pub partial: bool,
 }
 
-/// An optional transitive attribute of a type that isn't known here, which passes on.
+/// An optional transitive attribute of an unknown type, which is passed on.
 #[derive(Debug, Drop, PartialEq, Eq)]
 pub struct RawAttr {
     pub kind: u8,
@@ -27,10 +27,10 @@ pub struct RawAttr {
     pub bytes: Octets,
 }
 
-/// Attributes of unknown types, in rising type.
+/// Attributes of unknown types, in ascending order of type.
 pub type RawAttrs = Items<RawAttr>;
 
-/// The attributes of a route as BGP tells it.
+/// The path attributes of a route as an UPDATE has them.
 #[derive(Debug, Drop, PartialEq, Eq)]
 pub struct Attrs {
     pub origin: Origin,

@@ -4,8 +4,8 @@ use crate::attrs::{Aggregator, Origin, RawAttrs};
 use crate::message::SessionState;
 use crate::path::AsPath;
 
-/// What is wrong with a header: the marker isn't all ones, or the length that it says or the type
-/// isn't one that a message can have.
+/// What is wrong with a header: the marker isn't all ones, or no message has the length or the type
+/// that it gives.
 #[derive(Clone, Copy, Debug, PartialEq, Eq, Hash)]
 pub enum HeaderFault {
     NotSynchronized,
@@ -13,7 +13,7 @@ pub enum HeaderFault {
     BadType(u8),
 }
 
-/// What a message is tested against: the session's state, the remote's AS, whether the home side
+/// What a message is checked against: the session's state, the remote's AS, whether the home side
 /// offered four-octet AS numbers, and whether the session uses them.
 #[derive(Clone, Copy, Debug, PartialEq, Eq, Hash)]
 pub struct Expected {
@@ -23,7 +23,7 @@ pub struct Expected {
     pub wide: bool,
 }
 
-/// The attributes of an UPDATE, each where it is there.
+/// The attributes of an UPDATE, each where it is present.
 #[derive(Debug, Drop)]
 pub struct FoundAttrs {
     pub origin: Option<Origin>,

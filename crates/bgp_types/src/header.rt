@@ -7,10 +7,10 @@ ghost use Rattle.bgp_types.specs.Header.{header_fault, len_in, fault_of_kind};
 use crate::fault::HeaderFault;
 use byteorder::{BigEndian, ByteOrder};
 
-/// The octets of a header: a marker of 16, a length of two, and a type.
+/// The length of a header in octets: a marker of 16, a length of two, and a type of one.
 pub const HEADER: usize = 19;
 
-/// The length that a header says: the octets of the whole message.
+/// Returns the length field of a header: the octets of the whole message.
 pub fn header_len(octets: &[u8]) -> u16
     requires { 19 ≤ length octets.now }
     ensures { result ≡ len_in octets.now }
@@ -18,7 +18,7 @@ pub fn header_len(octets: &[u8]) -> u16
     BigEndian::read_u16(&octets[16..18])
 }
 
-/// Why no message of this type has this length.
+/// Returns the fault of a header with this type and this length, if it has one.
 fn fault_of_kind(kind: u8, len: u16) -> Option<HeaderFault>
     ensures { result ≡ fault_of_kind kind len }
 {
@@ -39,15 +39,15 @@ fn fault_of_kind(kind: u8, len: u16) -> Option<HeaderFault>
     }
 }
 
-/// Whether the octets of a marker are all ones.
+/// Whether a marker is all ones.
 fn is_marker(octets: &[u8]) -> bool
     ensures { result ≡ list_all (λ octet. octet == 255) octets.now }
 {
     octets.iter().all(|octet| *octet == 0xFF)
 }
 
-/// The first fault of a header: its marker, its length, its type, and then the least length of a
-/// message of that type. The octets may go on behind the header.
+/// Returns the first fault of a header, if it has one. The marker is checked first, then the length,
+/// the type, and the least length of a message of that type. The octets may go on behind the header.
 #[tactic(auto, unfolding(crate::specs::Header::header_fault))]
 pub fn header_fault(octets: &[u8]) -> Option<HeaderFault>
     requires { 19 ≤ length octets.now }

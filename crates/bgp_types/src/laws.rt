@@ -19,7 +19,7 @@ ghost use Rattle.bgp_types.specs.Writable.{IsWritable};
 
 use crate::{attrs, message};
 
-/// Attributes, routes and messages are equal by `==` exactly where they are the same.
+/// Attributes, routes and messages are equal by `==` if and only if they are the same.
 pub fn equal_is_same()
     ensures attrs { (a : Attrs) (b : Attrs) → IsTrue (⟦<attrs::Attrs as PartialEq>⟧.eq a b) ↔ (a ≡ b) }
     ensures route { (a : Route) (b : Route) → IsTrue (⟦<attrs::Route as PartialEq>⟧.eq a b) ↔ (a ≡ b) }
@@ -36,29 +36,29 @@ pub fn printed_prefix_reads()
     ensures { (p q : PrefixValue) → IsPrefix p → IsPrefixText (prefix_text p) q ↔ (q ≡ p) }
 {}
 
-/// One list has the members of another, each once, in the order of their first places: that in which
-/// each member that was there before is left out.
+/// The list that keeps each prefix at its first place only is the one list with the same members, each
+/// once, in the order of their first places.
 pub fn each_prefix_once()
     ensures { (prefixes : List PrefixValue) (once : List PrefixValue) → (once ≡ once_after [] prefixes) ↔ EachOnce prefixes once }
 {}
 
-/// A frame reads as at most one message in a width.
+/// A frame reads as at most one message in a given width of AS numbers.
 pub fn reads_once()
     ensures { (frame : List ℕ) (one : Message) (other : Message) (wide : Bool) → Reads frame one wide → Reads frame other wide → one ≡ other }
 {}
 
-/// Octets are a whole frame with a sound header, from which a session takes a message, exactly where
-/// they read as that message in the session's width and the session expects it.
+/// A session takes a message from octets that are a whole frame with a sound header if and only if they
+/// read as that message in the session's width of AS numbers and the session expects it.
 pub fn reads_exactly()
     ensures { (frame : List ℕ) (expected : Expected) (message : Message) → AreOctets frame → ((frame_at frame ≡ Some (frame, [])) × (message_of expected frame ≡ Ok message)) ↔ (Reads frame message expected.wide × IsExpected expected message) }
 {}
 
-/// A message that is writable in a width has a written form that reads as itself.
+/// A message that is writable in a width of AS numbers has a written form that reads as itself.
 pub fn written_reads()
     ensures { (message : Message) (wide : Bool) → IsWritable message wide → Reads (spell message wide) message wide }
 {}
 
-/// The NOTIFICATION that answers a fault is writable in both widths: its data has room.
+/// The NOTIFICATION that answers a fault is writable in both widths of AS numbers: its data fits.
 pub fn fault_is_writable()
     ensures { (frame : List ℕ) (expected : Expected) (notice : Notice) (wide : Bool) → first_fault frame expected ≡ Some notice → IsWritable (NoticeMsg notice) wide }
 {}

@@ -1,4 +1,4 @@
-//! How many octets a message is written in (RFC 4271, section 4; RFC 6793, section 4).
+//! The number of octets in which a message is written (RFC 4271, section 4; RFC 6793, section 4).
 
 ghost use Rattle.std.specs.Prelude.{◌≡◌, ◌+◌, ◌-◌, ◌*◌, ◌^◌, length, min, sum_by, if◌then◌else◌};
 ghost use Rattle.std.specs.List.{list_any};
@@ -14,22 +14,22 @@ use crate::message::{Cap, Message, Update};
 use crate::path::PathPart;
 use crate::prefix::Prefix;
 
-/// The octets of an OPEN from its version to the length of its parameters.
+/// The length of an OPEN's fields from its version to the length of its parameters.
 const OPEN_FIELDS: usize = 10;
 
-/// The octets of an ORIGIN and of a NEXT_HOP.
+/// The length of an ORIGIN and a NEXT_HOP together.
 const ORIGIN_AND_NEXT_HOP: usize = 11;
 
-/// The octets of a MULTI_EXIT_DISC.
+/// The length of a MULTI_EXIT_DISC.
 const MED: usize = 7;
 
-/// The octets of an ATOMIC_AGGREGATE.
+/// The length of an ATOMIC_AGGREGATE.
 const ATOMIC: usize = 3;
 
-/// The octets of an AGGREGATOR with an AS of four octets, and of an AS4_AGGREGATOR.
+/// The length of an AGGREGATOR with an AS of four octets, and of an AS4_AGGREGATOR.
 const LONG_AGGREGATOR: usize = 11;
 
-/// The octets of an AGGREGATOR with an AS of two octets.
+/// The length of an AGGREGATOR with an AS of two octets.
 const SHORT_AGGREGATOR: usize = 9;
 
 fn prefix_len(prefix: &Prefix) -> usize
@@ -49,7 +49,7 @@ fn prefixes_len(prefixes: &[Prefix]) -> usize
     octets
 }
 
-/// How many ASes a part has.
+/// Returns the number of ASes in a part.
 fn ases_in(part: &PathPart) -> usize
     ensures { result ≡ length (ases_of part.now) }
 {
@@ -59,7 +59,7 @@ fn ases_in(part: &PathPart) -> usize
     }
 }
 
-/// A part of a path: its kind, its count, and its ASes.
+/// Returns the length of a part of a path: its kind, its count, and its ASes.
 #[tactic(auto, using(crate::proofs::Lengths::part_size_is))]
 fn part_len(part: &PathPart, wide: bool) -> usize
     ensures { result ≡ min (part_size wide part.now) (2 ^ 64 - 1) }
@@ -79,15 +79,15 @@ fn parts_len(parts: &[PathPart], wide: bool) -> usize
     octets
 }
 
-/// An attribute whose value has so many octets: flags, type, and a length of one octet, or of two
-/// above 255.
+/// Returns the length of an attribute whose value has `value` octets: flags, type, a length of one
+/// octet, or of two above 255, and the value.
 fn attr_len(value: usize) -> usize
     ensures { result ≡ min (attr_size_of value) (2 ^ 64 - 1) }
 {
     value.saturating_add(if value > 255 { 4 } else { 3 })
 }
 
-/// An attribute whose value is a path.
+/// Returns the length of an attribute whose value is a path.
 fn path_len(parts: &[PathPart], wide: bool) -> usize
     ensures { result ≡ min (attr_size_of (sum_by (part_size wide) parts.now)) (2 ^ 64 - 1) }
 {
@@ -140,7 +140,7 @@ fn atomic_len(atomic: bool) -> usize
     if atomic { ATOMIC } else { 0 }
 }
 
-/// The attributes of an announcement.
+/// Returns the length of the attributes of an announcement.
 #[tactic(auto, using(crate::proofs::Lengths::spelled_attrs_size))]
 fn attrs_len(attrs: &Attrs, wide: bool) -> usize
     ensures { result ≡ min (length (spell_attrs wide attrs.now)) (2 ^ 64 - 1) }
@@ -181,9 +181,9 @@ fn update_len(update: &Update, wide: bool) -> usize
         .saturating_add(4)
 }
 
-/// How many octets the written form of a message has, in the given width of AS numbers. A field
-/// counts its octets even where its number doesn't fit; a length above the greatest `usize` is given
-/// as that number. It takes no memory.
+/// Returns the number of octets in the written form of a message, in the given width of AS numbers. A
+/// field counts with its octets even if its number doesn't fit. A length above the greatest `usize` is
+/// given as that number. It allocates nothing.
 #[tactic(auto, using(crate::proofs::Lengths::caps_size, crate::proofs::Lengths::framed_size), unfolding(crate::specs::Spelling::spell))]
 pub fn message_len(message: &Message, wide: bool) -> usize
     ensures { result ≡ min (length (spell message.now wide)) (2 ^ 64 - 1) }

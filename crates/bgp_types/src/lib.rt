@@ -1,5 +1,5 @@
-//! The values of BGP that the whole laboratory speaks of: prefixes, paths, attributes, routes and
-//! messages (RFC 4271, section 4).
+//! The values of BGP that the whole laboratory uses: prefixes, paths, attributes, routes and messages
+//! (RFC 4271, section 4).
 #![tactic(auto)]
 
 mod as_number;

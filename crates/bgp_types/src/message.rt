@@ -23,7 +23,7 @@ pub struct OpenMsg {
     pub caps: Caps,
 }
 
-/// An UPDATE. Its attributes are there exactly where it announces prefixes.
+/// An UPDATE. It has attributes if and only if it announces prefixes.
 #[derive(Debug, Drop, PartialEq, Eq)]
 pub struct Update {
     pub withdrawn: PrefixList,
@@ -31,7 +31,7 @@ pub struct Update {
     pub nlri: PrefixList,
 }
 
-/// What a NOTIFICATION says: error code, subcode and data.
+/// The error code, subcode and data of a NOTIFICATION.
 #[derive(Debug, Drop, PartialEq, Eq)]
 pub struct Notice {
     pub code: u8,
@@ -39,7 +39,7 @@ pub struct Notice {
     pub info: Octets,
 }
 
-/// A message. KEEPALIVE has no more than its header.
+/// A message. A KEEPALIVE is a header only.
 #[derive(Debug, Drop, PartialEq, Eq)]
 pub enum Message {
     OpenMsg(OpenMsg),
@@ -48,7 +48,7 @@ pub enum Message {
     KeepaliveMsg,
 }
 
-/// The state of a session (RFC 4271, section 8.2.2), from the moment at which its OPEN is put.
+/// The state of a session (RFC 4271, section 8.2.2), from the moment its OPEN is put.
 #[derive(Clone, Copy, Debug, PartialEq, Eq, Hash)]
 pub enum SessionState {
     OpenSent,

@@ -8,7 +8,7 @@ use graft_edge::{Items, NoMemory, TryCopy};
 /// A list of AS numbers.
 pub type AsList = Items<u32>;
 
-/// A part of a path: ASes in no order, or in the order in which a route passed them, the last one
+/// A segment of a path: a set of ASes, or a sequence of ASes with the last one that the route passed
 /// first. A part has 1 to 255 ASes.
 #[derive(Debug, Drop, PartialEq, Eq)]
 pub enum PathPart {
@@ -16,11 +16,11 @@ pub enum PathPart {
     Sequence(AsList),
 }
 
-/// The path of a route: its parts, the last one that it passed first.
+/// The path of a route. The part that it passed last stands first.
 pub type AsPath = Items<PathPart>;
 
 impl TryCopy for PathPart {
-    // A sequence is copied to be told on, with one AS more in front.
+    // A sequence is copied with room for one more AS, which is put in front when the route is advertised.
     fn copy(&self) -> Result<PathPart, NoMemory> {
         match self {
             PathPart::Set(ases) => Ok(PathPart::Set(ases.copy()?)),
@@ -29,7 +29,7 @@ impl TryCopy for PathPart {
     }
 }
 
-/// How many ASes a part counts as.
+/// Returns the number of ASes that a part counts as.
 fn part_len(part: &PathPart) -> u32
     ensures { result ≡ min (part_count part.now) (2 ^ 32 - 1) }
 {
@@ -39,8 +39,8 @@ fn part_len(part: &PathPart) -> u32
     }
 }
 
-/// How many ASes a path counts as: each of a sequence, and one for a set (RFC 4271, section
-/// 9.1.2.2). A count above 2^32 - 1 is given as that number.
+/// Returns the length of a path: each AS of a sequence counts, and a set counts as one (RFC 4271,
+/// section 9.1.2.2). A count above 2^32 - 1 is given as that number.
 pub fn path_len(path: &AsPath) -> u32
     ensures { result ≡ min (path_count path.now) (2 ^ 32 - 1) }
 {
@@ -51,7 +51,8 @@ pub fn path_len(path: &AsPath) -> u32
     count
 }
 
-/// The neighbour AS of a route with this path: the first AS of a leading sequence, else the home AS.
+/// Returns the neighbour AS of a route with this path: the first AS of a leading sequence, else the
+/// home AS.
 pub fn neighbour(path: &AsPath, home_as: u32) -> u32
     ensures { result ≡ neighbour_of path.now home_as }
 {
@@ -64,7 +65,7 @@ pub fn neighbour(path: &AsPath, home_as: u32) -> u32
     }
 }
 
-/// Whether a part has an AS.
+/// Whether an AS is in a part.
 fn part_holds(part: &PathPart, as_number: u32) -> bool
     ensures { IsTrue result ↔ Contains (ases_of part.now) as_number }
 {
@@ -74,7 +75,7 @@ fn part_holds(part: &PathPart, as_number: u32) -> bool
     }
 }
 
-/// Whether an AS stands in a path.
+/// Whether an AS is in a path.
 pub fn holds_as(path: &AsPath, as_number: u32) -> bool
     ensures { IsTrue result ↔ HoldsAs path.now as_number }
 {

@@ -6,8 +6,8 @@ ghost use Rattle.bgp_types.specs.Prefixes.{IsPrefix, Covers, prefix_of, cleared}
 use graft_edge::{Items, NoMemory, TryCopy};
 use std::marker::Model;
 
-/// The addresses that begin with the first `len` bits of an address, whose further bits are 0.
-/// Prefixes are ordered by address, and then by length.
+/// An address prefix: all addresses that begin with the first `len` bits of `address`, whose other bits
+/// are 0. Prefixes are ordered by address, and then by length.
 #[derive(Clone, Copy, Debug, PartialEq, Eq, PartialOrd, Ord, Hash)]
 pub struct Prefix {
     address: u32,
@@ -29,7 +29,7 @@ impl Model for Prefix {
     ghost inverse = { λ p. record { address = p.address; len = p.len } };
 }
 
-/// The address without the bits past its first `len`.
+/// Returns the address with the bits past the first `len` cleared.
 fn without_rest(address: u32, len: u8) -> u32
     requires { len ≤ 32 }
     ensures { result ≡ cleared len address }
@@ -42,7 +42,8 @@ fn without_rest(address: u32, len: u8) -> u32
 }
 
 impl Prefix {
-    /// The prefix of this length that an address begins with: its bits past the length are cleared.
+    /// Returns the prefix of this length that an address begins with; the bits past the length are
+    /// cleared. Returns `None` for a length above 32.
     pub fn new(address: u32, len: u8) -> Option<Prefix>
         ensures some { IsSome result ↔ (len ≤ 32) }
         ensures value { IfSome result (λ p. p ≡ prefix_of len address) }
@@ -56,7 +57,7 @@ impl Prefix {
         })
     }
 
-    /// The first address.
+    /// Returns the first address.
     pub fn address(self) -> u32
         ensures value { result ≡ self.address }
         ensures sound { IsPrefix self }
@@ -64,7 +65,7 @@ impl Prefix {
         self.address
     }
 
-    /// How many leading bits its addresses share.
+    /// Returns the number of leading bits that its addresses share.
     pub fn len(self) -> u8
         ensures value { result ≡ self.len }
         ensures sound { IsPrefix self }
@@ -72,7 +73,7 @@ impl Prefix {
         self.len
     }
 
-    /// Whether each address of the other prefix is one of this.
+    /// Whether each address of the other prefix is in this one.
     pub fn covers(&self, other: &Prefix) -> bool
         ensures { IsTrue result ↔ Covers self.now other.now }
     {

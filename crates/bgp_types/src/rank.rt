@@ -2,7 +2,7 @@
 
 use graft_edge::{PeeringId, RouterId};
 
-/// Where a route of a router comes from.
+/// The source from which a router has a route.
 #[derive(Clone, Copy, Debug, PartialEq, Eq, PartialOrd, Ord, Hash)]
 pub enum From {
     /// A network of its own.
@@ -13,8 +13,9 @@ pub enum From {
     Router(RouterId),
 }
 
-/// What the choice between routes to one prefix looks at. `origin` is 0 for IGP, 1 for EGP and 2 for
-/// INCOMPLETE, an absent MED is 0, and `cost` is the interior cost to where the route comes from.
+/// What the decision process compares between routes to one prefix. `origin` is 0 for IGP, 1 for EGP
+/// and 2 for INCOMPLETE, an absent MED is 0, and `cost` is the interior cost to where the route comes
+/// from.
 #[derive(Clone, Copy, Debug, PartialEq, Eq, Hash)]
 pub struct Rank {
     pub own: bool,

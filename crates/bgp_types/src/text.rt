@@ -1,4 +1,4 @@
-//! Addresses and prefixes as texts.
+//! Addresses and prefixes as text.
 
 ghost use Rattle.std.specs.Prelude.{◌≡◌, ◌↔◌, IsTrue, Some};
 ghost use Rattle.bgp_types.specs.Finds.{Finds};
@@ -10,7 +10,7 @@ use crate::prefix::Prefix;
 use std::fmt;
 use std::net::Ipv4Addr;
 
-/// Reads an address: four decimals of 0 to 255 without leading zeros, joined by dots.
+/// Reads an address: four decimals from 0 to 255 without leading zeros, joined by dots.
 pub fn read_address(text: &str) -> Option<u32>
     ensures { Finds (IsAddressText text.now) result }
 {
@@ -20,7 +20,7 @@ pub fn read_address(text: &str) -> Option<u32>
     }
 }
 
-/// Whether no host has the address: it is 0.0.0.0, or its first octet is 224 or above.
+/// Whether an address is none of a host: it is 0.0.0.0, or its first octet is 224 or above.
 pub fn is_no_host(address: u32) -> bool
     ensures { result ≡ is_no_host address }
 {
@@ -34,7 +34,7 @@ pub fn is_host(address: u32) -> bool
     !is_no_host(address)
 }
 
-/// Whether a text begins as a decimal without a sign or leading zeros does.
+/// Whether a text begins like a decimal without a sign or leading zeros.
 fn begins_plainly(text: &str) -> bool
     ensures { IsTrue result ↔ BeginsPlainly text.now }
 {
@@ -45,7 +45,7 @@ fn begins_plainly(text: &str) -> bool
     }
 }
 
-/// Reads the length of a prefix: a decimal of 0 to 32 without a sign or leading zeros.
+/// Reads the length of a prefix: a decimal from 0 to 32 without a sign or leading zeros.
 fn read_length(text: &str) -> Option<u8>
     ensures { Finds (IsLengthText text.now) result }
 {
@@ -55,7 +55,8 @@ fn read_length(text: &str) -> Option<u8>
     }
 }
 
-/// Reads a prefix: an address, a slash and a length. The address' bits past the length are cleared.
+/// Reads a prefix: an address, a slash and a length. The bits of the address past the length are
+/// cleared.
 pub fn read_prefix(text: &str) -> Option<Prefix>
     ensures { Finds (IsPrefixText text.now) result }
 {

@@ -5,7 +5,7 @@ use Rattle.bgp_types.specs.declared.message.Notice.{Notice}
 use Rattle.bgp_types.specs.OpenBody.{open_fault}
 use Rattle.bgp_wire.specs.declared.open.Item.{Item}
 
--- an item without where it lies in memory
+-- an item, regardless of where it is in memory
 abbrev pub cap_of : Item → Cap
 cap_of item = record { code = item.code; bytes = item.value.now }
 
@@ -19,7 +19,7 @@ abbrev pub IsAdded : List Cap → List Cap → Option (List Cap) → Type 0
 IsAdded old new None = ⊥
 IsAdded old new (Some caps) = new ≡ old ++ caps
 
--- capabilities in front of those that are read later
+-- capabilities, followed by those that are read later
 abbrev pub caps_after : List Cap → Result (List Cap) Notice → Result (List Cap) Notice
 caps_after front (Ok caps) = Ok (front ++ caps)
 caps_after front (Err n) = Err n

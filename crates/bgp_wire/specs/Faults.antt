@@ -1,4 +1,4 @@
--- Faults by their numbers.
+-- Faults by their codes.
 use Rattle.std.specs.Prelude.{ℕ, List}
 use Rattle.bgp_types.specs.declared.message.Notice.{Notice}
 

@@ -1,4 +1,4 @@
--- Fields of a body without where they lie in memory, and the prefixes in them.
+-- The fields of a body, regardless of where they are in memory, and the prefixes in them.
 use Rattle.std.specs.Prelude.{ℕ, List, Option}
 use Rattle.std.specs.Option.{option_map}
 use Rattle.bgp_types.specs.Prefixes.{PrefixValue, WirePrefix, prefix_at, prefix_said}

@@ -10,6 +10,6 @@ use Rattle.bgp_wire.specs.declared.set.PrefixSet.{PrefixSet}
 abbrev pub has : PrefixSet → PrefixValue → Bool
 has set p = contains prefix_cmp set.prefixes p
 
--- the set has the prefixes of a list
+-- the members of the set are the prefixes of a list
 abbrev pub IsSetOf : PrefixSet → List PrefixValue → Type 0
 IsSetOf set prefixes = (p : PrefixValue) → has set p ≡ list_any (same_prefix p) prefixes

@@ -1,4 +1,4 @@
--- What is asked of the parts of a message that is written.
+-- What is required of the parts of a message that is written.
 use Rattle.std.specs.Prelude.{ℕ, ◌^◌, ◌<◌, length, Option, Some, None, Bool}
 use Rattle.attr_codec.specs.Fields.{FitsField}
 use Rattle.bgp_types.specs.declared.attrs.Attrs.{Attrs}
@@ -12,7 +12,7 @@ abbrev pub FitsSome : Option Attrs → Bool → Type 0
 FitsSome None wide = Unit {0}
 FitsSome (Some a) wide = FitsField a wide
 
--- the fields behind lengths have lengths of two octets
+-- the lengths of the fields fit in two octets
 pub record FitsUpdate (u : Update) (wide : Bool) : Type 0 where
   pub withdrawn : length (spell_prefixes u.withdrawn) < 2 ^ 16
   pub attrs : length (spell_some_attrs wide u.attrs) < 2 ^ 16

@@ -1,4 +1,4 @@
-//! Faults by their numbers.
+//! Faults by their codes.
 
 ghost use Rattle.std.specs.Prelude.{Some};
 ghost use Rattle.attr_codec.specs.Decoding.{Stops};
@@ -8,7 +8,7 @@ use attr_codec::CodecFault;
 use bgp_types::{NoMemory, Notice, Octets};
 use std::alloc::Global;
 
-/// A fault with these octets as its data.
+/// Returns a fault with these octets as its data. If memory runs out, it returns `NoMemory`.
 pub fn fault(alloc: Global, code: u8, subcode: u8, info: &[u8]) -> CodecFault
     ensures { Stops result (Some (notice code subcode info.now)) }
 {

@@ -1,5 +1,5 @@
-//! BGP messages, read from whole frames and written (RFC 4271, sections 4 and 6), with AS numbers of
-//! two octets or of four (RFC 6793).
+//! Reads BGP messages from whole frames, and writes them (RFC 4271, sections 4 and 6), with AS numbers
+//! of two octets or of four (RFC 6793).
 #![tactic(auto)]
 
 mod fault;

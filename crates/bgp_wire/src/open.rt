@@ -17,7 +17,7 @@ use std::alloc::Global;
 /// The version of BGP.
 pub const VERSION: u8 = 4;
 
-/// The type of a parameter that has capabilities.
+/// The type of a parameter that holds capabilities.
 pub const CAPABILITIES: u8 = 2;
 
 /// The code of the capability of four-octet AS numbers, and its length.
@@ -25,10 +25,10 @@ const FOUR_OCTET_AS: u8 = 65;
 
 const FOUR_OCTETS: usize = 4;
 
-/// The code of a fault in an OPEN.
+/// The error code of a fault in an OPEN.
 const OPEN_FAULT: u8 = 2;
 
-/// The subcodes of its faults.
+/// The subcodes of faults in an OPEN.
 const UNSPECIFIC: u8 = 0;
 
 const UNSUPPORTED_VERSION: u8 = 1;
@@ -48,7 +48,7 @@ pub struct Item<'a> {
     pub value: &'a [u8],
 }
 
-/// The item at the front, and the octets after it.
+/// Returns the item at the front, and the octets after it.
 #[tactic(auto, unfolding(bgp_types::specs::OpenBody::cap_at))]
 fn item_at(octets: &[u8]) -> Option<(Item<'_>, &[u8])>
     ensures item { option_map (λ x. (cap_of x.0, x.1.now)) result ≡ cap_at octets.now }
@@ -66,7 +66,7 @@ fn item_at(octets: &[u8]) -> Option<(Item<'_>, &[u8])>
     Some((item, after))
 }
 
-/// Whether octets are items, one after another.
+/// Whether octets are a sequence of whole items.
 fn are_items(octets: &[u8]) -> bool
     ensures { result ≡ is_some (all_of cap_at octets.now) }
 {
@@ -99,7 +99,7 @@ fn add_caps(alloc: Global, caps: &mut Caps, octets: &[u8]) -> Result<(), CodecFa
     Ok(())
 }
 
-/// The capabilities of parameters, which are whole.
+/// Reads the capabilities of parameters, which are whole.
 fn caps_in(alloc: Global, params: &[u8]) -> Result<Caps, CodecFault>
     requires { is_some (all_of cap_at params.now) ≡ true }
     ensures { Decodes result (with_params (all_of cap_at params.now)) }
@@ -116,7 +116,7 @@ fn caps_in(alloc: Global, params: &[u8]) -> Result<Caps, CodecFault>
     Ok(caps)
 }
 
-/// The capabilities of the parameters, whose length is told.
+/// Reads the capabilities of the parameters behind their length.
 #[tactic(auto, unfolding(bgp_types::specs::OpenBody::params_of))]
 fn params_in(alloc: Global, octets: &[u8]) -> Result<Caps, CodecFault>
     ensures { Decodes result (with_params (params_of octets.now)) }
@@ -130,7 +130,8 @@ fn params_in(alloc: Global, octets: &[u8]) -> Result<Caps, CodecFault>
     caps_in(alloc, params)
 }
 
-/// The first AS that a capability of four-octet AS numbers says; one of another length is absent.
+/// Returns the first AS that a capability of four-octet AS numbers gives; a capability of another
+/// length counts as absent.
 fn as_said(caps: &[Cap]) -> Option<u32>
     ensures { result ≡ as_said caps.now }
 {
@@ -142,14 +143,14 @@ fn as_said(caps: &[Cap]) -> Option<u32>
     None
 }
 
-/// Whether the field of two octets says the AS.
+/// Whether the field of two octets stands for the AS.
 fn is_field(remote_as: u32, field: u32) -> bool
     ensures { result ≡ is_field remote_as field }
 {
     field == u32::from(narrow_as(remote_as))
 }
 
-/// Whether the OPEN says the AS: by a capability, or else by its field.
+/// Whether the OPEN gives the AS: by a capability, or if there is none by its field.
 fn is_said(remote_as: u32, field: u32, said: Option<u32>) -> bool
     ensures { result ≡ is_said remote_as field said }
 {
@@ -165,7 +166,7 @@ fn is_short_hold(hold: u16) -> bool
     hold == 1 || hold == 2
 }
 
-/// The OPEN with this body, or the first fault.
+/// Reads the OPEN with this body, or finds its first fault.
 #[tactic(auto, unfolding(bgp_types::specs::OpenBody::open_of))]
 pub fn read_open(alloc: Global, body: &[u8], expected: &Expected) -> Result<OpenMsg, CodecFault>
     requires { 10 ≤ length body.now }

@@ -13,14 +13,14 @@ use bgp_types::{NoMemory, Octets, Prefix, PrefixList};
 use byteorder::{BigEndian, ByteOrder};
 use std::alloc::Global;
 
-/// How many octets hold so many bits.
+/// Returns how many octets hold this many bits.
 fn size_of(len: u8) -> usize
     ensures { result ≡ octets_for len }
 {
     usize::from(len).div_ceil(8)
 }
 
-/// The address that begins with these octets.
+/// Returns the address that begins with these octets.
 fn address_in(octets: &[u8]) -> u32
     requires { length octets.now ≤ 4 }
     ensures { result ≡ address_of octets.now }
@@ -31,7 +31,7 @@ fn address_in(octets: &[u8]) -> u32
     BigEndian::read_u32(&address)
 }
 
-/// The prefix at the front, and the octets after it.
+/// Returns the prefix at the front, and the octets after it.
 #[tactic(auto, unfolding(bgp_types::specs::Prefixes::prefix_at))]
 fn prefix_in(octets: &[u8]) -> Option<(Prefix, &[u8])>
     ensures prefix { option_map (λ x. (x.0, x.1.now)) result ≡ front_said octets.now }
@@ -49,7 +49,8 @@ fn prefix_in(octets: &[u8]) -> Option<(Prefix, &[u8])>
     Some((prefix, after))
 }
 
-/// The prefixes of a field, each once, at its first place; none where it is malformed.
+/// Reads the prefixes of a field, each once, at its first place. Returns `None` if the field is
+/// malformed.
 pub fn prefixes_in(alloc: Global, field: &[u8]) -> Result<Option<PrefixList>, NoMemory>
     ensures { IfOk result (λ found. found ≡ prefixes_of field.now) }
 {
@@ -66,7 +67,7 @@ pub fn prefixes_in(alloc: Global, field: &[u8]) -> Result<Option<PrefixList>, No
     Ok(Some(prefixes))
 }
 
-/// The prefixes that aren't in a set.
+/// Returns the prefixes that aren't in a set, in their order.
 fn outside(alloc: Global, prefixes: &[Prefix], set: &PrefixSet) -> Result<PrefixList, NoMemory>
     ensures { IfOk result (λ list. list ≡ filter (λ p. not (has set.now p)) prefixes.now) }
 {
@@ -79,7 +80,7 @@ fn outside(alloc: Global, prefixes: &[Prefix], set: &PrefixSet) -> Result<Prefix
     Ok(list)
 }
 
-/// The prefixes that aren't among others.
+/// Returns the prefixes that aren't among others, in their order. If memory runs out, the list is lost.
 pub fn apart_from(
     alloc: Global,
     prefixes: PrefixList,
@@ -94,7 +95,7 @@ pub fn apart_from(
     outside(alloc, &prefixes, &set)
 }
 
-/// Appends a prefix: its length, and the fewest octets that hold so many bits.
+/// Appends a prefix: its length, and the fewest octets that hold that many bits.
 fn put_prefix(out: &mut Octets, prefix: Prefix) -> Result<(), NoMemory>
     ensures { OnOk result (out.new ≡ out.old ++ prefix_octets prefix) }
 {
@@ -104,7 +105,7 @@ fn put_prefix(out: &mut Octets, prefix: Prefix) -> Result<(), NoMemory>
     out.extend(&address[..size_of(len)])
 }
 
-/// Prefixes, one after another.
+/// Returns the octets of prefixes, one after another.
 pub fn prefixes_out(alloc: Global, prefixes: &[Prefix]) -> Result<Octets, NoMemory>
     ensures { IfOk result (λ octets. octets ≡ spell_prefixes prefixes.now) }
 {

@@ -1,4 +1,4 @@
-//! Reading a whole frame.
+//! Reads a whole frame.
 
 ghost use Rattle.std.specs.Prelude.{◌≡◌, ◌≤◌, [], length, Some, IfOk};
 ghost use Rattle.attr_codec.specs.Decoding.{Decodes};
@@ -21,20 +21,20 @@ pub const NOTIFICATION: u8 = 3;
 
 pub const KEEPALIVE: u8 = 4;
 
-/// The code of a fault in the state machine.
+/// The error code of a fault in the state machine.
 const STATE_FAULT: u8 = 5;
 
-/// The code of a fault in a header.
+/// The error code of a fault in a header.
 const HEADER_FAULT: u8 = 1;
 
-/// The subcodes of its faults.
+/// The subcodes of faults in a header.
 const NOT_SYNCHRONIZED: u8 = 1;
 
 const BAD_LENGTH: u8 = 2;
 
 const BAD_TYPE: u8 = 3;
 
-/// Whether a session in this state takes a message of this type.
+/// Whether a session in this state accepts a message of this type.
 fn is_in_state(state: SessionState, kind: u8) -> bool
     ensures { result ≡ is_in_state state kind }
 {
@@ -46,7 +46,7 @@ fn is_in_state(state: SessionState, kind: u8) -> bool
     }
 }
 
-/// What a NOTIFICATION says: code, subcode and data.
+/// Reads the code, subcode and data of a NOTIFICATION.
 fn read_notice(alloc: Global, body: &[u8]) -> Result<Notice, NoMemory>
     requires { 2 ≤ length body.now }
     ensures { IfOk result (λ n. n ≡ notice_of body.now) }
@@ -60,7 +60,7 @@ fn read_notice(alloc: Global, body: &[u8]) -> Result<Notice, NoMemory>
     })
 }
 
-/// The message of a type with this body, or the first fault of the body.
+/// Reads the message of a type with this body, or finds the first fault of the body.
 #[tactic(auto, unfolding(bgp_types::specs::FirstFault::body_of))]
 fn read_body(
     alloc: Global,
@@ -80,13 +80,12 @@ fn read_body(
     }
 }
 
-/// Reads a whole frame with a sound header, as a framer gives it, in the state of a session: the
-/// message, or the NOTIFICATION that answers the first fault, in the state or in the body (RFC 4271,
-/// section 6). A state takes the types of messages that the standard names for it; a session that is
-/// `Closed`, whose NOTIFICATION was sent or received, takes a NOTIFICATION alone, and any other type
-/// is a fault of the state (code 5). AS numbers have two octets, or four where the session is wide. It
-/// takes a time that grows with the length of the frame, and for its prefixes with the product of
-/// their count with the logarithm of that.
+/// Reads a whole frame with a sound header, as a framer gives it, in the state of a session. Returns
+/// the message, or the NOTIFICATION that answers the first fault, in the state or in the body (RFC
+/// 4271, section 6). A state accepts the types of messages that the standard names for it. A session
+/// that is `Closed`, whose NOTIFICATION was sent or received, accepts only a NOTIFICATION; any other
+/// type is a fault of the state (code 5). AS numbers have four octets where the session is wide, else
+/// two. The time it takes grows with the length of the frame, and with `n log n` for `n` prefixes.
 pub fn read_message(alloc: Global, bytes: &[u8], expected: &Expected) -> Result<Message, CodecFault>
     requires { frame_at bytes.now ≡ Some (bytes.now, []) }
     ensures { Decodes result (message_of expected.now bytes.now) }
@@ -99,8 +98,8 @@ pub fn read_message(alloc: Global, bytes: &[u8], expected: &Expected) -> Result<
     read_body(alloc, kind, body, expected)
 }
 
-/// The NOTIFICATION that answers a faulty header: code 1, the subcode of the fault, and as data the
-/// length or the type that the header says (RFC 4271, section 6.1).
+/// Returns the NOTIFICATION that answers a faulty header: code 1, the subcode of the fault, and as data
+/// the length or the type in the header (RFC 4271, section 6.1).
 pub fn header_notice(alloc: Global, fault: HeaderFault) -> Result<Notice, NoMemory>
     ensures { IfOk result (λ notice. notice ≡ header_notice fault) }
 {

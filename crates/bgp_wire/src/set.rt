@@ -1,4 +1,4 @@
-//! Sets of prefixes, by which a prefix that stood before is found.
+//! Sets of prefixes, used to find out whether a prefix occurred before.
 
 ghost use Rattle.std.specs.Prelude.{◌≡◌, [], true, not, IfOk, OnOk, if◌then◌else◌};
 ghost use Rattle.bgp_types.specs.Prefixes.{PrefixValue, same_prefix, put_once};
@@ -15,7 +15,7 @@ pub struct PrefixSet {
 }
 
 impl PrefixSet {
-    /// No prefix.
+    /// Returns an empty set.
     pub fn new(alloc: Global) -> PrefixSet
         ensures { IsSetOf result [] }
     {
@@ -24,7 +24,7 @@ impl PrefixSet {
         }
     }
 
-    /// Puts a prefix in, and answers whether it is new.
+    /// Adds a prefix, and returns whether it is new.
     #[tactic(auto, using(crate::proofs::SetLaws::is_same))]
     fn put(&mut self, prefix: Prefix) -> Result<bool, NoMemory>
         ensures new { IfOk result (λ new. new ≡ not (has self.old prefix)) }
@@ -33,7 +33,7 @@ impl PrefixSet {
         Ok(self.prefixes.insert(prefix)?)
     }
 
-    /// The set of these prefixes.
+    /// Returns the set of these prefixes.
     pub fn of(alloc: Global, prefixes: &[Prefix]) -> Result<PrefixSet, NoMemory>
         ensures { IfOk result (λ set. IsSetOf set prefixes.now) }
     {
@@ -51,7 +51,7 @@ impl PrefixSet {
     }
 }
 
-/// Puts a prefix at the end of a list, unless it is there; the set has the prefixes of the list.
+/// Appends a prefix to a list, unless the list has it; the set holds the prefixes of the list.
 pub fn put_once(set: &mut PrefixSet, list: &mut PrefixList, prefix: Prefix) -> Result<(), NoMemory>
     requires { IsSetOf set.old list.old }
     ensures list { OnOk result (list.new ≡ put_once list.old prefix) }

@@ -16,10 +16,10 @@ use bgp_types::{Attrs, FoundAttrs, PrefixList, Update};
 use byteorder::{BigEndian, ByteOrder};
 use std::alloc::Global;
 
-/// The code of a fault in an UPDATE.
+/// The error code of a fault in an UPDATE.
 const UPDATE_FAULT: u8 = 3;
 
-/// The subcodes of its faults.
+/// The subcodes of faults in an UPDATE.
 const MALFORMED_LIST: u8 = 1;
 
 const MISSING_ATTRIBUTE: u8 = 3;
@@ -34,7 +34,7 @@ struct BodyFields<'a> {
     nlri: &'a [u8],
 }
 
-/// A field behind its length, and what follows it.
+/// Returns a field behind its length, and what follows it.
 fn field_at(octets: &[u8]) -> Option<(&[u8], &[u8])>
     ensures { option_map (λ x. (x.0.now, x.1.now)) result ≡ told_at (number_at w16 octets.now) }
 {
@@ -62,7 +62,7 @@ fn fields_in(body: &[u8]) -> Option<BodyFields<'_>>
     })
 }
 
-/// What an announcement needs, or the fault of the first type that is missing.
+/// Returns the attributes that an announcement needs, or the fault of the first type that is missing.
 #[tactic(auto, unfolding(bgp_types::specs::UpdateBody::all_known))]
 fn all_in(alloc: Global, found: FoundAttrs) -> Result<Attrs, CodecFault>
     ensures { Decodes result (all_known found) }
@@ -93,7 +93,7 @@ fn all_in(alloc: Global, found: FoundAttrs) -> Result<Attrs, CodecFault>
     })
 }
 
-/// The UPDATE with this body, or the first fault.
+/// Reads the UPDATE with this body, or finds its first fault.
 #[tactic(auto, unfolding(bgp_types::specs::UpdateBody::update_of))]
 pub fn read_update(alloc: Global, body: &[u8], wide: bool) -> Result<Update, CodecFault>
     ensures { Decodes result (update_of wide body.now) }

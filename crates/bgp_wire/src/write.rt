@@ -1,4 +1,4 @@
-//! Writing a message.
+//! Writes a message.
 
 ghost use Rattle.std.specs.Prelude.{◌≡◌, ◌+◌, ◌^◌, ◌<◌, ◌++◌, ◌∷◌, length, All, IfOk, OnOk};
 ghost use Rattle.std.specs.List.{flat_map};
@@ -35,7 +35,7 @@ fn put_cap(out: &mut Octets, cap: &Cap) -> Result<(), NoMemory>
     out.extend(&cap.bytes)
 }
 
-/// The parameters of an OPEN.
+/// Returns the parameters of an OPEN.
 fn params_out(alloc: Global, caps: &[Cap]) -> Result<Octets, NoMemory>
     requires { All (λ cap. length cap.bytes + 2 < 256) caps.now }
     ensures { IfOk result (λ octets. octets ≡ flat_map (λ cap. param_octets (cap_octets cap)) caps.now) }
@@ -47,7 +47,7 @@ fn params_out(alloc: Global, caps: &[Cap]) -> Result<Octets, NoMemory>
     Ok(out)
 }
 
-/// The body of an OPEN.
+/// Returns the body of an OPEN.
 fn open_out(alloc: Global, opening: &OpenMsg) -> Result<Octets, NoMemory>
     requires { IsWritableOpen opening.now }
     ensures { IfOk result (λ octets. octets ≡ spell_open opening.now) }
@@ -63,7 +63,7 @@ fn open_out(alloc: Global, opening: &OpenMsg) -> Result<Octets, NoMemory>
     Ok(out)
 }
 
-/// The field of attributes, which is empty where there are none.
+/// Returns the field of attributes, which is empty if there are none.
 fn attrs_out(alloc: Global, attrs: &Option<Attrs>, wide: bool) -> Result<Octets, NoMemory>
     requires { FitsSome attrs.now wide }
     ensures { IfOk result (λ octets. octets ≡ spell_some_attrs wide attrs.now) }
@@ -74,7 +74,7 @@ fn attrs_out(alloc: Global, attrs: &Option<Attrs>, wide: bool) -> Result<Octets,
     }
 }
 
-/// The body of an UPDATE.
+/// Returns the body of an UPDATE.
 fn update_out(alloc: Global, update: &Update, wide: bool) -> Result<Octets, NoMemory>
     requires { FitsUpdate update.now wide }
     ensures { IfOk result (λ octets. octets ≡ spell_update wide update.now) }
@@ -89,7 +89,7 @@ fn update_out(alloc: Global, update: &Update, wide: bool) -> Result<Octets, NoMe
     Ok(out)
 }
 
-/// The body of a NOTIFICATION.
+/// Returns the body of a NOTIFICATION.
 fn notice_out(alloc: Global, notice: &Notice) -> Result<Octets, NoMemory>
     ensures { IfOk result (λ octets. octets ≡ notice.now.code ∷ notice.now.subcode ∷ notice.now.info) }
 {
@@ -100,7 +100,7 @@ fn notice_out(alloc: Global, notice: &Notice) -> Result<Octets, NoMemory>
     Ok(out)
 }
 
-/// The body of a message.
+/// Returns the body of a message.
 fn body_out(alloc: Global, message: &Message, wide: bool) -> Result<Octets, NoMemory>
     requires { FitsBody message.now wide }
     ensures { IfOk result (λ octets. octets ≡ spell_body message.now wide) }
@@ -113,7 +113,7 @@ fn body_out(alloc: Global, message: &Message, wide: bool) -> Result<Octets, NoMe
     }
 }
 
-/// The type of a message.
+/// Returns the type of a message.
 fn type_of(message: &Message) -> u8
     ensures { result ≡ kind_of message.now }
 {
@@ -125,7 +125,7 @@ fn type_of(message: &Message) -> u8
     }
 }
 
-/// A frame of this type with this body.
+/// Returns a frame of this type with this body.
 fn frame_of(alloc: Global, kind: u8, body: &[u8]) -> Result<Octets, NoMemory>
     requires { 19 + length body.now < 2 ^ 16 }
     ensures { IfOk result (λ octets. octets ≡ framed kind body.now) }
@@ -138,12 +138,12 @@ fn frame_of(alloc: Global, kind: u8, body: &[u8]) -> Result<Octets, NoMemory>
     Ok(out)
 }
 
-/// Writes a message in the width of AS numbers: its one written form, of `message_len` octets. The
-/// message is writable: each field is one that some frame reads as, no prefix stands twice, the
-/// unknown attributes stand in rising type, and the written form has at most 4,096 octets. An OPEN
-/// isn't writable either where its parameters have more than 255 octets as they are written: each
-/// capability stands in a parameter of its own, so an OPEN that was read from fewer parameters may be
-/// too long. What is written reads as the same message.
+/// Writes a message in the given width of AS numbers: its one written form, of `message_len` octets,
+/// which reads as the same message. The message has to be writable: each field is one that some frame
+/// reads as, no prefix occurs twice, the unknown attributes are in ascending order of type, and the
+/// written form has at most 4,096 octets. An OPEN isn't writable either if its parameters have more
+/// than 255 octets as they are written: each capability is written in a parameter of its own, so an
+/// OPEN that was read from fewer parameters may be too long.
 #[tactic(auto, unfolding(bgp_types::specs::Spelling::spell))]
 pub fn write_message(alloc: Global, message: &Message, wide: bool) -> Result<Octets, NoMemory>
     requires { IsWritable message.now wide }

@@ -24,11 +24,11 @@ has_shorter_path a b = nat_lt a.path_len b.path_len
 abbrev pub has_lower_origin : Rule
 has_lower_origin a b = nat_lt a.origin b.origin
 
--- (c) the lowest MED, which says nothing between routes of different neighbour ASes
+-- (c) the lowest MED, which is compared only between routes of the same neighbour AS
 abbrev pub has_lower_med : Rule
 has_lower_med a b = (a.neighbour == b.neighbour) && nat_lt a.med b.med
 
--- (d) a route heard from outside before one that another home router told
+-- (d) a route heard from outside before a route that another home router told
 abbrev pub is_external : Rule
 is_external a b = a.external && not b.external
 
@@ -49,12 +49,12 @@ abbrev pub nine_rules : List Rule
 nine_rules = is_own ∷ has_higher_preference ∷ has_shorter_path ∷ has_lower_origin ∷ has_lower_med
     ∷ is_external ∷ has_lower_cost ∷ has_lower_identifier ∷ has_lower_address ∷ []
 
--- A filter keeps those for which no element of the list is better.
+-- A filter keeps those elements for which no element of the list is better.
 unfoldable pub keep : {X : Type 0} → (X → X → Bool) → List X → List X
 keep better xs = filter (λ x. not (list_any (λ y. better y x) xs)) xs
 
--- A candidate is a rank beside what names it: its place in a list, or where its route comes from.
--- Each rule is applied to all that the rules before it left.
+-- A candidate is a rank together with its name: its place in a list, or the source of its route. Each rule is applied to all candidates that the
+-- rules before it left.
 unfoldable pub left_of : {K : Type 0} → List (K × Rank) → List (K × Rank)
 left_of candidates = fold (λ rest better. keep (λ c d. better c.1 d.1) rest) candidates nine_rules
 
@@ -74,7 +74,7 @@ numbered ranks = enumerate_from 0 ranks
 abbrev pub ranks_left : List Rank → List Rank
 ranks_left ranks = map (λ c. c.1) (left_of (numbered ranks))
 
--- neither of two ranks is better by one of the nine rules
+-- neither of two ranks is better by any of the nine rules
 pub record AreEqual (a b : Rank) : Type 0 where
   pub own : a.own ≡ b.own
   pub preference : a.pref ≡ b.pref

@@ -1,5 +1,4 @@
--- How the choice is found without keeping what each rule leaves: the rules before MED are one order,
--- and so are those after it.
+-- How the choice is found without storing what each rule leaves: the rules before MED are one order, and so are those after it.
 use Rattle.std.specs.Prelude.{ℕ, Bool, true, not, ◌&&◌, ◌||◌, List, fold, Option, Some, None, cond}
 use Rattle.std.specs.List.{list_any}
 use Rattle.bgp_types.specs.declared.rank.Rank.{Rank}
@@ -17,20 +16,20 @@ leads = in_turn is_own (in_turn has_higher_preference (in_turn has_shorter_path 
 abbrev pub is_nearer : Rule
 is_nearer = in_turn is_external (in_turn has_lower_cost (in_turn has_lower_identifier has_lower_address))
 
--- the better of the best so far and one more, and of equals the one so far
+-- the better one of the best so far and one more; of equals the best so far
 abbrev pub pick : {X : Type 0} → (X → X → Bool) → Option X → X → Option X
 pick better None x = Some x
 pick better (Some y) x = Some (cond (better x y) x y)
 
--- the first of those that no other one is better than, where the rule is an order
+-- the first of those that no other one is better than, if the rule is an order
 abbrev pub best_by : {X : Type 0} → (X → X → Bool) → List X → Option X
 best_by better xs = fold (pick better) None xs
 
--- one rank takes out another by MED, where no rank leads the leader
+-- one rank eliminates another by MED, where no rank leads the leader
 abbrev pub takes_out : Rank → Rank → Rank → Bool
 takes_out leader rank other = has_lower_med rank other && not (leads leader rank)
 
--- some rank takes it out by MED
+-- some rank eliminates it by MED
 abbrev pub is_taken_out : Rank → List Rank → Rank → Bool
 is_taken_out leader ranks rank = list_any (λ other. takes_out leader other rank) ranks
 

@@ -1,5 +1,6 @@
-//! The nine rules between the routes to one prefix: the home network's own routes, the degree of
-//! preference (RFC 4271, section 9.1.2), and the seven tie-breaks of section 9.1.2.2.
+//! The nine rules that choose between the routes to one prefix: the home network's own routes first,
+//! then the degree of preference (RFC 4271, section 9.1.2), then the seven tie-breaks of section
+//! 9.1.2.2.
 
 ghost use Rattle.std.specs.Prelude.{◌≡◌, ◌↔◌, [], IsNone, IsPermutation, AllPairs, option_map, option_and_then, slice_get};
 ghost use Rattle.decision_core.specs.Choice.{choice as choice_of, numbered, ranks_left, first, AreEqual, has_lower_med as has_lower_med_lem};
@@ -7,7 +8,7 @@ ghost use Rattle.decision_core.specs.Search.{leads as leads_lem, is_nearer as is
 
 use bgp_types::Rank;
 
-/// Whether the first rank is better by the rules that come before MED, the earlier rule first.
+/// Whether the first rank is better by the rules before MED, which are applied in order.
 pub fn leads(a: &Rank, b: &Rank) -> bool
     ensures { result ≡ leads_lem a.now b.now }
 {
@@ -23,14 +24,14 @@ pub fn leads(a: &Rank, b: &Rank) -> bool
     a.origin < b.origin
 }
 
-/// Whether the first rank has the lower MED. Only routes of one neighbour AS are compared.
+/// Whether the first rank has the lower MED. Only routes from the same neighbour AS are compared.
 fn has_lower_med(a: &Rank, b: &Rank) -> bool
     ensures { result ≡ has_lower_med_lem a.now b.now }
 {
     a.neighbour == b.neighbour && a.med < b.med
 }
 
-/// Whether the first rank is better by the rules that come after MED, the earlier rule first.
+/// Whether the first rank is better by the rules after MED, which are applied in order.
 pub fn is_nearer(a: &Rank, b: &Rank) -> bool
     ensures { result ≡ is_nearer_lem a.now b.now }
 {
@@ -46,7 +47,7 @@ pub fn is_nearer(a: &Rank, b: &Rank) -> bool
     a.address < b.address
 }
 
-/// The first of the ranks that no other one leads.
+/// Returns the first of the ranks that no other one leads.
 fn leader(list: &[Rank]) -> Option<Rank>
     ensures { result ≡ best_by leads_lem list.now }
 {
@@ -60,14 +61,15 @@ fn leader(list: &[Rank]) -> Option<Rank>
     Some(leader)
 }
 
-/// Whether one rank takes out another by MED, where this leader is one that no rank leads.
+/// Whether one rank eliminates another by MED, where `leader` is a rank that no other leads.
 fn takes_out(leader: &Rank, rank: &Rank, other: &Rank) -> bool
     ensures { result ≡ takes_out_lem leader.now rank.now other.now }
 {
     has_lower_med(rank, other) && !leads(leader, rank)
 }
 
-/// Whether some rank in the list takes this one out by MED, where this leader is one that no rank leads.
+/// Whether some rank in the list eliminates this one by MED, where `leader` is a rank that no other
+/// leads.
 fn is_taken_out(list: &[Rank], leader: &Rank, rank: &Rank) -> bool
     ensures { result ≡ is_taken_out_lem leader.now list.now rank.now }
 {
@@ -84,20 +86,20 @@ fn improves(nearest: &Option<(usize, Rank)>, rank: &Rank) -> bool
     }
 }
 
-/// Whether a rank is nearer than the nearest one so far, and the rules up to MED leave it, where this
-/// leader is one that no rank leads.
+/// Whether a rank is nearer than the nearest one so far, and isn't eliminated by the rules up to MED,
+/// where `leader` is a rank that no other leads.
 fn is_next(list: &[Rank], leader: &Rank, nearest: &Option<(usize, Rank)>, rank: &Rank) -> bool
     ensures { result ≡ is_next_lem leader.now list.now nearest.now rank.now }
 {
-    // The look at all ranks for a lower MED is the dear test, so it comes last.
+    // Looking through all ranks for a lower MED is the expensive check, so it comes last.
     !leads(leader, rank) && improves(nearest, rank) && !is_taken_out(list, leader, rank)
 }
 
-/// The place in the list, counted from 0, of the route that the nine rules of the decision process
-/// choose. Each rule is applied to all the routes that the rules before it leave, so which routes are left
-/// in the end doesn't depend on the order in which they arrived (RFC 4271, section 9.1.2.2). Those are
-/// equal by all nine rules, and the first of them is chosen. An equal one that is not left may stand
-/// before it: one that a third route took out by its MED. It takes no memory.
+/// Returns the place in the list, counted from 0, of the route that the nine rules of the decision
+/// process choose. Each rule is applied to all the routes that the rules before it leave, so the routes
+/// that are left in the end don't depend on the order in which they arrived (RFC 4271, section
+/// 9.1.2.2). Those are equal by all nine rules, and the first of them is chosen. A route that is equal
+/// to it but was eliminated, by the MED of a third route, may stand before it. It allocates nothing.
 pub fn best(list: &[Rank]) -> Option<usize>
     ensures empty { IsNone result ↔ (list.now ≡ []) }
     ensures choice { result ≡ choice_of (numbered list.now) }
@@ -112,8 +114,8 @@ pub fn best(list: &[Rank]) -> Option<usize>
     nearest.map(|(place, _)| place)
 }
 
-/// In any other order of the list the nine rules leave the same ranks. These are equal by all nine, and
-/// the first of them is chosen.
+/// In any other order of the list the nine rules leave the same ranks. These are equal by all nine
+/// rules, and the first of them is chosen.
 pub fn order_matters_only_among_equals(list: &[Rank], other: &[Rank])
     requires { IsPermutation list.now other.now }
     ensures same { IsPermutation (ranks_left list.now) (ranks_left other.now) }

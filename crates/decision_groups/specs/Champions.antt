@@ -1,4 +1,4 @@
--- The choice by way of the champions of the neighbour ASes.
+-- The choice by the champions of the neighbour ASes.
 use Rattle.std.specs.Prelude.{ℕ, ◌==◌, Bool, false, List, [], ◌∷◌, filter, fold, Option, option_map}
 use Rattle.std.specs.Option.{option_map_or}
 use Rattle.std.specs.BTreeMap.{is_at}
@@ -6,7 +6,7 @@ use Rattle.bgp_types.specs.declared.rank.Rank.{Rank}
 use Rattle.decision_core.specs.Choice.{Rule, is_own, has_higher_preference, has_shorter_path, has_lower_origin, is_external, has_lower_cost, has_lower_identifier, has_lower_address, keep, first, choice}
 use Rattle.decision_groups.specs.Order.{RankedSource, from_order}
 
--- the candidates that one neighbour AS told
+-- the candidates from one neighbour AS
 abbrev pub group_of : {K : Type 0} → ℕ → List (K × Rank) → List (K × Rank)
 group_of neighbour candidates = filter (λ c. c.1.neighbour == neighbour) candidates
 
@@ -18,7 +18,7 @@ is_champion candidates c = option_map_or (λ from. is_at (from_order from) c.0) 
 abbrev pub champions : List RankedSource → List RankedSource
 champions candidates = filter (is_champion candidates) candidates
 
--- the nine rules but the one about MED, in the order in which they are applied
+-- the nine rules except the one about MED, in the order in which they are applied
 abbrev pub rules_without_med : List Rule
 rules_without_med = is_own ∷ has_higher_preference ∷ has_shorter_path ∷ has_lower_origin
     ∷ is_external ∷ has_lower_cost ∷ has_lower_identifier ∷ has_lower_address ∷ []

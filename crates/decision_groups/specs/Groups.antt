@@ -1,4 +1,4 @@
--- What is kept of each neighbour AS, and how the choice is found of it.
+-- What is kept for each neighbour AS, and how the choice is found from it.
 use Rattle.std.specs.Prelude.{◌≡◌, ℕ, nat_lt, Bool, true, List, [], ◌∷◌, Option, Some, None, unwrap_or}
 use Rattle.std.specs.Ordering.{nat_cmp, is_lt}
 use Rattle.std.specs.List.Sorted.{IsStrictlySortedBy}
@@ -10,15 +10,15 @@ use Rattle.decision_core.specs.Search.{in_turn, leads, is_nearer, pick, best_by}
 use Rattle.decision_groups.specs.Order.{RankedSource, from_order, IsInOrder}
 use Rattle.decision_groups.specs.Champions.{group_of}
 
--- better by the nine rules, of two ranks of one neighbour AS: there the rules are one order
+-- better by the nine rules, between two ranks of one neighbour AS: there the rules are one order
 abbrev pub beats : Rule
 beats = in_turn leads (in_turn (λ a b. nat_lt a.med b.med) is_nearer)
 
--- better by the rules but MED
+-- better by the rules except MED
 abbrev pub beats_without_med : Rule
 beats_without_med = in_turn leads is_nearer
 
--- better by the rules but MED, or equal by them and earlier in the order of candidates
+-- better by the rules except MED, or equal by them and earlier in the order of candidates
 abbrev pub comes_first : RankedSource → RankedSource → Bool
 comes_first = in_turn (λ c d. beats_without_med c.1 d.1) (λ c d. is_lt (from_order c.0 d.0))
 
@@ -31,21 +31,21 @@ abbrev pub beats_champion : Option RankedSource → Rank → Bool
 beats_champion None rank = true
 beats_champion (Some champion) rank = beats rank champion.1
 
--- the better of the best so far and one more champion
+-- the better one of the best so far and one more champion
 abbrev pub better_of : Option RankedSource → Option RankedSource → Option RankedSource
 better_of best None = best
 better_of best (Some champion) = pick comes_first best champion
 
--- a group is there only where it has members
+-- a group exists only if it has members
 abbrev pub some_members : List RankedSource → Option (List RankedSource)
 some_members [] = None
 some_members (c ∷ cs) = Some (c ∷ cs)
 
--- the members of a group beside the number of its neighbour AS
+-- the members of a group, together with the number of its neighbour AS
 abbrev pub NumberedGroup : Type 0
 NumberedGroup = ℕ × List RankedSource
 
--- by rising number of the neighbour AS, and none twice
+-- in ascending order of the neighbour AS' number, and none twice
 abbrev pub AreNumbered : List NumberedGroup → Type 0
 AreNumbered groups = IsStrictlySortedBy nat_cmp (keys_of groups)
 

@@ -1,4 +1,4 @@
--- The order in which the sources of routes stand, and lists of ranks in that order.
+-- The order of the sources of routes, and lists of ranks in that order.
 use Rattle.std.specs.Prelude.{List, Option}
 use Rattle.std.specs.Ordering.{nat_cmp}
 use Rattle.std.specs.List.Sorted.{IsStrictlySortedBy}
@@ -10,7 +10,7 @@ use Rattle.bgp_types.specs.declared.rank.From.{From}
 use Rattle.bgp_types.specs.declared.rank.From.TheVariants.{Own, Peering, Router}
 use Rattle.bgp_types.specs.declared.rank.Rank.{Rank}
 
--- the own network first, then peerings by rising number, then routers by rising number
+-- the own network first, then peerings in ascending order of number, then routers in ascending order of number
 abbrev pub from_order : From → From → Ordering
 from_order Own Own = Equal
 from_order Own (Peering q) = Less
@@ -22,22 +22,22 @@ from_order (Router r) Own = Greater
 from_order (Router r) (Peering q) = Greater
 from_order (Router r) (Router s) = nat_cmp r.0 s.0
 
--- a rank beside where its route comes from: a candidate that is named by its source
+-- a rank together with the source of its route: a candidate that is named by its source
 abbrev pub RankedSource : Type 0
 RankedSource = From × Rank
 
--- each in its place, and none twice
+-- each at its place in this order, and none twice
 abbrev pub IsInOrder : List RankedSource → Type 0
 IsInOrder candidates = IsStrictlySortedBy from_order (keys_of candidates)
 
--- the rank of what comes from there
+-- the rank of the route from this source
 abbrev pub rank_at : List RankedSource → From → Option Rank
 rank_at candidates from = lookup (is_at (from_order from)) candidates
 
--- the list with this rank in its place: it takes the place of the rank that was there, if there was one
+-- the list with this rank in its place: it replaces the rank from that source, if there is one
 abbrev pub with_rank : List RankedSource → From → Rank → List RankedSource
 with_rank candidates from rank = insert_entry from_order candidates from rank
 
--- the list without what comes from there
+-- the list without the rank from this source
 abbrev pub without : List RankedSource → From → List RankedSource
 without candidates from = remove_entry (is_at (from_order from)) candidates

@@ -1,4 +1,4 @@
--- Where a key stands among entries in the order of their keys.
+-- The place of a key among entries in the order of their keys.
 use Rattle.std.specs.Prelude.{◌≡◌, ℕ, zero, suc, List, [], ◌∷◌}
 use Rattle.std.specs.List.{AllByRecursion}
 use Rattle.std.specs.Map.{keys_of}

@@ -9,7 +9,8 @@ use bgp_types::{From, NoMemory, Rank};
 use std::alloc::Global;
 use std::marker::Model;
 
-/// The ranks that one neighbour AS told, and the one among them that no other one beats.
+/// The ranks of the routes from one neighbour AS, and the champion among them, which no other one
+/// beats.
 #[derive(Drop)]
 pub(crate) struct Group {
     members: Ranks,
@@ -29,7 +30,7 @@ impl Model for Group {
 }
 
 impl Group {
-    /// The group of one rank.
+    /// Returns the group of one rank.
     pub fn one(alloc: Global, from: From, rank: Rank) -> Result<Group, NoMemory>
         ensures { IfOk result (λ group. group ≡ (from, rank) ∷ []) }
     {
@@ -45,14 +46,14 @@ impl Group {
         self.members.is_empty()
     }
 
-    /// The first of the ranks that no other one beats.
+    /// Returns the first of the ranks that no other one beats.
     pub fn champion(&self) -> Option<(From, Rank)>
         ensures { result ≡ champion_of self.now }
     {
         self.champion
     }
 
-    /// Puts a rank in its place, and finds the champion anew.
+    /// Sets the rank of a source, and finds the champion again. If memory runs out, nothing changes.
     pub fn set(&mut self, from: From, rank: Rank) -> Result<(), NoMemory>
         ensures ok { OnOk result (self.new ≡ with_rank self.old from rank) }
         ensures err { OnErr result (self.new ≡ self.old) }
@@ -62,7 +63,7 @@ impl Group {
         Ok(())
     }
 
-    /// Takes a rank out, and finds the champion anew.
+    /// Removes the rank of a source, and finds the champion again.
     pub fn remove(&mut self, from: From)
         ensures { self.new ≡ without self.old from }
     {

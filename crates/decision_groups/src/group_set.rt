@@ -11,11 +11,11 @@ use bgp_types::{From, NoMemory, Rank};
 use std::alloc::Global;
 use std::marker::Model;
 
-/// The ranks of the routes to one prefix, at most one of each `From`. Contracts see the list of them
-/// in the order of candidates: the own network, then peerings by rising number, then routers by rising
-/// number. They are kept in groups by neighbour AS, each with its champion, so that a change of one rank
-/// looks through the group of its neighbour AS alone. Where a rank replaces one of another neighbour AS,
-/// the group of that one is looked through too.
+/// The ranks of the routes to one prefix, at most one for each `From`. Contracts see the list of them
+/// in the order of candidates: the own network, then peerings in ascending order of number, then
+/// routers in ascending order of number. They are kept in groups by neighbour AS, each with its
+/// champion, so that a change of one rank looks through only the group of its neighbour AS. If a rank
+/// replaces one of another neighbour AS, the group of that AS is looked through too.
 #[derive(Drop)]
 pub struct GroupSet {
     alloc: Global,
@@ -36,7 +36,7 @@ impl Model for GroupSet {
 }
 
 impl GroupSet {
-    /// The set of no ranks.
+    /// Returns a set of no ranks.
     pub fn new(alloc: Global) -> GroupSet
         ensures { result ≡ [] }
     {
@@ -60,14 +60,14 @@ impl GroupSet {
         self.ranks.is_empty()
     }
 
-    /// The rank of the route that comes from there.
+    /// Returns the rank of the route from this source.
     pub fn get(&self, from: From) -> Option<&Rank>
         ensures { option_copied result ≡ rank_at self.now from }
     {
         self.ranks.get(from)
     }
 
-    /// Puts a rank in its place, where it replaces the one that came from there before. If memory runs
+    /// Sets the rank of the route from a source, replacing the one that it had before. If memory runs
     /// out, nothing changes.
     pub fn set(&mut self, from: From, rank: Rank) -> Result<(), NoMemory>
         ensures ok { OnOk result (self.new ≡ with_rank self.old from rank) }
@@ -90,8 +90,8 @@ impl GroupSet {
         }
     }
 
-    /// Takes out the rank of the route that comes from there, and answers whether there was one. It takes
-    /// no memory.
+    /// Removes the rank of the route from this source, and returns whether there was one. It allocates
+    /// nothing.
     pub fn remove(&mut self, from: From) -> bool
         ensures removed { IsTrue result ↔ IsSome (rank_at self.old from) }
         ensures left { self.new ≡ without self.old from }
@@ -107,10 +107,10 @@ impl GroupSet {
         }
     }
 
-    /// Where the route comes from that the nine rules of the decision process choose (RFC 4271, section
-    /// 9.1.2.2). Of the routes that all nine leave, which are equal by them, it is the first in the order
-    /// of candidates. An equal one that is not left may stand before it: one that a third route took out
-    /// by its MED. It takes no memory.
+    /// Returns the source of the route that the nine rules of the decision process choose (RFC 4271,
+    /// section 9.1.2.2). Of the routes that all nine leave, which are equal by them, it is the first in
+    /// the order of candidates. A route that is equal to it but was eliminated, by the MED of a third
+    /// route, may stand before it. It allocates nothing.
     pub fn best(&self) -> Option<From>
         ensures empty { IsNone result ↔ (self.now ≡ []) }
         ensures choice { result ≡ choice self.now }

@@ -14,7 +14,7 @@ use decision_core::{is_nearer, leads};
 use std::alloc::Global;
 use std::marker::Model;
 
-/// The groups of the neighbour ASes that told a rank, by rising number of the neighbour.
+/// The groups of the neighbour ASes that have a rank, in ascending order of the neighbour's number.
 #[derive(Drop)]
 pub(crate) struct Groups {
     entries: Vec<(u32, Group)>,
@@ -31,8 +31,8 @@ impl Model for Groups {
     ghost invariant = { λ g. AreNumbered g.entries.items };
 }
 
-/// Whether a champion is better than another by the rules but MED, or equal by them and earlier in the
-/// order of candidates. Champions have different neighbours, between which MEDs say nothing.
+/// Whether a champion is better than another by the rules except MED, or equal by them and earlier in
+/// the order of candidates. Champions have different neighbours, so their MEDs aren't compared.
 fn comes_first(a: &(From, Rank), b: &(From, Rank)) -> bool
     ensures { result ≡ comes_first_lem a.now b.now }
 {
@@ -48,7 +48,7 @@ fn comes_first(a: &(From, Rank), b: &(From, Rank)) -> bool
     !is_nearer(&b.1, &a.1) && a.0 < b.0
 }
 
-/// The better of the best so far and one more champion.
+/// Returns the better one of the best so far and one more champion.
 fn better(best: Option<(From, Rank)>, champion: Option<(From, Rank)>) -> Option<(From, Rank)>
     ensures { result ≡ better_of best champion }
 {
@@ -59,7 +59,7 @@ fn better(best: Option<(From, Rank)>, champion: Option<(From, Rank)>) -> Option<
     }
 }
 
-// Where the group of a neighbour AS stands, or where it would stand.
+// Returns the place of a neighbour AS' group, or as the error the place where it would be inserted.
 fn place(entries: &[(u32, Group)], neighbour: u32) -> Result<usize, usize>
     requires { AreNumbered entries.now }
     ensures found { IfOk result (IsPlace nat_cmp neighbour entries.now) }
@@ -69,7 +69,7 @@ fn place(entries: &[(u32, Group)], neighbour: u32) -> Result<usize, usize>
 }
 
 impl Groups {
-    /// No groups. It takes no memory before the first.
+    /// Returns no groups. It allocates nothing before the first.
     pub fn new(alloc: Global) -> Groups
         ensures { result ≡ [] }
     {
@@ -78,7 +78,8 @@ impl Groups {
         }
     }
 
-    /// Puts a rank into the group of its neighbour AS, which is made where it isn't there.
+    /// Adds a rank to the group of its neighbour AS, which is created if it doesn't exist. If memory
+    /// runs out, no group changes.
     pub fn join(&mut self, alloc: Global, from: From, rank: Rank) -> Result<(), NoMemory>
         ensures ok { OnOk result ((n : ℕ) → group_at self.new n ≡ (if n == rank.neighbour then Some (with_rank (members_of self.old n) from rank) else group_at self.old n)) }
         ensures err { OnErr result ((n : ℕ) → group_at self.new n ≡ group_at self.old n) }
@@ -93,7 +94,7 @@ impl Groups {
         }
     }
 
-    /// Takes a rank out of a neighbour AS' group. A group whose last rank goes, goes too.
+    /// Removes a rank from a neighbour AS' group. A group whose last rank is removed is removed too.
     pub fn leave(&mut self, from: From, neighbour: u32)
         ensures { (n : ℕ) → group_at self.new n ≡ (if n == neighbour then some_members (without (members_of self.old n) from) else group_at self.old n) }
     {
@@ -107,7 +108,7 @@ impl Groups {
         }
     }
 
-    /// The champion that comes before all others.
+    /// Returns the champion that comes before all others.
     pub fn best_champion(&self) -> Option<(From, Rank)>
         ensures best { result ≡ best_by comes_first_lem (filter_map champion_of (values_of self.now)) }
         ensures numbered { AreNumbered self.now }

@@ -1,6 +1,6 @@
 //! The choice between the routes to one prefix, kept in groups by neighbour AS, so that a change of one
-//! rank looks through no other group than its own and, where its neighbour AS changes, its old one
-//! (RFC 4271, section 9.1.2.2).
+//! rank looks through only its own group and, if its neighbour AS changes, its old one (RFC 4271,
+//! section 9.1.2.2).
 #![tactic(auto)]
 
 mod group;

@@ -1,4 +1,4 @@
-//! Ranks by where their routes come from.
+//! Ranks by the sources of their routes.
 
 ghost use Rattle.std.specs.Prelude.{◌≡◌, ◌↔◌, [], ◌∷◌, IsTrue, IfOk, IfErr, OnErr, OnOk, None, length};
 ghost use Rattle.std.specs.Option.{option_copied};
@@ -12,7 +12,7 @@ use std::alloc::Global;
 use std::marker::Model;
 use std::mem;
 
-/// At most one rank of each `From`, in their order.
+/// At most one rank for each `From`, in order of `From`.
 #[derive(Drop)]
 pub(crate) struct Ranks {
     entries: Vec<(From, Rank)>,
@@ -29,8 +29,8 @@ impl Model for Ranks {
     ghost invariant = { λ s. IsInOrder s.entries.items };
 }
 
-/// Whether the first rank beats the second by the nine rules, where one neighbour AS told both. MEDs of
-/// one neighbour are compared, so that the rules are one order.
+/// Whether the first rank beats the second by the nine rules, where both are from the same neighbour
+/// AS. Their MEDs are compared, so that the nine rules are one order.
 fn beats(a: &Rank, b: &Rank) -> bool
     ensures { result ≡ beats_lem a.now b.now }
 {
@@ -56,7 +56,7 @@ fn beats_champion(champion: &Option<(From, Rank)>, rank: &Rank) -> bool
     }
 }
 
-// Where the rank of what comes from there stands, or where it would stand.
+// Returns the place of the rank from this source, or as the error the place where it would be inserted.
 fn place(entries: &[(From, Rank)], from: From) -> Result<usize, usize>
     requires { IsInOrder entries.now }
     ensures found { IfOk result (IsPlace from_order from entries.now) }
@@ -66,7 +66,7 @@ fn place(entries: &[(From, Rank)], from: From) -> Result<usize, usize>
 }
 
 impl Ranks {
-    /// No ranks. It takes no memory before the first.
+    /// Returns a list of no ranks. It allocates nothing before the first.
     pub fn new(alloc: Global) -> Ranks
         ensures { result ≡ [] }
     {
@@ -75,7 +75,7 @@ impl Ranks {
         }
     }
 
-    /// One rank, with memory for a second.
+    /// Returns a list of one rank, with memory for a second.
     pub fn one(alloc: Global, from: From, rank: Rank) -> Result<Ranks, NoMemory>
         ensures { IfOk result (λ ranks. ranks ≡ (from, rank) ∷ []) }
     {
@@ -106,8 +106,8 @@ impl Ranks {
         }
     }
 
-    /// Puts a rank in its place, and answers the one that it replaces. Memory can run out only where there
-    /// was none, and then nothing changes.
+    /// Sets the rank of a source, and returns the one that it replaces. Memory can run out only if
+    /// there was none from this source; then nothing changes.
     pub fn insert(&mut self, from: From, rank: Rank) -> Result<Option<Rank>, NoMemory>
         ensures replaced { IfOk result (λ old. old ≡ rank_at self.old from) }
         ensures ok { OnOk result (self.new ≡ with_rank self.old from rank) }
@@ -124,7 +124,7 @@ impl Ranks {
         }
     }
 
-    /// Takes a rank out. It takes no memory.
+    /// Removes the rank of a source, and returns it. It allocates nothing.
     pub fn remove(&mut self, from: From) -> Option<Rank>
         ensures removed { result ≡ rank_at self.old from }
         ensures left { self.new ≡ without self.old from }
@@ -136,7 +136,7 @@ impl Ranks {
         }
     }
 
-    /// The first of the ranks that no other one beats, where one neighbour AS told them all.
+    /// Returns the first of the ranks that no other one beats, where all are from one neighbour AS.
     pub fn champion(&self) -> Option<(From, Rank)>
         ensures { result ≡ champion_of self.now }
     {

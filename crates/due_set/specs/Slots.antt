@@ -1,4 +1,4 @@
--- What a set of prefixes has that is kept in slots, and which of these are in it.
+-- Sets of prefixes that are kept in slots, each of which says whether its prefix is in the set.
 use Rattle.std.specs.Prelude.{◌≡◌, ℕ, ◌≤◌, Bool, true, false, T, List, [], ◌∷◌, length, map as list_map, take, fold, Option, Some, None, if◌then◌else◌}
 use Rattle.std.specs.Ordering.{is_lt}
 use Rattle.std.specs.FinMap as map
@@ -14,17 +14,17 @@ PrefixSet = map.FinMap prefix_cmp (Unit {0})
 abbrev pub Slot : Type 0
 Slot = PrefixValue × Bool
 
--- the set with what is in a slot
+-- the set, with the prefix of a slot if that says that it is in
 abbrev pub with_slot : Slot → PrefixSet → PrefixSet
 with_slot (p, true) set = map.insert set p tt
 with_slot (p, false) set = set
 
--- what is in the slots, and what is in a set beside them
+-- the prefixes that slots say are in, together with those of another set
 abbrev pub united : List Slot → PrefixSet → PrefixSet
 united [] beside = beside
 united (slot ∷ slots) beside = with_slot slot (united slots beside)
 
--- The prefixes of the slots rise, and in none of the first ones is anything.
+-- The prefixes of the slots are in ascending order, and none of the first ones is in the set.
 pub record AreSlots (slots : List Slot) (start : ℕ) : Type 0 where
   pub rise : T (map.is_sorted prefix_cmp slots)
   pub within : start ≤ length slots
@@ -35,7 +35,7 @@ abbrev pub is_held : Option Bool → Bool
 is_held None = false
 is_held (Some is_in) = is_in
 
--- the prefixes that are in slots
+-- the prefixes that slots say are in
 abbrev pub those_in : List Slot → List PrefixValue
 those_in slots = list_map (λ slot. slot.0) (filter (λ slot. slot.1) slots)
 
@@ -44,12 +44,12 @@ abbrev pub first_in : List Slot → Option PrefixValue
 first_in [] = None
 first_in (slot ∷ slots) = if slot.1 then Some slot.0 else first_in slots
 
--- the lesser of two prefixes, where there are any
+-- the lesser of two prefixes, or the one that there is
 abbrev pub lesser_of : Option PrefixValue → Option PrefixValue → Option PrefixValue
 lesser_of None other = other
 lesser_of (Some one) None = Some one
 lesser_of (Some one) (Some other) = if is_lt (prefix_cmp other one) then Some other else Some one
 
--- a set with prefixes beside those that are in it
+-- a set, with further prefixes
 abbrev pub with_all : PrefixSet → List PrefixValue → PrefixSet
 with_all set prefixes = fold (λ s p. map.insert s p tt) set prefixes

@@ -1,4 +1,4 @@
-//! A set of prefixes that mostly come in rising order, are listed, and go.
+//! A set for prefixes that mostly are added in ascending order, listed, and removed.
 
 ghost use Rattle.std.specs.Prelude.{◌≡◌, None, is_some, IsOk, IsSome, OnErr, OnOk, IfOk};
 ghost use Rattle.std.specs.FinMap as map;
@@ -11,20 +11,24 @@ use prefix_trie::TrieTable;
 use std::alloc::Global;
 use std::marker::Model;
 
-/// A set of prefixes. Those that come in rising order stand in one list; what comes later than a greater one, and wasn't there, in a second or a third, so that three sources
-/// may come one after the other, each in rising order. What finds no place there stands in a trie.
+/// A set of prefixes. Those that are added in ascending order stand in one list. A new prefix that is
+/// less than one added earlier goes to a second list, or to a third, so that three sources may come one
+/// after the other, each in ascending order. A prefix that finds no place in any list goes to a trie.
 ///
-/// Where all come in rising order, each takes a constant time, and so it does where those that are there come again in that order; else it takes a search by halves of each list that it
-/// passes. `remove` takes a constant time for each list where the prefix is its first, or is less, and else a search by halves. A list that `prefixes` gives takes a step for each prefix where
-/// all stand in the first list, and `first` none beyond those by which a removal passes what is gone. For what stands in the trie, see `TrieTable`. What is taken out of a list keeps
-/// its place there until the list has nothing that is in the set.
+/// If all prefixes are added in ascending order, each takes constant time, and so it does if those that
+/// are there are added again in that order; else it takes a binary search of each list that it passes.
+/// `remove` takes constant time for each list of which the prefix is the first, or is less than that,
+/// and else a binary search. `prefixes` takes a step for each prefix if all are in the first list, and
+/// `first` takes none beyond those by which a removal passes vacant places. For what is in the trie,
+/// see `TrieTable`. A prefix that is removed from a list keeps its place there until no prefix of the
+/// list is in the set.
 #[derive(Drop)]
 pub struct DueSet {
     alloc: Global,
     first: Run,
     second: Run,
     third: Run,
-    // What came too late for a place at the end of a list.
+    // Prefixes that were added too late for a place at the end of a list.
     late: TrieTable<()>,
 }
 
@@ -41,7 +45,7 @@ impl Model for DueSet {
     ghost view = { λ s. united s.first (united s.second (united s.third s.late.contents)) };
 }
 
-/// The lesser of two prefixes, where there are any.
+/// Returns the lesser of two prefixes, or the one that there is.
 fn lesser(one: Option<Prefix>, other: Option<Prefix>) -> Option<Prefix>
     ensures { result ≡ lesser_of one other }
 {
@@ -52,7 +56,7 @@ fn lesser(one: Option<Prefix>, other: Option<Prefix>) -> Option<Prefix>
     }
 }
 
-/// Puts prefixes into a table.
+/// Adds prefixes to a table.
 fn add_all(table: &mut TrieTable<()>, prefixes: &[Prefix]) -> Result<(), NoMemory>
     ensures { OnOk result (table.new.contents ≡ with_all table.old.contents prefixes.now) }
 {
@@ -64,7 +68,7 @@ fn add_all(table: &mut TrieTable<()>, prefixes: &[Prefix]) -> Result<(), NoMemor
     Ok(())
 }
 
-/// Takes a prefix out of a table, most of which are empty.
+/// Removes a prefix from a table. Most tables are empty.
 fn take_out(table: &mut TrieTable<()>, prefix: Prefix)
     ensures { table.new.contents ≡ map.remove table.old.contents prefix }
 {
@@ -74,7 +78,7 @@ fn take_out(table: &mut TrieTable<()>, prefix: Prefix)
 }
 
 impl DueSet {
-    /// The empty set. It takes no memory before the first prefix.
+    /// Returns an empty set. It allocates nothing before the first prefix.
     pub fn new(alloc: Global) -> DueSet
         ensures { result ≡ map.empty }
     {
@@ -87,11 +91,11 @@ impl DueSet {
         }
     }
 
-    /// Puts a prefix into the set. If memory runs out, nothing changes.
+    /// Adds a prefix to the set. If memory runs out, nothing changes.
     pub fn insert(&mut self, prefix: Prefix) -> Result<(), NoMemory>
         ensures ok { OnOk result (self.new ≡ map.insert self.old prefix tt) }
         ensures err { OnErr result (self.new ≡ self.old) }
-        // What is in the set wants no memory.
+        // A prefix that is in the set needs no memory.
         ensures present { IsSome (map.get self.old prefix) → IsOk result }
     {
         if self.add(prefix).is_ok() || self.contains(prefix) {
@@ -100,7 +104,8 @@ impl DueSet {
         Err(NoMemory)
     }
 
-    /// Puts a prefix into the first list where it has a place, or into the trie. If memory runs out, nothing changes.
+    /// Adds a prefix to the first list where it has a place, or to the trie. If memory runs out,
+    /// nothing changes.
     fn add(&mut self, prefix: Prefix) -> Result<(), NoMemory>
         ensures ok { OnOk result (self.new ≡ map.insert self.old prefix tt) }
         ensures err { OnErr result (self.new ≡ self.old) }
@@ -114,7 +119,7 @@ impl DueSet {
         }
     }
 
-    /// Takes a prefix out, if it is in the set. It asks for no memory.
+    /// Removes a prefix, if it is in the set. It allocates nothing.
     pub fn remove(&mut self, prefix: Prefix)
         ensures { self.new ≡ map.remove self.old prefix }
     {
@@ -134,7 +139,7 @@ impl DueSet {
             || self.late.get(prefix).is_some()
     }
 
-    /// The least prefix of the set.
+    /// Returns the least prefix of the set.
     pub fn first(&self) -> Option<Prefix>
         ensures { result ≡ first_above None (map.keys self.now) }
     {
@@ -146,7 +151,7 @@ impl DueSet {
         lesser(first, lesser(self.second.first(), late))
     }
 
-    /// The prefixes, in rising order.
+    /// Returns the prefixes in ascending order.
     pub fn prefixes(&self) -> Result<PrefixList, NoMemory>
         ensures { IfOk result (λ prefixes. prefixes ≡ map.keys self.now) }
     {
@@ -162,7 +167,7 @@ impl DueSet {
         all.prefixes()
     }
 
-    /// Takes all prefixes out. It asks for no memory.
+    /// Removes all prefixes. It allocates nothing.
     pub fn clear(&mut self)
         ensures { self.new ≡ map.empty }
     {

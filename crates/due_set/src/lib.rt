@@ -1,4 +1,4 @@
-//! The prefixes that are due to one receiver.
+//! The set of the prefixes that are due to one receiver.
 #![tactic(auto)]
 
 mod due;

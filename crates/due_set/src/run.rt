@@ -1,4 +1,4 @@
-//! Prefixes that came in rising order.
+//! A list of prefixes that were added in ascending order.
 
 ghost use Rattle.std.specs.Prelude.{◌≡◌, ◌||◌, T, None, true, false, [], is_some, IsTrue, IfOk, IfErr, OnErr};
 ghost use Rattle.std.specs.FinMap as map;
@@ -11,13 +11,14 @@ use prefix_table::place;
 use std::alloc::Global;
 use std::marker::Model;
 
-/// A list of prefixes in rising order, each with whether it is in a set. What is taken out keeps its place until nothing of the list is in the set.
+/// A list of prefixes in ascending order, each with whether it is in a set. A prefix that is removed
+/// keeps its slot until no prefix of the list is in the set.
 #[derive(Drop)]
 pub(crate) struct Run {
     slots: Vec<(Prefix, bool)>,
-    // In none of the slots before this one is anything.
+    // Earlier slots are empty: their prefixes aren't in the set.
     start: usize,
-    // Where the next prefix may stand that comes again: behind the last that did.
+    // Where the next prefix that is added again may stand: behind the last one that was.
     near: usize,
 }
 
@@ -43,7 +44,8 @@ fn is_past(slots: &[(Prefix, bool)], prefix: Prefix) -> bool
     }
 }
 
-/// Whether a prefix isn't in the set for it is less than that of the slot `start`, or there is none: nothing before it is in the set.
+/// Whether a prefix is known not to be in the set, because it is less than that of the slot `start` or
+/// there is no such slot.
 fn is_before(slots: &[(Prefix, bool)], start: usize, prefix: Prefix) -> bool
     requires { AreSlots slots.now start }
     ensures { IsTrue result → is_held (map.find prefix_cmp prefix slots.now) ≡ false }
@@ -51,7 +53,8 @@ fn is_before(slots: &[(Prefix, bool)], start: usize, prefix: Prefix) -> bool
     start >= slots.len() || prefix < slots[start].0
 }
 
-/// Where a prefix stands in the slots, or where it would stand: at once where it is in the slot `near`, and else by halves.
+/// Returns the place of a prefix in the slots, or as the error the place where it would be inserted. It
+/// finds a prefix in the slot `near` at once, and any other by binary search.
 fn place_near(slots: &[(Prefix, bool)], near: usize, prefix: Prefix) -> Result<usize, usize>
     requires { T (map.is_sorted prefix_cmp slots.now) }
     ensures found { IfOk result (IsPlace slots.now prefix) }
@@ -63,7 +66,7 @@ fn place_near(slots: &[(Prefix, bool)], near: usize, prefix: Prefix) -> Result<u
     place(slots, prefix)
 }
 
-/// The first place from `start` on in whose slot something is, or else the end.
+/// Returns the first place from `start` on whose prefix is in the set, or else the end.
 fn passed(slots: &[(Prefix, bool)], start: usize) -> usize
     requires { AreSlots slots.now start }
     ensures { AreSlots slots.now result }
@@ -75,7 +78,7 @@ fn passed(slots: &[(Prefix, bool)], start: usize) -> usize
     at
 }
 
-/// The first prefix of the slots that is in the set.
+/// Returns the first prefix of the slots that is in the set.
 fn first_of(slots: &[(Prefix, bool)]) -> Option<Prefix>
     ensures { result ≡ first_in slots.now }
 {
@@ -87,7 +90,7 @@ fn first_of(slots: &[(Prefix, bool)]) -> Option<Prefix>
     None
 }
 
-/// The prefixes of the slots that are in the set, in memory that is asked for once.
+/// Returns the prefixes of the slots that are in the set, in one allocation.
 fn listed(alloc: Global, slots: &[(Prefix, bool)]) -> Result<PrefixList, NoMemory>
     ensures { IfOk result (λ prefixes. prefixes ≡ those_in slots.now) }
 {
@@ -101,7 +104,7 @@ fn listed(alloc: Global, slots: &[(Prefix, bool)]) -> Result<PrefixList, NoMemor
 }
 
 impl Run {
-    /// No prefix. It takes no memory before the first.
+    /// Returns an empty list. It allocates nothing before the first prefix.
     pub fn new(alloc: Global) -> Run
         ensures { result ≡ [] }
     {
@@ -112,14 +115,15 @@ impl Run {
         }
     }
 
-    /// Whether nothing is in the list.
+    /// Whether the list is empty.
     pub fn is_empty(&self) -> bool
         ensures { IsTrue result → self.now ≡ [] }
     {
         self.slots.is_empty()
     }
 
-    /// Puts a prefix into the set and answers true, where it is greater than all of the list or stands there. If memory runs out, nothing changes.
+    /// Adds a prefix to the set and returns true, if it is greater than all of the list or has a slot
+    /// there. Else it returns false and nothing changes. If memory runs out, nothing changes.
     pub fn add(&mut self, prefix: Prefix) -> Result<bool, NoMemory>
         ensures taken { IfOk result (λ taken. taken ≡ true → (beside : PrefixSet) → united self.new beside ≡ map.insert (united self.old beside) prefix tt) }
         ensures passed { IfOk result (λ taken. taken ≡ false → (beside : PrefixSet) → united self.old (map.insert beside prefix tt) ≡ map.insert (united self.old beside) prefix tt) }
@@ -140,7 +144,7 @@ impl Run {
         }
     }
 
-    /// Takes a prefix out of the set. It asks for no memory.
+    /// Removes a prefix from the set. It allocates nothing.
     pub fn remove(&mut self, prefix: Prefix)
         ensures { (beside : PrefixSet) → united self.new (map.remove beside prefix) ≡ map.remove (united self.old beside) prefix }
     {
@@ -153,7 +157,8 @@ impl Run {
         }
     }
 
-    /// Passes the first slots in which nothing is any more. Where nothing is in any slot, all go.
+    /// Passes the first slots whose prefixes are no longer in the set. If no slot's prefix is, all
+    /// slots are removed.
     fn skip(&mut self)
         ensures { (beside : PrefixSet) → united self.new beside ≡ united self.old beside }
     {
@@ -177,14 +182,14 @@ impl Run {
         }
     }
 
-    /// The least prefix of the list that is in the set.
+    /// Returns the least prefix of the list that is in the set.
     pub fn first(&self) -> Option<Prefix>
         ensures { (beside : PrefixSet) → first_above None (map.keys (united self.now beside)) ≡ lesser_of result (first_above None (map.keys beside)) }
     {
         first_of(&self.slots[self.start..])
     }
 
-    /// The prefixes of the list that are in the set, in rising order.
+    /// Returns the prefixes of the list that are in the set, in ascending order.
     pub fn prefixes(&self, alloc: Global) -> Result<PrefixList, NoMemory>
         ensures all { IfOk result (λ prefixes. (beside : PrefixSet) → with_all beside prefixes ≡ united self.now beside) }
         ensures alone { IfOk result (λ prefixes. (beside : PrefixSet) → map.len beside ≡ 0 → map.keys (united self.now beside) ≡ prefixes) }
@@ -192,7 +197,7 @@ impl Run {
         listed(alloc, &self.slots[self.start..])
     }
 
-    /// Takes all prefixes out. It asks for no memory.
+    /// Removes all prefixes. It allocates nothing.
     pub fn clear(&mut self)
         ensures { self.new ≡ [] }
     {

@@ -7,8 +7,8 @@ use std::io::Cursor;
 use std::process::Abort;
 use std::test::Fail;
 
-/// Reads at most `most` bytes of "peering" from a source that gives at most `step` in one call and
-/// fails at the call of this number.
+/// Reads at most `most` bytes of "peering" from a source that gives at most `step` bytes per call and fails at call
+/// `fails`.
 fn read(alloc: Global, step: usize, fails: u32, most: usize) -> Result<Octets, ReadStop> {
     let mut source = MemSource::new(alloc, b"peering", step.max(1), &[fails])?;
     read_all(alloc, &mut source, most)
@@ -74,7 +74,7 @@ fn readers_and_writers_of_std_are_sources_and_sinks(rt: HostRuntime) -> Result<(
     Ok(())
 }
 
-/// What is done to a queue.
+/// A call on a queue.
 #[derive(Clone, Copy, Debug)]
 enum Step {
     Extend(&'static str),
@@ -84,8 +84,8 @@ enum Step {
 
 use Step::{DropFront, Extend, Truncate};
 
-/// Does a step. If memory runs out, as `rt try --test --fail-alloc` has it, the queue is as before and
-/// takes the bytes at the next call.
+/// Makes a step. If memory runs out, as under `rt try --test --fail-alloc`, the queue hasn't changed and takes the
+/// bytes at the next call.
 fn make(rt: &impl Abort, queue: &mut ByteQueue, before: &str, step: Step) -> Result<(), NoMemory> {
     match step {
         Extend(more) => {
@@ -106,7 +106,7 @@ fn make(rt: &impl Abort, queue: &mut ByteQueue, before: &str, step: Step) -> Res
     Ok(())
 }
 
-/// Steps from the queue of "abcdefgh" on, each with the bytes after it.
+/// Steps that start from the queue "abcdefgh", each with the bytes of the queue after it.
 #[test]
 fn bytes_are_added_at_the_back_and_dropped_at_the_front(rt: HostRuntime) -> Result<(), Fail> {
     let mut queue = ByteQueue::from_octets(Octets::from_slice(rt.alloc(), b"abcdefgh")?);
@@ -117,16 +117,16 @@ fn bytes_are_added_at_the_back_and_dropped_at_the_front(rt: HostRuntime) -> Resu
         (DropFront(0), "defgh"),
         (Extend("ijk"), "defghijk"),
         (Truncate(7), "defghij"),
-        // it is as long as the rest, which moves to the front
+        // the dropped part is as long as the rest, which moves to the front
         (DropFront(2), "fghij"),
         (Extend("klm"), "fghijklm"),
-        // it is longer
+        // the dropped part is longer
         (DropFront(6), "lm"),
         (Extend("nop"), "lmnop"),
-        // all
+        // all bytes are dropped
         (DropFront(5), ""),
         (Extend("qrstu"), "qrstu"),
-        // all behind a part that was dropped
+        // all bytes after a dropped part are removed
         (DropFront(2), "stu"),
         (Truncate(0), ""),
         (Extend("vwx"), "vwx"),

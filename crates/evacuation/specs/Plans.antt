@@ -1,12 +1,12 @@
--- Which routers take the peerings that a router gives away. The routers are the numbers below the length of two lists:
--- each router's load, which is how many peerings it holds, and its room, which is how many it may hold.
+-- Which routers take the peerings of a router that is evacuated. The routers are the numbers below the length of two lists: each router's load, which
+-- is how many peerings it holds, and its room, which is how many it may hold.
 use Rattle.std.specs.Prelude.{◌≡◌, ◌≢◌, ◌⊎◌, ℕ, zero, suc, ◌+◌, ◌-◌, ◌<◌, ◌≤◌, ◌==◌, ◌&&◌, not, nat_lt, nat_le, Bool, false, if◌then◌else◌, List, [], ◌∷◌, length}
 use Rattle.std.specs.Prelude.{Option, Some, None, is_some, count_by, sum_by, filter, slice_index, slice_set}
 use Rattle.std.specs.List.{range_with_len}
 use Rattle.std.specs.Option.{option_map}
 use Rattle.graft_edge.specs.declared.ids.RouterId.{RouterId}
 
--- for each peering in turn, the router that it goes to, or none
+-- for each peering in order, the router that it goes to, or none
 abbrev pub TargetList : Type 0
 TargetList = List (Option RouterId)
 
@@ -16,12 +16,11 @@ pub record IsFree (loads rooms : List ℕ) (from r : ℕ) : Type 0 where
   pub other : r ≢ from
   pub below_room : slice_index loads r < slice_index rooms r
 
--- A router has a lesser load than another, or the same load and the lower number.
+-- A router has less load than another, or the same load and the lower number.
 abbrev pub IsBefore : List ℕ → ℕ → ℕ → Type 0
 IsBefore loads r q = (slice_index loads r < slice_index loads q) ⊎ ((slice_index loads r ≡ slice_index loads q) × (r < q))
 
--- Of the routers other than `from` whose load is below their room, this one has the least load, and the lowest number of
--- those with that load.
+-- Of the routers other than `from` whose load is below their room, this one has the least load, and of several with that load the lowest number.
 pub record IsLeast (loads rooms : List ℕ) (from r : ℕ) : Type 0 where
   pub free : IsFree loads rooms from r
   pub least : (q : ℕ) → IsFree loads rooms from q → q ≢ r → IsBefore loads r q
@@ -34,8 +33,8 @@ IsFull loads rooms from = (r : ℕ) → ¬ IsFree loads rooms from r
 abbrev pub one_more : List ℕ → ℕ → List ℕ
 one_more loads r = slice_set loads r (slice_index loads r + 1)
 
--- Each of `count` peerings in turn goes to the router other than `from` whose load, with the peerings already given, is
--- least among those below their room, the lowest number first. It goes to none where there is no such router.
+-- Each of `count` peerings in turn goes to the router other than `from` whose load, with the peerings already given, is least among those below their
+-- room, the lowest number first. It has no target if there is no such router.
 pub data Plan (rooms : List ℕ) (from : ℕ) : List ℕ → ℕ → TargetList → Type 0 where
   Done : {loads : List ℕ} → Plan rooms from loads 0 []
   Given : {loads : List ℕ} {count : ℕ} {targets : TargetList} (r : RouterId) → IsLeast loads rooms from r.0
@@ -77,7 +76,7 @@ abbrev pub is_router : ℕ → Option RouterId → Bool
 is_router r None = false
 is_router r (Some target) = target.0 == r
 
--- how many of the peerings a router is given
+-- how many of the peerings are given to a router
 abbrev pub times_given : ℕ → TargetList → ℕ
 times_given r targets = count_by (is_router r) targets
 
@@ -85,11 +84,11 @@ times_given r targets = count_by (is_router r) targets
 abbrev pub number_given : TargetList → ℕ
 number_given targets = count_by is_some targets
 
--- a router's load with what it is given
+-- a router's load with the peerings that it is given
 abbrev pub load_after : List ℕ → TargetList → ℕ → ℕ
 load_after loads targets r = slice_index loads r + times_given r targets
 
--- A router that is given peerings is in the list and isn't `from`, and doesn't pass its room with them.
+-- A router that is given peerings is in the list, isn't `from`, and doesn't exceed its room with them.
 pub record IsGivenRoom (loads rooms : List ℕ) (from : ℕ) (targets : TargetList) (r : ℕ) : Type 0 where
   pub in_range : r < length loads
   pub other : r ≢ from
@@ -99,7 +98,7 @@ pub record IsGivenRoom (loads rooms : List ℕ) (from : ℕ) (targets : TargetLi
 abbrev pub KeepsRooms : List ℕ → List ℕ → ℕ → TargetList → Type 0
 KeepsRooms loads rooms from targets = (r : ℕ) → 0 < times_given r targets → IsGivenRoom loads rooms from targets r
 
--- the free places of a router: as many as its room is above its load, and none at `from`
+-- the free places of a router: its room minus its load, and none at `from`
 abbrev pub free_places_at : List ℕ → List ℕ → ℕ → ℕ → ℕ
 free_places_at loads rooms from r = if r == from then 0 else slice_index rooms r - slice_index loads r
 
@@ -107,12 +106,12 @@ free_places_at loads rooms from r = if r == from then 0 else slice_index rooms r
 abbrev pub free_places : List ℕ → List ℕ → ℕ → ℕ
 free_places loads rooms from = sum_by (free_places_at loads rooms from) (range_with_len 0 (length loads))
 
--- A way to give each of `count` peerings to a router other than `from`, where no router passes its room.
+-- A way to give each of `count` peerings to a router other than `from` such that no router exceeds its room.
 pub record GivesAll (loads rooms : List ℕ) (from count : ℕ) (targets : TargetList) : Type 0 where
   pub number : length targets ≡ count
   pub all : number_given targets ≡ count
   pub rooms_kept : KeepsRooms loads rooms from targets
 
--- With what they are given, the routers other than `from` have at most this load.
+-- With the peerings that they are given, the routers other than `from` have at most this load.
 abbrev pub AreAtMost : ℕ → List ℕ → ℕ → TargetList → Type 0
 AreAtMost most loads from targets = (r : ℕ) → r < length loads → r ≢ from → load_after loads targets r ≤ most

@@ -1,4 +1,4 @@
-//! Which routers take the peerings that a router gives away.
+//! Which routers take the peerings of a router that is evacuated.
 #![tactic(auto)]
 
 ghost use Rattle.std.specs.Prelude.{◌≡◌, ◌≤◌, ◌<◌, ◌↔◌, ℕ, IsTrue, IfOk, IfNone, IfSome, MatchOption, List, length, min, slice_index};
@@ -8,7 +8,7 @@ ghost use Rattle.evacuation.specs.Plans.{AreAtMost, GivesAll, IsFree, IsFull, Is
 use graft_edge::{Items, NoMemory, RouterId};
 use std::alloc::Global;
 
-/// For each peering in turn, the router that it goes to, or none.
+/// For each peering in order, the router that it goes to, or none.
 pub type Targets = Items<Option<RouterId>>;
 
 /// Whether a router may be given a peering: it isn't `from`, and its load is below its room.
@@ -20,7 +20,7 @@ fn is_free(loads: &[u32], rooms: &[u32], from: RouterId, router: usize) -> bool
     router != usize::from(from.0) && loads[router] < rooms[router]
 }
 
-/// Whether a router has less load than the least loaded one so far, or there is none so far.
+/// Whether a router has less load than the least loaded one so far, if there is one.
 fn has_less(loads: &[u32], router: usize, least: Option<usize>) -> bool
     requires in_range { router < length loads.now }
     requires least_in_range { ForSome least (λ least. least < length loads.now) }
@@ -32,8 +32,9 @@ fn has_less(loads: &[u32], router: usize, least: Option<usize>) -> bool
     }
 }
 
-/// The router that the next peering goes to: of those other than `from` whose load is below their room, the one with
-/// the least load, and the lowest number of those with that load.
+/// Returns the router that the next peering goes to: of those other than `from` whose load is below
+/// their room, the one with the least load, and of several with that load the one with the lowest
+/// number.
 fn least_loaded(loads: &[u32], rooms: &[u32], from: RouterId) -> Option<RouterId>
     requires same_length { length rooms.now ≡ length loads.now }
     requires numbered { length loads.now ≤ 256 }
@@ -50,15 +51,16 @@ fn least_loaded(loads: &[u32], rooms: &[u32], from: RouterId) -> Option<RouterId
     Some(RouterId(least as u8))
 }
 
-/// Which routers take `count` peerings of the router `from`. Each peering in turn goes to the router other than `from`
-/// whose load, with the peerings already given, is least among those below their room, and of several with that load to
-/// the one with the lowest number. A peering has no target where no such router is below its room.
+/// Returns which routers take `count` peerings of the router `from`. Each peering in turn goes to the
+/// router other than `from` whose load, with the peerings already given, is least among those below
+/// their room, and of several with that load to the one with the lowest number. A peering has no target
+/// if no such router is below its room.
 ///
-/// A load is how many peerings a router holds, and a room how many it may hold. A router is named by its place in both
-/// lists, so these have one length, of at most as many places as a `RouterId` can name. The router `from` gives its
-/// peerings away, and its own load is never changed.
+/// A load is how many peerings a router holds, and a room how many it may hold. A router is named by
+/// its place in both lists, so these have the same length, which is at most the number of places that a
+/// `RouterId` can name. The router `from` gives its peerings away, and its own load is never changed.
 ///
-/// It takes memory for a copy of the loads and for the targets, and a step for each peering and router.
+/// It allocates a copy of the loads and the targets, and takes a step for each peering and router.
 ///
 /// # Errors
 ///
@@ -94,7 +96,7 @@ pub fn plan(
     Ok(targets)
 }
 
-/// There is no second plan of the same loads and rooms for as many peerings of the same router.
+/// Plans for the same loads and rooms and the same number of peerings of the same router are equal.
 pub fn a_plan_is_the_only_one()
     ensures { (rooms loads : List ℕ) (from count : ℕ) (one other : TargetList)
         → Plan rooms from loads count one → Plan rooms from loads count other → one ≡ other }
@@ -105,8 +107,9 @@ pub fn there_is_a_plan()
     ensures { (rooms loads : List ℕ) (from count : ℕ) → Plan rooms from loads count (plan_for rooms from loads count) }
 {}
 
-/// A plan keeps the rooms and has a target or none for each peering. It gives as many as there are free places for, and
-/// where it gives all, no other way to give all has a lower greatest load among the other routers.
+/// A plan keeps the rooms and has a target or none for each peering. It gives as many as there are free
+/// places for. If it gives all, no other way to give all has a lower greatest load among the other
+/// routers.
 pub fn plans_keep_rooms_and_loads()
     ensures room { (rooms loads : List ℕ) (from count : ℕ) (targets : TargetList) → Plan rooms from loads count targets
         → KeepsRooms loads rooms from targets }

@@ -1,4 +1,4 @@
--- What holds of meshes, and of worlds whose tables solve the decision equations.
+-- Laws of meshes, and of worlds whose tables solve the decision equations.
 use Rattle.std.specs.Prelude.{ℕ, ◌≡◌, ◌≢◌, ◌<◌, Option}
 use Rattle.std.specs.List.{AllByRecursion}
 use Rattle.std.specs.FinMap as map
@@ -16,11 +16,11 @@ use Rattle.even_meshes.specs.Worlds.{mesh_of}
 abbrev pub EvenMeshesHaveOneSolution : Type 0
 EvenMeshesHaveOneSolution = (m : Mesh) (best : ℕ → Option Best) → IsEven m → Solves m best → AllByRecursion (λ r. best r ≡ solution m r) m.routers
 
--- And the solution of an even mesh solves it.
+-- The solution of an even mesh solves it.
 abbrev pub TheSolutionSolves : Type 0
 TheSolutionSolves = (m : Mesh) → IsEven m → Solves m (solution m)
 
--- What a router then tells the others is its first route if it leads with that, and else nothing.
+-- In the solution of an even mesh, a router tells the others its first route if it leads with that, and nothing otherwise.
 abbrev pub OnlyLeadersTell : Type 0
 OnlyLeadersTell = (m : Mesh) (best : ℕ → Option Best) → IsEven m → Solves m best
     → AllByRecursion (λ r. tell_in (best r) ≡ leader_route m (first_of m r)) m.routers
@@ -34,8 +34,8 @@ abbrev pub SettledTablesAreTheSolution : Type 0
 SettledTablesAreTheSolution = (setup : Setup) (w : World) (prefix : PrefixValue) (r : ℕ) → r < routers_in setup
     → claims.Solves setup w → IsEven (mesh_of setup w prefix) → map.get (w.router r).best prefix ≡ solution (mesh_of setup w prefix) r
 
--- Two worlds of one laboratory, whose tables both solve the decision equations, have the same sessions at each router, with the same routes to a prefix, and
--- the mesh of one of them is even; so that of the other one is too. Then each router has the same best route to that prefix in both.
+-- Two worlds of one laboratory, whose tables both solve the decision equations, have the same sessions at each router, with the same routes to a
+-- prefix, and the mesh of one of them is even, so that of the other one is too. Then each router has the same best route to that prefix in both.
 abbrev pub EqualMeshesHaveEqualTables : Type 0
 EqualMeshesHaveEqualTables = (setup : Setup) (w v : World) (prefix : PrefixValue) → claims.Solves setup w → claims.Solves setup v
     → IsEven (mesh_of setup w prefix)

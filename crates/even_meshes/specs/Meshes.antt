@@ -13,7 +13,7 @@ use Rattle.route_policy.specs.declared.best.Best.{Best}
 use Rattle.route_policy.specs.Candidates.{SessionRoute, RouterRoute, Candidate, candidates, own_candidates, session_candidate, imported, rank_of}
 use Rattle.route_policy.specs.Telling.{tell_in}
 
--- A home network and one prefix: the numbers of its routers, which of them have the prefix for a network of their own, what the sessions at each
+-- A home network and one prefix: the numbers of its routers, which of them have the prefix as a network of their own, what the sessions at each
 -- heard, each one's BGP Identifier, and the interior cost from one to another.
 pub record Mesh : Type 0 where
   pub home_as : ℕ
@@ -34,23 +34,23 @@ base m r = own_candidates m.home_as (m.has_network r) ++ filter_map (brought m) 
 
 -- ---- the equations
 
--- what router q is to router r, where each router tells this
+-- what router q tells router r, if each router tells this
 abbrev pub teller : Mesh → (ℕ → Option Route) → ℕ → ℕ → RouterRoute
 teller m told r q = record { router = record { 0 = q }; identifier = m.identifier q; cost = m.cost r q; told = told q }
 
--- what the others are to a router
+-- what the other routers tell a router
 abbrev pub tellers : Mesh → (ℕ → Option Route) → ℕ → List RouterRoute
 tellers m told r = map (teller m told r) (filter (λ q. not (q == r)) m.routers)
 
--- what a router chooses where each router tells this
+-- what a router chooses if each router tells this
 abbrev pub decided : Mesh → (ℕ → Option Route) → ℕ → Option Best
 decided m told r = choice (candidates m.home_as m.prefix (m.has_network r) (m.sessions r) (tellers m told r))
 
--- Each router's best route is what it chooses where each tells its own best route, if that is its own or external.
+-- Each router's best route is what it chooses when each router tells its best route, if that is own or external.
 abbrev pub Solves : Mesh → (ℕ → Option Best) → Type 0
 Solves m best = AllByRecursion (λ r. best r ≡ decided m (λ q. tell_in (best q)) r) m.routers
 
--- Whatever routers have by themselves, routes of one neighbour AS have one MED. An absent MED is 0.
+-- Among all that the routers have by themselves, the routes of each neighbour AS have the same MED. An absent MED is 0.
 pub record IsEven (m : Mesh) : Type 0 where
   pub med : (neighbour : ℕ) → ℕ
   pub each : AllByRecursion (λ r. AllByRecursion (λ (c : Candidate). c.1.med ≡ med c.1.neighbour) (base m r)) m.routers
@@ -61,11 +61,12 @@ pub record IsEven (m : Mesh) : Type 0 where
 abbrev pub first_of : Mesh → ℕ → Option Best
 first_of m r = choice (base m r)
 
--- the rank of a route, where it doesn't matter which router has it or how
+-- the rank of a route, in which it doesn't matter which router has the route or from where
 abbrev pub rank_anywhere : ℕ → Route → Rank
 rank_anywhere home_as route = rank_of home_as false 0 0 0 route
 
--- A route beats another one in preference, then by the shorter path, then by the lower ORIGIN: by all that is compared before MED, whoever has it.
+-- A route beats another one in preference, then by the shorter path, then by the lower ORIGIN: by all that is compared before MED, whichever router
+-- has it.
 abbrev pub beats : ℕ → Route → Route → Bool
 beats home_as a b = leads (rank_anywhere home_as a) (rank_anywhere home_as b)
 
@@ -78,15 +79,15 @@ is_own_source Own = true
 is_own_source (Peering p) = false
 is_own_source (Router q) = false
 
--- A router leads with its first route where that is a network of its own, or where no router's first route beats it.
+-- A router leads with its first route if that is a network of its own, or if no router's first route beats it.
 abbrev pub is_leader : Mesh → Best → Bool
 is_leader m best = is_own_source best.from || not (list_any (λ q. beats_as m.home_as (first_of m q) best.route) m.routers)
 
--- what a router with this first route tells: that route if it leads, else nothing
+-- what a router with this first route tells: that route if it leads, and nothing otherwise
 abbrev pub leader_route : Mesh → Option Best → Option Route
 leader_route m None = None
 leader_route m (Some best) = if is_leader m best then Some best.route else None
 
--- A router's best route in the solution is what it chooses where the leaders alone tell their first routes.
+-- A router's best route in the solution is what it chooses when only the leaders tell their first routes.
 abbrev pub solution : Mesh → ℕ → Option Best
 solution m r = decided m (λ q. leader_route m (first_of m q)) r

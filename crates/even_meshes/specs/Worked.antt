@@ -1,7 +1,8 @@
--- Two routers that each have a route of AS 1 and one of AS 2, with MEDs that cross: the first router's route of AS 1 has a lower MED than the second one's,
--- and the second one's route of AS 2 a lower MED than the first one's. One way, the first router tells its route of AS 1 and the second one its route of
--- AS 2, and each takes out the other router's route of its AS. The other way, each router chooses the route that was taken out so, which has the lower BGP
--- Identifier of its two, and tells it; and what it tells is taken out where it comes to. Both ways fit.
+-- Two routers that each have a route of AS 1 and one of AS 2, with MEDs that cross: the first router's route of AS 1 has a lower MED than the second
+-- one's, and the second one's route of AS 2 a lower MED than the first one's. In one solution, the first router tells its route of AS 1 and the
+-- second one its route of AS 2, and each of these eliminates the other router's route of its AS by MED. In the other solution, each router chooses
+-- the route that was eliminated in the first, which has the lower BGP Identifier of its two, and tells it; the other router eliminates what it is
+-- told by MED. Both solutions fit all choices.
 use Rattle.std.specs.Prelude.{ℕ, ◌==◌, ◌+◌, false, [], ◌∷◌, Option, Some, None, if◌then◌else◌}
 use Rattle.bgp_types.specs.declared.attrs.Attrs.{Attrs}
 use Rattle.bgp_types.specs.declared.attrs.Origin.TheVariants.{Igp}
@@ -11,7 +12,7 @@ use Rattle.route_policy.specs.declared.best.Best.{Best}
 use Rattle.route_policy.specs.Candidates.{SessionRoute}
 use Rattle.even_meshes.specs.Meshes.{Mesh}
 
--- a route of one AS with this MED, else as all others
+-- a route of one AS with this MED; otherwise all are alike
 abbrev pub with_med : (as_number med : ℕ) → Attrs
 with_med as_number med = record {
   origin = Igp;
@@ -50,10 +51,10 @@ crossed = record {
 abbrev pub over : (p as_number med : ℕ) → Option Best
 over p as_number med = Some (record { from = Peering (record { 0 = p }); route = record { attrs = with_med as_number med; pref = 100 } })
 
--- the routes of MED 0 are the best ones
+-- one solution: the routes with MED 0 are the best ones
 abbrev pub one_way : ℕ → Option Best
 one_way r = if r == 0 then over 0 1 0 else over 3 2 0
 
--- the routes of MED 1 are
+-- the other solution: the routes with MED 1 are the best ones
 abbrev pub other_way : ℕ → Option Best
 other_way r = if r == 0 then over 1 2 1 else over 2 1 1

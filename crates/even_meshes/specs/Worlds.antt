@@ -5,7 +5,7 @@ use Rattle.graft_model.specs.Parts.{World}
 use Rattle.graft_model.specs.Claims.{session_routes}
 use Rattle.even_meshes.specs.Meshes.{Mesh}
 
--- Networks, identifiers and costs are the laboratory's; the sessions at each router, and what they heard, are the world's.
+-- Networks, identifiers and costs are the laboratory's; the sessions at each router, and what they heard, are those of the world.
 abbrev pub mesh_of : Setup → World → PrefixValue → Mesh
 mesh_of setup w prefix = record {
   home_as = setup.home_as;

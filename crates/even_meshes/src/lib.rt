@@ -1,5 +1,5 @@
-//! Home routers that each choose between what they learn and what the others tell: where routes of one neighbour AS have
-//! one MED, nothing but one table of each router fits all of these choices.
+//! Home routers that each choose between what they learn and what the others tell: if all routes of each neighbour AS
+//! have the same MED, only one table of each router fits all of these choices.
 #![tactic(auto)]
 
 mod laws;

@@ -1,4 +1,4 @@
--- A far side: which configuration is whose, how it begins, and what is said of its calls.
+-- A far side: its configuration, how it begins, and the contracts of its calls.
 use Rattle.std.specs.Prelude.{ℕ, ◌≡◌, ◌<◌, ◌≤◌, List, [], length, Some, slice_get}
 use Rattle.ring_net.specs.Deeds.{Deed}
 use Rattle.graft_steps.specs.declared.item.Item.{Item}
@@ -14,11 +14,11 @@ use Rattle.far_side.specs.Turned.{Turned}
 use Rattle.far_side.specs.declared.config.FarConfig.{FarConfig}
 use Rattle.far_side.specs.declared.far.Far.{Far}
 
--- whose far side it is
+-- the peering whose far side it is
 abbrev pub peering_in : Far → ℕ
 peering_in f = f.fields.peering.0
 
--- the part of the world that a far side is, by itself and as an actor
+-- a far side's part of the world, by itself and as an actor
 abbrev pub part_in : Far → FarPart
 part_in f = far_part f.fields
 
@@ -41,7 +41,7 @@ pub record IsConfigOf (setup : Setup) (config : FarConfig) : Type 0 where
   pub says : (step : ℕ) → bytes_of config.says step ≡ say_by config.peering.0 (slice_get setup.steps step)
   pub beat : config.beat ≡ beat_of peering
 
--- It is the far side of its peering in the first world, with nothing in its links and before its first turn.
+-- The far side is that of its peering in the first world, with empty links and before its first turn.
 pub record IsNew (setup : Setup) (config : FarConfig) (far : Far) : Type 0 where
   pub is : own far ≡ record { setup = setup; name = FarSide config.peering.0; part = FarIs (first_far (slice_get setup.peerings config.peering.0)) }
   pub at_turn : far.fields.remote.at_turn ≡ 0
@@ -52,7 +52,7 @@ pub record IsNew (setup : Setup) (config : FarConfig) (far : Far) : Type 0 where
   pub beat : far.fields.beat ≡ config.beat
   pub plan : far.fields.plan ≡ config.plan
 
--- what is said of a take and of a turn beside their events
+-- what a take and a turn promise beside their events
 abbrev pub took : {C : Type 0} → Far → ℕ → Item C → List (Deed (Item C)) → Far → Type 0
 took old from item deeds new = Took old.fields from item deeds new.fields
 

@@ -1,4 +1,4 @@
--- That a far side is sound has one proof at most.
+-- Proofs that a far side is sound are unique.
 use Rattle.std.specs.Prelude.{◌≡◌, false, Bool}
 use Rattle.std.specs.List.{AllByRecursion-prop}
 use Rattle.std.proofs.Props.{props}

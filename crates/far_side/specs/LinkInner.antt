@@ -1,4 +1,4 @@
--- The value that a link is seen as, and what its fields keep.
+-- The value of a link, and the invariant of its fields.
 use Rattle.std.specs.Prelude.{◌≡◌, ◌<◌, ◌^◌, length, map, All}
 use Rattle.tcp_seq.specs.Placed.{placed}
 use Rattle.far_side.specs.Links.{LinkValue, IsOn}

@@ -13,9 +13,9 @@ use Rattle.far_side.specs.declared.link.InLink.{InLink}
 use Rattle.far_side.specs.declared.link.Act.{Act}
 use Rattle.far_side.specs.declared.link.Act.TheVariants.{Stays, Delivered, Copied, Lost}
 
--- What happens to a segment of this fate, so many turns after its first delivery. The table of fates: one that passes is delivered at once; one
--- that is lost is lost then; a repeated one is delivered then, and again later; one that is held is delivered only later; and of one that strays
--- a copy goes astray later.
+-- What happens to a segment of this fate in a turn, counted from its first delivery. The table of fates: one that passes is delivered at once; one
+-- that is lost is lost then; a repeated one is delivered then, and again later; one that is held is delivered only later; and of one that strays, a
+-- copy goes astray later.
 abbrev pub act_of : Fate → ℕ → Act
 act_of Pass turns = Delivered false
 act_of Lose turns = Lost
@@ -26,7 +26,7 @@ act_of (Stray after) turns = if nat_le after turns then Copied else if turns == 
 abbrev pub act_in : InLink → Act
 act_in x = act_of x.fate x.turns
 
--- whether the segment has left the link then
+-- whether the segment leaves the link by this
 abbrev pub is_gone : Act → Bool
 is_gone Stays = false
 is_gone (Delivered keep) = not keep
@@ -51,7 +51,7 @@ put_now fate router = record { fate = fate; turns = 0; pointed = record { 0 = ro
 
 -- ---- one turn over a link
 
--- what is left of it
+-- the segments left in the link after it
 abbrev pub left_of : List InLink → List InLink
 left_of xs = map older (filter (λ x. not (is_gone (act_in x))) xs)
 
@@ -65,7 +65,7 @@ home_act pointer index x Lost = events.Lose Home index ∷ []
 abbrev pub home_event : (pointer : ℕ) → ℕ → InLink → List FarEvent
 home_event pointer index x = home_act pointer index x (act_in x)
 
--- the event of a segment that goes to the remote, for which a copy that goes astray is one more
+-- the event of a segment that goes to the remote, for which a stray copy is a second delivery
 abbrev pub remote_act : (index : ℕ) → Act → List FarEvent
 remote_act index Stays = []
 remote_act index (Delivered keep) = events.Reach index keep ∷ []
@@ -75,11 +75,11 @@ remote_act index Lost = events.Lose Remote index ∷ []
 abbrev pub remote_event : ℕ → InLink → List FarEvent
 remote_event index x = remote_act index (act_in x)
 
--- the place of the next segment, where each place counts those that are still there
+-- the place of the next segment, where a place counts the segments that are still in the link
 abbrev pub next_place : ℕ → InLink → ℕ
 next_place index x = if is_gone (act_in x) then index else index + 1
 
--- the events of all segments from a place on, by rising place
+-- the events of all segments from a place on, in ascending order of place
 abbrev pub pass_events : (ℕ → InLink → List FarEvent) → ℕ → List InLink → List FarEvent
 pass_events event index [] = []
 pass_events event index (x ∷ xs) = event index x ++ pass_events event (next_place index x) xs
@@ -92,8 +92,8 @@ remote_events xs = pass_events remote_event 0 xs
 
 -- ---- a link
 
--- the side that it leads to and the peering, the numbers of the first bytes of the stream that its segments carry and of the other one, its segments with what
--- the plan does to each, and how many were put
+-- the side that it leads to and the peering, the initial sequence numbers of the stream that its segments carry and of the other one, its segments
+-- with what the plan does to each, and how many were put
 pub record LinkValue : Type 0 where
   pub way : Way
   pub peering : ℕ

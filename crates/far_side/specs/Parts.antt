@@ -1,4 +1,4 @@
--- A far side as the model has it, and what its fields keep.
+-- A far side as the model has it, and the invariant of its fields.
 use Rattle.std.specs.Prelude.{ℕ, ◌≡◌, ◌<◌, ◌≤◌, ◌==◌, List, Option, Some, None, option_map, if◌then◌else◌, slice_get}
 use Rattle.std.specs.List.{AllByRecursion}
 use Rattle.tcp_seq.specs.declared.segment.Way.{Way}
@@ -35,7 +35,7 @@ say_by p (Some (MoveStep q target)) = None
 say_by p (Some (EvacuateStep router)) = None
 say_by p (Some SettleStep) = None
 
--- a link leads this way, and counts from these first numbers
+-- a link leads this way, and has these initial sequence numbers
 pub record Leads (link : LinkValue) (to : Way) (p first other : ℕ) : Type 0 where
   pub way : link.way ≡ to
   pub peering : link.peering ≡ p
@@ -48,7 +48,7 @@ pub record HasLinks (f : Fields) : Type 0 where
   pub remoteward : (f.remoteward.way ≡ Remote) × (f.remoteward.peering ≡ f.peering.0)
 
 pub record Keeps (f : Fields) : Type 0 where
-  -- what it begins with is its laboratory's
+  -- the configuration is its laboratory's
   pub routers : f.routers ≡ routers_in f.known.setup
   pub few : f.routers ≤ 256
   pub peerings : f.peerings ≡ peerings_in f.known.setup
@@ -61,11 +61,11 @@ pub record Keeps (f : Fields) : Type 0 where
   pub receives : f.remote.receive_first ≡ home_first f.known.setup f.peering.0
   pub homeward : Leads f.homeward Home f.peering.0 (remote_first f.known.setup f.peering.0) (home_first f.known.setup f.peering.0)
   pub remoteward : Leads f.remoteward Remote f.peering.0 (home_first f.known.setup f.peering.0) (remote_first f.known.setup f.peering.0)
-  -- the link points, and pointed, at routers that are there
+  -- the link points, and pointed, at existing routers
   pub pointer : f.pointer.0 < routers_in f.known.setup
   pub pointed : AllByRecursion (λ x. x.pointed.0 < routers_in f.known.setup) f.homeward.plans
 
--- something holds for every session that a capsule may be seen as, and the far side is sound
+-- something holds whatever session a capsule stands for, and the far side is sound
 pub record ForEach {C : Type 0} (P : (C → SessionValue) → Type 0) (far : Fields) : Type 0 where
   pub keeps : Keeps far
   pub each : (session : C → SessionValue) → P session

@@ -1,4 +1,4 @@
--- The pieces of a far side's turn.
+-- The stages of a far side's turn.
 use Rattle.std.specs.Prelude.{ℕ, zero, suc, ◌≡◌, ◌⊎◌, ◌<◌, ◌≤◌, ◌+◌, ◌%◌, ◌^◌, nat_lt, if◌then◌else◌, false, List, [], ◌∷◌, ◌++◌, length, Some, slice_get, slice_set, Bool}
 use Rattle.ring_net.specs.declared.post.Post.{Post}
 use Rattle.graft_steps.specs.declared.item.Item.{Item}
@@ -26,18 +26,18 @@ use Rattle.far_side.specs.declared.link.InLink.{InLink}
 use Rattle.far_side.specs.declared.fields.Fields.{Fields}
 use Rattle.graft_model.specs.Codes.{far_code}
 
--- The segment at a place of a link goes to a router: it is the one that was sent.
+-- The segment at a place of a link goes to a router: the segment that is sent is that one.
 pub record SendsHome {C : Type 0} (link : LinkValue) (place : ℕ) (keep : Bool) (router : ℕ) (before after : Post (Item C)) : Type 0 where
   pub segment : Segment
   pub own : IsOn link segment
   pub is : slice_get link.segments place ≡ Some (placed link.seq_first link.ack_first segment)
   pub wrote : WroteOne before (far_code (Pass place keep router)) ((router, items.Seg segment) ∷ []) after
 
--- what a link keeps of its plans after the one at a place had its turn
+-- the plans that a link keeps after the turn of the segment at a place
 abbrev pub plans_after : ℕ → InLink → List InLink → List InLink
 plans_after place x plans = if is_gone (act_in x) then without place plans else slice_set plans place (older x)
 
--- the other fields of a link stay
+-- the other fields of a link stay the same
 pub record SameLink (old new : LinkValue) : Type 0 where
   pub way : new.way ≡ old.way
   pub peering : new.peering ≡ old.peering
@@ -56,7 +56,7 @@ pub record HomeStep {C : Type 0} (session : C → SessionValue) (old : Fields) (
   pub same : new ≡ record old { homeward = new.homeward }
   pub keeps : Keeps new
 
--- all of them have
+-- all segments of the link to home have their turns
 pub record HomePass {C : Type 0} (session : C → SessionValue) (old : Fields) (before : Post (Item C)) (new : Fields) (after : Post (Item C)) : Type 0 where
   pub did : (t : Tally) → Did session old before t (home_events old.pointer.0 old.homeward.plans) new after t
   pub plans : new.homeward.plans ≡ left_of old.homeward.plans
@@ -67,7 +67,7 @@ pub record HomePass {C : Type 0} (session : C → SessionValue) (old : Fields) (
 
 -- ---- the link to the remote
 
--- what segments that arrive leave of a remote: it has emitted as much as before, and at least as much is acknowledged
+-- what arriving segments don't change of a remote: it has emitted as much as before, and at least as much is acknowledged
 pub record SameRemote (old new : RemoteValue) : Type 0 where
   pub is : new ≡ record old { end = new.end }
   pub stream : new.end.stream ≡ old.end.stream
@@ -116,12 +116,12 @@ put_in link f segment = record link {
   put = link.put + 1;
 }
 
--- the plans of so many segments that are put one after another, after so many others, while the link points at this router
+-- the plans of n segments that are put one after another, after `from` others, while the link points at this router
 abbrev pub plans_put : (ℕ → Fate) → (router : ℕ) → (from n : ℕ) → List InLink
 plans_put fate router from zero = []
 plans_put fate router from (suc n) = put_now (fate (from + 1)) router ∷ plans_put fate router (from + 1) n
 
--- The far side sent segments: these events, as many segments into the link to home, and this endpoint.
+-- The far side sent segments by these events. As many segments went into the link to home, and the endpoint is this one now.
 pub record Sent {C : Type 0} (session : C → SessionValue) (old : Fields) (before : Post (Item C)) (t : Tally) (events : List FarEvent) (new : Fields) (after : Post (Item C)) (u : Tally) : Type 0 where
   pub did : Did session old before t events new after u
   pub plans : new.homeward.plans ≡ old.homeward.plans ++ plans_put (fates_in old.plan old.homeward) old.pointer.0 old.homeward.put (length events)
@@ -143,7 +143,7 @@ FreshEvents e (event ∷ events) f = (0 < next_length e) × (event ≡ Send e.em
 abbrev pub answer_events : Endpoint → List FarEvent
 answer_events e = if e.owed then Send e.emitted 0 ∷ [] else []
 
--- The remote is to say a KEEPALIVE in this turn, and has room for it.
+-- A KEEPALIVE of the remote is due in this turn, and there is room for it.
 pub record IsDue (f : Fields) : Type 0 where
   pub some : 0 < f.beat
   pub multiple : f.turns % f.beat ≡ 0
@@ -157,7 +157,7 @@ pub record SentAgain {C : Type 0} (session : C → SessionValue) (old : Fields) 
   pub remote : new.remote ≡ record old.remote { at_turn = old.remote.end.acked }
   pub sound : IsSound old.remote.end
 
--- all new slices, after which all is emitted that may be
+-- all new slices, after which all that may be emitted is emitted
 pub record SentFresh {C : Type 0} (session : C → SessionValue) (old : Fields) (before : Post (Item C)) (new : Fields) (after : Post (Item C)) : Type 0 where
   pub events : List FarEvent
   pub sent : (t : Tally) → Sent session old before t events new after t
@@ -165,12 +165,12 @@ pub record SentFresh {C : Type 0} (session : C → SessionValue) (old : Fields) 
   pub at_turn : new.remote.at_turn ≡ old.remote.at_turn
   pub all : new.remote.end.emitted ≡ reach_of new.remote.end
 
--- the owed answer
+-- the owed acknowledgement
 pub record SentAnswer {C : Type 0} (session : C → SessionValue) (old : Fields) (before : Post (Item C)) (new : Fields) (after : Post (Item C)) : Type 0 where
   pub sent : (t : Tally) → Sent session old before t (answer_events old.remote.end) new after (record t { answers = t.answers + length (answer_events old.remote.end) })
   pub remote : new.remote ≡ record old.remote { end = record old.remote.end { owed = false } }
 
--- A KEEPALIVE is said where it is due, and else nothing happens.
+-- A KEEPALIVE is said if it is due; otherwise nothing happens.
 abbrev pub Beats : Fields → List FarEvent → Fields → Type 0
 Beats old events new =
     (IsDue old × (events ≡ Beat old.turns ∷ []) × (new ≡ record old { remote = record old.remote { end = sending (spell KeepaliveMsg false) old.remote.end }; beats = old.beats + 1; last_beat = old.turns }))

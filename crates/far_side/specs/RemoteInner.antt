@@ -1,4 +1,4 @@
--- The value that a remote is seen as, and what its fields keep.
+-- The value of a remote, and the invariant of its fields.
 use Rattle.std.specs.Prelude.{◌≡◌, ◌<◌, ◌^◌, []}
 use Rattle.tcp_seq.specs.declared.segment.Way.TheVariants.{Home}
 use Rattle.tcp_end.specs.Standing.{EndStands}
@@ -6,7 +6,7 @@ use Rattle.tcp_end.specs.Whole.{endpoint_of}
 use Rattle.far_side.specs.Remotes.{RemoteValue}
 use Rattle.far_side.specs.declared.remote.Remote.TheInside.{Inside}
 
--- nothing is read of what it received
+-- it reads none of the bytes that it received
 abbrev pub remote_of : Inside → RemoteValue
 remote_of r = record {
   end = endpoint_of r.said [] r.end;

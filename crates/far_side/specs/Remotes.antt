@@ -7,8 +7,8 @@ use Rattle.tcp_seq.specs.Placed.{placed}
 use Rattle.tcp_seq.specs.declared.segment.Way.TheVariants.{Home, Remote}
 use Rattle.tcp_seq.specs.declared.segment.Segment.{Segment}
 
--- the endpoint, how much was acknowledged at its last retransmission turn, whose it is, and the numbers of the first byte that it sends and of the
--- first that it receives
+-- the endpoint, how much was acknowledged at its last retransmission turn, its peering, and the initial sequence numbers of the remote and of its
+-- peer
 pub record RemoteValue : Type 0 where
   pub end : Endpoint
   pub at_turn : ℕ
@@ -47,7 +47,8 @@ pub record IsFor (r : RemoteValue) (g : Segment) : Type 0 where
   pub in_streams : IsInStreams (placed r.receive_first r.send_first g)
   pub short : length g.bytes < 2 ^ 16
 
--- What an endpoint keeps of what it sends: no more is acknowledged than was emitted, no more emitted than the stream and the flight of 15,360 have.
+-- The invariant of what an endpoint sends: no more is acknowledged than was emitted, and no more is emitted than the stream and the flight of 15,360
+-- allow.
 pub record IsSound (e : Endpoint) : Type 0 where
   pub acked : e.acked ≤ e.emitted
   pub emitted : e.emitted ≤ length e.stream

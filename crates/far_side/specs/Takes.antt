@@ -1,4 +1,4 @@
--- What a far side says of one take, beside its event.
+-- What a far side promises of one take, beside its event.
 use Rattle.std.specs.Prelude.{ℕ, ◌≡◌, ◌+◌, ◌==◌, List, ◌++◌, length, count_by}
 use Rattle.ring_net.specs.Deeds.{Deed}
 use Rattle.ring_net.specs.Posts.{TookItem}
@@ -15,7 +15,8 @@ use Rattle.far_side.specs.declared.fields.Fields.{Fields}
 abbrev pub taken_in : {I : Type 0} → List (Deed I) → ℕ
 taken_in deeds = count_by (λ d. d.entry.kind == 19) deeds
 
--- A take is one event. Beside the part, it changes the plans of the link to the remote alone: each segment that is taken in has its own by its number.
+-- A take is one event. Beside the part, it changes only the plans of the link to the remote: each segment that is taken in gets the plan of its
+-- number.
 pub record Took {C : Type 0} (old : Fields) (from : ℕ) (item : Item C) (deeds : List (Deed (Item C))) (new : Fields) : Type 0 where
   pub one : length deeds ≡ 1
   pub link : SameLink old.remoteward new.remoteward

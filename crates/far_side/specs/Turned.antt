@@ -1,4 +1,4 @@
--- What a far side says of one turn.
+-- What a far side promises of one turn.
 use Rattle.std.specs.Prelude.{◌≡◌, ◌+◌, List, ◌++◌, length, false}
 use Rattle.ring_net.specs.Deeds.{Deed}
 use Rattle.ring_net.specs.Posts.{Moved}
@@ -17,8 +17,8 @@ use Rattle.far_side.specs.Turns.{SendsOld, SendsNew, SendsAnswer, SendsNone, Far
 use Rattle.far_side.specs.Passes.{fates_in, plans_put, SameLink, SameRemote, again_events, FreshEvents, answer_events, Beats}
 use Rattle.far_side.specs.declared.fields.Fields.{Fields}
 
--- One turn. Its events are, in this order: those that the plan has for the link to home and for the link to the remote, the first outstanding slice again,
--- a KEEPALIVE by the beat, all new slices, and the owed answer.
+-- One turn. Its events are, in this order: those that the plan has for the link to home and for the link to the remote, the first outstanding slice
+-- again, a KEEPALIVE if one is due, all new slices, and the owed acknowledgement.
 pub record Turned {C : Type 0} (old : Fields) (deeds : List (Deed (Item C))) (new : Fields) : Type 0 where
   pub beats : List FarEvent
   pub fresh : List FarEvent
@@ -32,7 +32,7 @@ pub record Turned {C : Type 0} (old : Fields) (deeds : List (Deed (Item C))) (ne
   pub is_beat : Beats before beats beaten
   pub is_fresh : FreshEvents beaten.remote.end fresh sent
   pub events : AreOf (home_events old.pointer.0 old.homeward.plans ++ (remote_events old.remoteward.plans ++ (again_events reached ++ (beats ++ (fresh ++ answer_events sent))))) deeds
-  -- behind what is delivered only an old slice is sent; behind the beat only new slices, and then only the owed answer
+  -- after the deliveries only an old slice is sent; after the beat only new slices, and then only the owed acknowledgement
   pub delivered : FarPart
   pub resent : FarPart
   pub said : FarPart
@@ -42,11 +42,11 @@ pub record Turned {C : Type 0} (old : Fields) (deeds : List (Deed (Item C))) (ne
   pub says : FarGoes old.known.setup old.peering.0 SendsNone resent beats said
   pub sends : FarGoes old.known.setup old.peering.0 SendsNew said fresh level
   pub answers : FarGoes old.known.setup old.peering.0 SendsAnswer level (answer_events sent) (far_part new)
-  -- At its end all is emitted that may be, and no answer is owed.
+  -- At its end all that may be emitted is emitted, and no acknowledgement is owed.
   pub end : new.remote.end ≡ record sent { owed = false }
   pub rested : IsRested new.remote.end
   pub at_turn : new.remote.at_turn ≡ reached.end.acked
-  -- Of each link the segments are left that aren't gone, one turn older, and behind those that go home the ones that were sent now.
+  -- Each link keeps the segments that haven't left, one turn older. On the link to home those sent in this turn come after them.
   pub homeward : new.homeward.plans ≡ left_of old.homeward.plans
       ++ plans_put (fates_in old.plan old.homeward) old.pointer.0 old.homeward.put (length (again_events reached) + (length fresh + length (answer_events sent)))
   pub put : new.homeward.put ≡ old.homeward.put + (length (again_events reached) + (length fresh + length (answer_events sent)))

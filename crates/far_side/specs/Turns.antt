@@ -1,4 +1,4 @@
--- What a far side does in one call: the events that it makes of its part, and what becomes of what it keeps beside it.
+-- What a far side does in one call: the events that it makes of its part, and how the fields outside that part change.
 use Rattle.std.specs.Prelude.{ℕ, zero, suc, ◌≡◌, true, List, [], ◌∷◌, Option}
 use Rattle.std.specs.List.{AllByRecursion}
 use Rattle.ring_net.specs.Deeds.{Deed, Replay, TakesNone}
@@ -29,7 +29,7 @@ abbrev pub far_tally : FarPart → FarEvent → Tally → Tally
 far_tally part (Send from len) t = counted part.end from len t
 far_tally part event t = t
 
--- The events lead from one part to another, each by its row; each segment that is sent is an old slice, a new one or an owed answer; and the
+-- The events lead from one part to another, each by its row; each segment that is sent is an old slice, a new one or an owed acknowledgement; and the
 -- tally counts them.
 abbrev pub FarRound : Setup → ℕ → FarPart → Tally → List FarEvent → FarPart → Tally → Type 0
 FarRound setup p before t [] after u = (after ≡ before) × (u ≡ t)
@@ -49,7 +49,7 @@ abbrev pub SendsNew : FarPart → FarEvent → Type 0
 SendsNew part (Send from (suc n)) = IsNew part.end from (suc n)
 SendsNew part event = ⊥
 
--- an answer that is owed: a segment without bytes
+-- an acknowledgement that is owed: a segment without bytes
 abbrev pub SendsAnswer : FarPart → FarEvent → Type 0
 SendsAnswer part (Send from zero) = part.end.owed ≡ true
 SendsAnswer part event = ⊥
@@ -71,7 +71,7 @@ AreOf [] [] = Unit {0}
 AreOf (event ∷ events) (deed ∷ deeds) = HasCode (far_code event) deed.entry × AreOf events deeds
 AreOf events deeds = ⊥
 
--- What a piece of a call does that takes no item: the events that it made and wrote.
+-- What a part of a call that takes no item does: the events that it made and wrote.
 pub record Did {C : Type 0} (session : C → SessionValue) (old : Fields) (before : Post (Item C)) (t : Tally) (events : List FarEvent) (new : Fields) (after : Post (Item C)) (u : Tally) : Type 0 where
   pub setup : new.known.setup ≡ old.known.setup
   pub peering : new.peering ≡ old.peering

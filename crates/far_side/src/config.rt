@@ -1,31 +1,32 @@
-//! What a far side begins with.
+//! The configuration with which a far side begins.
 
 use crate::says::Says;
 use graft_edge::{Octets, PeeringId, RouterId};
 use link_bag::Plan;
 use tcp_seq::Seq;
 
-/// What a far side begins with.
+/// The configuration with which a far side begins.
 #[derive(Drop)]
 pub struct FarConfig {
-    /// How many routers and how many peerings the laboratory has.
+    /// The numbers of routers and of peerings in the laboratory.
     pub routers: u32,
     pub peerings: u32,
-    /// The peering whose far side it is.
+    /// The peering whose far side this is.
     pub peering: PeeringId,
     /// The router that the link points at first.
     pub pointer: RouterId,
-    /// The sequence number of the first byte that the remote sends, and of the first that it receives.
+    /// The initial sequence number of the remote, and that of its peer.
     pub send_first: Seq,
     pub receive_first: Seq,
     /// What the remote has said at the start, at most 4,096 octets.
     pub opening: Octets,
     /// What it says at steps of the script.
     pub says: Says,
-    /// What happens to which segment.
+    /// The plan of faults: what happens to each segment.
     pub plan: Plan,
-    /// Whether the peering uses AS numbers of four octets (RFC 6793). What is said is written so already.
+    /// Whether the peering uses AS numbers of four octets (RFC 6793). The opening and the says are already written in
+    /// this width.
     pub wide: bool,
-    /// After so many turns the remote says a KEEPALIVE again; 0 where it doesn't.
+    /// KEEPALIVE interval of the remote in turns; 0 for none.
     pub beat: u32,
 }

@@ -1,4 +1,4 @@
-//! What the remote sends in a turn, and what it says by its beat.
+//! What the remote sends in a turn, and the KEEPALIVEs that it says at its interval.
 
 ghost use Rattle.std.specs.Prelude.{ℕ, ◌≡◌, ◌<◌, ◌≤◌, ◌∷◌, [], length, IfOk, OnOk, IsTrue, ◌↔◌};
 ghost use Rattle.ring_net.specs.Posts.{SameEdges};
@@ -22,12 +22,12 @@ use graft_steps::Item;
 use ring_net::Post;
 use tcp_seq::Segment;
 
-/// A KEEPALIVE as it is written (RFC 4271, section 4.4).
+/// A KEEPALIVE in the wire format (RFC 4271, section 4.4).
 const KEEPALIVE: [u8; 19] = [
     255, 255, 255, 255, 255, 255, 255, 255, 255, 255, 255, 255, 255, 255, 255, 255, 0, 19, 4,
 ];
 
-/// How many KEEPALIVEs are said by the beat at most.
+/// The most KEEPALIVEs that are said at the interval.
 const MOST_BEATS: u32 = 27_594;
 
 /// Puts a segment of the remote that begins at a place into the link to home.
@@ -47,7 +47,7 @@ fn send<C: Drop>(
     far.homeward.put(segment, &far.plan, far.pointer)
 }
 
-/// The retransmission turn.
+/// Makes the retransmission turn.
 pub(crate) fn send_again<C: Drop>(
     far: &mut Fields,
     post: &mut Post<Item<C>>,
@@ -63,7 +63,7 @@ pub(crate) fn send_again<C: Drop>(
     send(far, from, segment, post)
 }
 
-/// All new slices that there are and that the flight has room for.
+/// Sends all new slices that the stream has and the flight has room for.
 pub(crate) fn send_fresh<C: Drop>(
     far: &mut Fields,
     post: &mut Post<Item<C>>,
@@ -81,7 +81,7 @@ pub(crate) fn send_fresh<C: Drop>(
     }
 }
 
-/// The answer that is owed.
+/// Sends the acknowledgement that is owed.
 pub(crate) fn send_answer<C: Drop>(
     far: &mut Fields,
     post: &mut Post<Item<C>>,
@@ -97,7 +97,7 @@ pub(crate) fn send_answer<C: Drop>(
     send(far, from, segment, post)
 }
 
-/// Whether a KEEPALIVE is to be said in this turn.
+/// Returns whether a KEEPALIVE is to be said in this turn.
 fn is_due(far: &Fields) -> bool
     ensures { IsTrue result ↔ IsDue far.now }
 {
@@ -108,7 +108,7 @@ fn is_due(far: &Fields) -> bool
         && far.remote.has_room(KEEPALIVE.len())
 }
 
-/// Says a KEEPALIVE where it is time for one.
+/// Says a KEEPALIVE if one is due.
 pub(crate) fn beat<C: Drop>(far: &mut Fields, post: &mut Post<Item<C>>) -> Result<(), NoMemory>
     requires { Keeps far.old }
     ensures edges { SameEdges post.old post.new }

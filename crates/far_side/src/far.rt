@@ -17,8 +17,8 @@ use ring_net::Post;
 use std::alloc::Global;
 use tcp_seq::Way;
 
-/// The far side of a peering: a scripted remote, and the link between it and the routers, which loses, repeats, holds back and
-/// strays segments by plan.
+/// The far side of a peering: a scripted remote, and the link between it and the routers, which loses, repeats and
+/// holds back segments and lets them stray, by plan.
 #[derive(Drop)]
 pub struct Far {
     fields: Fields,
@@ -36,8 +36,8 @@ impl Far {
     ghost use Rattle.graft_actors.specs.Acts.{acts};
     ghost use Rattle.far_side.specs.Fars.{own, part_in, peering_in, IsConfigOf, IsNew, took, turned};
 
-    /// The far side that begins with this configuration, in the laboratory that it is of: the remote has said its opening, and
-    /// nothing is on the link.
+    /// Returns a far side that begins with this configuration, in its laboratory. The remote has said its opening, and
+    /// both links are empty.
     pub fn new(alloc: Global, known: Known, config: FarConfig) -> Result<Far, NoMemory>
         requires { IsConfigOf known.setup config }
         ensures { IfOk result (IsNew known.setup config) }
@@ -77,10 +77,11 @@ impl Far {
         })
     }
 
-    /// Takes an item that the actor of number `from` sent. It notes one event, which takes the item, or an entry of kind 0 where it
-    /// drops it: an item that no far side takes from that actor; a segment of another peering, that goes to home, that has more than
-    /// 65,535 bytes, or whose numbers are of no place in a stream; and an order to say a step that isn't this remote's, or whose
-    /// bytes would take what was said past 1,048,576. Once memory ran out it answers `NoMemory` to every call.
+    /// Takes an item that the actor of number `from` sent. It writes one event to the journal, which takes the item. If
+    /// it drops the item, it writes an entry of kind 0 instead. These items are dropped: an item that no far side takes
+    /// from that actor; a segment of another peering, one on its way home, one with more than 65,535 bytes, or one
+    /// whose sequence numbers are outside the streams; and an order to say a step that isn't this remote's, or whose
+    /// bytes would take its stream past 1,048,576. Once memory ran out, every take and turn returns `NoMemory`.
     pub fn take<C: Drop>(
         &mut self,
         from: usize,
@@ -98,8 +99,9 @@ impl Far {
         taken
     }
 
-    /// Delivers from both links as the plan says, makes the retransmission turn, says a KEEPALIVE where it is time for one, sends all
-    /// new slices, and gives the answer that is owed.
+    /// Delivers from both links as the plan says, makes the retransmission turn, says a KEEPALIVE if one is due, sends
+    /// all new slices, and sends the acknowledgement that is owed. Once memory ran out, every take and turn returns
+    /// `NoMemory`.
     pub fn turn<C: Drop>(&mut self, post: &mut Post<Item<C>>) -> Result<(), NoMemory>
         ensures turned { OnOk result ((session : C → SessionValue) → Moved own (acts session) turned self.old post.old self.new post.new) }
         ensures edges { SameEdges post.old post.new }
@@ -112,7 +114,7 @@ impl Far {
         turned
     }
 
-    /// Does nothing at a mark.
+    /// Does nothing at a mark, and returns false.
     pub fn between<C: Drop>(&mut self, _post: &mut Post<Item<C>>) -> Result<bool, NoMemory>
         ensures nothing { IfOk result (λ made. made ≡ false) }
         ensures same { (self.new ≡ self.old) × (_post.new ≡ _post.old) }
@@ -120,28 +122,28 @@ impl Far {
         Ok(false)
     }
 
-    /// All that the remote said.
+    /// Returns all bytes that the remote said.
     pub fn said(&self) -> &[u8]
         ensures { result.now ≡ (part_in self.now).end.stream }
     {
         self.fields.remote.said()
     }
 
-    /// All that the remote received in order.
+    /// Returns all bytes that the remote received in order.
     pub fn received(&self) -> &[u8]
         ensures { result.now ≡ received_bytes (part_in self.now).end }
     {
         self.fields.remote.received()
     }
 
-    /// The router that the link points at.
+    /// Returns the router that the link points at.
     pub fn pointer(&self) -> RouterId
         ensures { result.0 ≡ (part_in self.now).pointer }
     {
         self.fields.pointer
     }
 
-    /// What is left to do.
+    /// Returns what is left to do.
     pub fn rest(&self) -> FarRest
         ensures { IsFarRest (peering_in self.now) (part_in self.now) result }
     {

@@ -10,14 +10,14 @@ use link_bag::Plan;
 /// The fields of a far side.
 #[derive(Drop)]
 pub struct Fields {
-    /// The laboratory, which only proofs read.
+    /// The laboratory, which is only for proofs.
     pub(crate) known: Known,
     pub(crate) routers: u32,
     pub(crate) peerings: u32,
     pub(crate) peering: PeeringId,
     pub(crate) says: SayTable,
     pub(crate) plan: Plan,
-    /// After so many turns a KEEPALIVE is said again; 0 where none is.
+    /// KEEPALIVE interval in turns; 0 for none.
     pub(crate) beat: u32,
     pub(crate) remote: Remote,
     pub(crate) homeward: Link,
@@ -25,9 +25,9 @@ pub struct Fields {
     /// The router that the link points at, and the graft by which it was last pointed.
     pub(crate) pointer: RouterId,
     pub(crate) followed: u32,
-    /// How many turns were made.
+    /// The number of turns made.
     pub(crate) turns: u32,
-    /// How many KEEPALIVEs were said by the beat, and the turn of the last one.
+    /// The number of KEEPALIVEs said at the interval, and the turn of the last one.
     pub(crate) beats: u32,
     pub(crate) last_beat: u32,
 }

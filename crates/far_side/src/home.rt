@@ -1,4 +1,4 @@
-//! The pass over the link to home.
+//! One turn's pass over the link to home.
 
 ghost use Rattle.std.specs.Prelude.{◌≡◌, ◌⊎◌, ◌<◌, true, false, length, Some, IfOk, OnOk, slice_get};
 ghost use Rattle.ring_net.specs.Posts.{SameEdges};
@@ -16,7 +16,7 @@ use graft_steps::Item;
 use ring_net::Post;
 use tcp_seq::Way;
 
-/// The segment at a place stays. This and the next three calls answer the place of the next segment.
+/// Keeps the segment at a place in the link. Returns the place of the next segment.
 fn stay<C: Drop>(
     far: &mut Fields,
     place: usize,
@@ -35,7 +35,7 @@ fn stay<C: Drop>(
     Ok(place + 1)
 }
 
-/// The segment at a place is lost.
+/// Loses the segment at a place. Returns the place of the next segment.
 fn lose<C: Drop>(
     far: &mut Fields,
     place: usize,
@@ -57,7 +57,8 @@ fn lose<C: Drop>(
     Ok(place)
 }
 
-/// A copy of the segment at a place goes to the router that the link points at, and the segment stays.
+/// Sends a copy of the segment at a place to the router that the link points at, and keeps the segment. Returns the
+/// place of the next segment.
 fn deliver_again<C: Drop>(
     far: &mut Fields,
     place: usize,
@@ -84,8 +85,8 @@ fn deliver_again<C: Drop>(
     Ok(place + 1)
 }
 
-/// The segment at a place goes to a router: the one that the link points at, or for a stray copy the one that it pointed at
-/// when the segment was put.
+/// Sends the segment at a place to a router: the one that the link points at or, for a stray copy, the one that it
+/// pointed at when the segment was put. Returns the place of the next segment.
 fn deliver<C: Drop>(
     far: &mut Fields,
     place: usize,
@@ -111,7 +112,7 @@ fn deliver<C: Drop>(
     Ok(place)
 }
 
-/// What the plan does to the segment at a place of the link to home. It answers the place of the next one.
+/// Does what the plan says to the segment at a place of the link to home. Returns the place of the next one.
 fn home_step<C: Drop>(
     far: &mut Fields,
     place: usize,
@@ -133,7 +134,7 @@ fn home_step<C: Drop>(
     }
 }
 
-/// What the plan does to the segments of the link to home in one turn, by ascending place.
+/// Does what the plan says to the segments of the link to home in one turn, in ascending order of place.
 pub(crate) fn pass_home<C: Drop>(far: &mut Fields, post: &mut Post<Item<C>>) -> Result<(), NoMemory>
     requires { Keeps far.old }
     ensures edges { SameEdges post.old post.new }

@@ -1,4 +1,5 @@
-//! A far side: a scripted remote behind a link that loses, repeats, holds back and strays segments by plan.
+//! A far side: a scripted remote behind a link that loses, repeats and holds back segments and lets them stray, by
+//! plan.
 #![tactic(auto)]
 
 mod config;

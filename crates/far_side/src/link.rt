@@ -1,4 +1,4 @@
-//! A link one way: the segments that it holds, and what the plan does to each of them.
+//! A link in one direction: the segments that it holds, and what the plan does to each of them.
 
 ghost use Rattle.std.specs.Prelude.{ℕ, ◌≡◌, ◌<◌, ◌+◌, ◌++◌, ◌∷◌, [], true, false, length, Some, IfOk, OnOk, slice_get, slice_set};
 ghost use Rattle.link_bag.specs.Planned.{fate_in};
@@ -15,9 +15,9 @@ use tcp_seq::{Segment, Seq, Way};
 #[derive(Clone, Copy, Debug, PartialEq, Eq)]
 pub struct InLink {
     pub fate: Fate,
-    /// How many turns of the far side have passed since its first delivery was due.
+    /// The number of turns of the far side that have passed since its first delivery was due.
     pub turns: u32,
-    /// The router that the link pointed at when it was put.
+    /// The router that the link pointed at when the segment was put.
     pub pointed: RouterId,
 }
 
@@ -26,7 +26,7 @@ pub struct InLink {
 pub enum Act {
     /// Nothing: it is held back.
     Stays,
-    /// It is delivered, and kept in the link where it is to be delivered again.
+    /// It is delivered, and kept in the link if it is to be delivered again.
     Delivered { keep: bool },
     /// A late copy goes to the router that the link pointed at when it was put.
     Copied,
@@ -38,7 +38,7 @@ impl InLink {
     ghost use Rattle.std.specs.Prelude.{◌≡◌, IfSome};
     ghost use Rattle.far_side.specs.Links.{act_in, older as older_lem};
 
-    /// What happens to it now.
+    /// Returns what happens to the segment in this turn.
     pub fn act(&self) -> Act
         ensures { result ≡ act_in self.now }
     {
@@ -51,7 +51,7 @@ impl InLink {
         }
     }
 
-    /// The same one turn later. There is none after 2^32 - 1 turns.
+    /// Returns the same segment one turn later, or `None` after 2^32 - 1 turns.
     fn older(&self) -> Option<InLink>
         ensures { IfSome result (λ older. older ≡ older_lem self.now) }
     {
@@ -66,7 +66,7 @@ impl InLink {
 
 ghost use Rattle.std.specs.Prelude.{nat_le, if◌then◌else◌, ◌==◌};
 
-/// What happens to a segment that is delivered at once, and then once more.
+/// Returns what happens to a segment that is delivered at once, and then once more.
 fn repeated(after: u32, turns: u32, last: Act) -> Act
     ensures { result ≡ (if nat_le after turns then last else if turns == 0 then Act.Delivered true else Act.Stays) }
 {
@@ -79,7 +79,7 @@ fn repeated(after: u32, turns: u32, last: Act) -> Act
     }
 }
 
-/// What happens to a segment that is held back.
+/// Returns what happens to a segment that is held back.
 fn held(after: u32, turns: u32) -> Act
     ensures { result ≡ (if nat_le after turns then Act.Delivered false else Act.Stays) }
 {
@@ -120,8 +120,8 @@ impl Link {
     ghost use Rattle.far_side.specs.declared.link.InLink.{InLink};
     ghost use Rattle.far_side.specs.Links.{IsOn, put_now, older};
 
-    /// An empty link. Its segments carry the stream whose first byte has the number `seq_first`, and acknowledge the one
-    /// whose first byte has the number `ack_first`.
+    /// Returns an empty link. Its segments carry the stream with initial sequence number `seq_first`, and acknowledge
+    /// the one with initial sequence number `ack_first`.
     pub fn new(alloc: Global, way: Way, peering: PeeringId, seq_first: Seq, ack_first: Seq) -> Link
         ensures { result ≡ record {
           way = way;
@@ -144,7 +144,7 @@ impl Link {
         }
     }
 
-    /// How many segments there are, fewer than 2^32.
+    /// Returns the number of segments, fewer than 2^32.
     pub fn len(&self) -> usize
         ensures segments { result ≡ length self.now.segments }
         ensures plans { result ≡ length self.now.plans }
@@ -153,9 +153,9 @@ impl Link {
         self.bag.len()
     }
 
-    /// Puts a segment behind the others, while the link points at this router. Segments are counted from 1, and the plan
-    /// says by that number what becomes of it. At 2^32 of them it answers `NoMemory`: no memory holds the entries of the journal that
-    /// are behind them.
+    /// Puts a segment at the end of the link, which points at router `pointed` now. Segments are counted from 1, and by
+    /// that number the plan says what happens to each. Returns `NoMemory` at 2^32 segments: no memory holds the journal
+    /// entries of so many segments.
     pub fn put(&mut self, segment: Segment, plan: &Plan, pointed: RouterId) -> Result<(), NoMemory>
         requires { IsOn self.old segment }
         ensures { OnOk result (self.new ≡ record self.old {
@@ -184,7 +184,7 @@ impl Link {
         Ok(())
     }
 
-    /// What the plan does to the segment at a place, which is below the number of segments.
+    /// Returns what the plan does to the segment at a place, which must be below the number of segments.
     pub fn plan(&self, place: usize) -> InLink
         requires { place < length self.now.plans }
         ensures { slice_get self.now.plans place ≡ Some result }
@@ -192,8 +192,8 @@ impl Link {
         self.plans[place]
     }
 
-    /// The segment at a place, which is below the number of segments, stays for another turn. After 2^32 - 1 turns it
-    /// answers `NoMemory`.
+    /// Keeps the segment at a place for another turn. The place must be below the number of segments. Returns
+    /// `NoMemory` after 2^32 - 1 turns.
     pub fn keep(&mut self, place: usize) -> Result<(), NoMemory>
         requires { place < length self.old.plans }
         ensures { OnOk result ((x : InLink) → slice_get self.old.plans place ≡ Some x → self.new ≡ record self.old { plans = slice_set self.old.plans place (older x) }) }
@@ -206,7 +206,7 @@ impl Link {
         Ok(())
     }
 
-    /// A copy of the segment at a place, which is below the number of segments.
+    /// Returns a copy of the segment at a place, which must be below the number of segments. The link doesn't change.
     pub fn deliver(&mut self, place: usize) -> Result<Segment, NoMemory>
         requires { place < length self.old.plans }
         ensures copy { IfOk result (λ g. slice_get self.old.segments place ≡ Some (placed self.old.seq_first self.old.ack_first g)) }
@@ -216,7 +216,7 @@ impl Link {
         self.bag.deliver(place)
     }
 
-    /// Takes out the segment at a place, which is below the number of segments.
+    /// Removes and returns the segment at a place, which must be below the number of segments.
     pub fn remove(&mut self, place: usize) -> Segment
         requires { place < length self.old.plans }
         ensures segment { slice_get self.old.segments place ≡ Some (placed self.old.seq_first self.old.ack_first result) }

@@ -1,4 +1,4 @@
-//! The pass over the link to the remote.
+//! One turn's pass over the link to the remote.
 
 ghost use Rattle.std.specs.Prelude.{◌≡◌, ◌⊎◌, ◌<◌, true, false, length, Some, IfOk, OnOk, slice_get};
 ghost use Rattle.ring_net.specs.Posts.{SameEdges};
@@ -16,7 +16,7 @@ use graft_steps::Item;
 use ring_net::Post;
 use tcp_seq::Way;
 
-/// The segment at a place stays. This and the next three calls answer the place of the next segment.
+/// Keeps the segment at a place in the link. Returns the place of the next segment.
 fn stay<C: Drop>(
     far: &mut Fields,
     place: usize,
@@ -35,7 +35,7 @@ fn stay<C: Drop>(
     Ok(place + 1)
 }
 
-/// The segment at a place is lost.
+/// Loses the segment at a place. Returns the place of the next segment.
 fn lose<C: Drop>(
     far: &mut Fields,
     place: usize,
@@ -57,7 +57,8 @@ fn lose<C: Drop>(
     Ok(place)
 }
 
-/// A copy of the segment at a place reaches the remote, and the segment stays.
+/// Delivers a copy of the segment at a place to the remote, and keeps the segment. Returns the place of the next
+/// segment.
 fn reach_again<C: Drop>(
     far: &mut Fields,
     place: usize,
@@ -80,7 +81,7 @@ fn reach_again<C: Drop>(
     Ok(place + 1)
 }
 
-/// The segment at a place reaches the remote.
+/// Delivers the segment at a place to the remote. Returns the place of the next segment.
 fn reach<C: Drop>(
     far: &mut Fields,
     place: usize,
@@ -102,7 +103,7 @@ fn reach<C: Drop>(
     Ok(place)
 }
 
-/// What the plan does to the segment at a place of the link to the remote. It answers the place of the next one.
+/// Does what the plan says to the segment at a place of the link to the remote. Returns the place of the next one.
 fn remote_step<C: Drop>(
     far: &mut Fields,
     place: usize,
@@ -122,7 +123,7 @@ fn remote_step<C: Drop>(
     }
 }
 
-/// What the plan does to the segments of the link to the remote in one turn, by ascending place.
+/// Does what the plan says to the segments of the link to the remote in one turn, in ascending order of place.
 pub(crate) fn pass_remote<C: Drop>(
     far: &mut Fields,
     post: &mut Post<Item<C>>,

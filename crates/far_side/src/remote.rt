@@ -13,19 +13,19 @@ use std::marker::Model;
 use tcp_end::End;
 use tcp_seq::{Segment, Seq, Way};
 
-/// How many bytes a remote says at most.
+/// The most bytes that a remote says.
 const MOST_SAID: usize = 1_048_576;
 
-/// How many bytes a segment has at most.
+/// The most bytes that a segment has.
 const MOST_BYTES: usize = 65_535;
 
-/// A scripted remote: all bytes that it said, and its end of the connection, from which it reads nothing. Contracts see
-/// its endpoint over whole numbers.
+/// A scripted remote: all bytes that it said, and its end of the connection, of which it leaves all input unread.
+/// Contracts see its endpoint over whole numbers.
 #[derive(Drop)]
 pub struct Remote {
     said: ByteQueue,
     end: End,
-    // The numbers of the first byte that it sends and of the first that it receives.
+    // The initial sequence numbers of the remote and of its peer.
     send_first: Seq,
     receive_first: Seq,
 }
@@ -45,8 +45,8 @@ impl Model for Remote {
 }
 
 impl Remote {
-    /// A remote of this peering that has said its opening, of at most 1,048,576 bytes. The numbers are those of the first
-    /// byte that it sends and of the first that it receives.
+    /// Returns a remote of this peering that has said its opening, which must have at most 1,048,576 bytes.
+    /// `send_first` and `receive_first` are the initial sequence numbers of the remote and of its peer.
     pub fn new(
         alloc: Global,
         peering: PeeringId,
@@ -75,14 +75,14 @@ impl Remote {
         }
     }
 
-    /// Whether it may say so many bytes more.
+    /// Returns whether it may say `len` more bytes.
     pub fn has_room(&self, len: usize) -> bool
         ensures { IsTrue result ↔ (length self.now.end.stream + len ≤ 2 ^ 20) }
     {
         len <= MOST_SAID && self.said.len() <= MOST_SAID - len
     }
 
-    /// Says bytes, for which there is room.
+    /// Says bytes, which must fit.
     pub fn say(&mut self, bytes: &[u8]) -> Result<(), NoMemory>
         requires { length self.old.end.stream + length bytes.now ≤ 2 ^ 20 }
         ensures { OnOk result (self.new ≡ record self.old { end = sending bytes.now self.old.end }) }
@@ -98,8 +98,8 @@ impl Remote {
         }
     }
 
-    /// Whether a segment is for it: of its peering, sent to it, with at most 65,535 bytes, and with numbers of places in
-    /// streams.
+    /// Returns whether a segment is for the remote: of its peering, sent to it, with at most 65,535 bytes, and with
+    /// sequence numbers within the streams.
     pub fn is_for(&self, segment: &Segment) -> bool
         ensures { MatchBool result (IsFor self.now segment.now) (¬ IsFor self.now segment.now) }
     {
@@ -109,7 +109,7 @@ impl Remote {
             && segment.is_in_streams(self.receive_first, self.send_first)
     }
 
-    /// A segment for it arrives.
+    /// Takes an arriving segment, which must be for the remote.
     pub fn arrive(&mut self, segment: &Segment) -> Result<(), NoMemory>
         requires { IsFor self.old segment.now }
         ensures arrives { OnOk result (TakesSegment self.old.end (placed self.old.receive_first self.old.send_first segment.now) self.new.end) }
@@ -118,7 +118,7 @@ impl Remote {
         self.arrive_numbered(segment, segment.seq.0, segment.ack.0)
     }
 
-    /// A segment of these numbers arrives, which are of 32 bits.
+    /// Takes an arriving segment, given its sequence and acknowledgement numbers as 32-bit numbers.
     fn arrive_numbered(&mut self, segment: &Segment, seq: u32, ack: u32) -> Result<(), NoMemory>
         requires own { IsFor self.old segment.now }
         requires seq { seq ≡ segment.now.seq.0 }
@@ -131,8 +131,8 @@ impl Remote {
         Ok(())
     }
 
-    /// The retransmission turn of its end: the first outstanding slice again, unless some of it was acknowledged since the
-    /// last turn.
+    /// Makes the retransmission turn of its end: emits the first outstanding slice again, unless something was
+    /// acknowledged since the last turn.
     pub fn again(&mut self) -> Result<Option<Segment>, NoMemory>
         ensures none { IfOk result (λ answer. IsNone answer ↔ ((again_length self.old.end ≡ 0) ⊎ (self.old.at_turn < self.old.end.acked))) }
         ensures emits { IfOk result (λ answer. EmitsOf EmitsAgain self.old answer self.new.end) }
@@ -142,7 +142,7 @@ impl Remote {
         self.end.turn()
     }
 
-    /// The next slice that was never emitted.
+    /// Emits the next slice that was never emitted.
     pub fn next(&mut self) -> Result<Option<Segment>, NoMemory>
         ensures none { IfOk result (λ answer. IsNone answer ↔ (next_length self.old.end ≡ 0)) }
         ensures sound { IsSound self.old.end }
@@ -153,7 +153,7 @@ impl Remote {
         self.end.next_segment()
     }
 
-    /// The answer that is owed.
+    /// Emits the acknowledgement that is owed.
     pub fn answer(&mut self) -> Option<Segment>
         ensures none { IsNone result ↔ (self.old.end.owed ≡ false) }
         ensures sound { IsSound self.old.end }
@@ -163,28 +163,28 @@ impl Remote {
         self.end.answer()
     }
 
-    /// The place that it emits next.
+    /// Returns the place in its stream that it emits next.
     pub fn emitted(&self) -> u32
         ensures { result ≡ self.now.end.emitted }
     {
         self.end.emitted()
     }
 
-    /// How many bytes of what it said were acknowledged.
+    /// Returns the number of bytes of its stream that were acknowledged.
     pub fn acked(&self) -> u32
         ensures { result ≡ self.now.end.acked }
     {
         self.end.acked()
     }
 
-    /// All that it said.
+    /// Returns all bytes that it said.
     pub fn said(&self) -> &[u8]
         ensures { result.now ≡ self.now.end.stream }
     {
         self.said.as_slice()
     }
 
-    /// All that it received in order.
+    /// Returns all bytes that it received in order.
     pub fn received(&self) -> &[u8]
         ensures { result.now ≡ received_bytes self.now.end }
     {

@@ -1,4 +1,4 @@
-//! What the steps of a script have a remote say.
+//! The bytes that the steps of a script have a remote say.
 
 use graft_edge::{Items, NoMemory, Octets};
 use std::alloc::Global;
@@ -14,7 +14,7 @@ pub struct Say {
 /// A list of steps with their bytes, in ascending order of the steps.
 pub type Says = Items<Say>;
 
-/// The bytes by their steps. A look-up takes the same time however many steps there are.
+/// The bytes by step. A look-up takes constant time in the number of steps.
 #[derive(Drop)]
 pub struct SayTable {
     bytes: HashMap<u32, Octets>,
@@ -25,7 +25,7 @@ impl SayTable {
     ghost use Rattle.std.specs.Option.{option_copied};
     ghost use Rattle.far_side.specs.Says.{bytes_of, bytes_at};
 
-    /// The table of a list. Where a step stands in it twice, its first place counts.
+    /// Returns the table of a list. If a step occurs twice, the first occurrence counts.
     pub fn new(alloc: Global, says: Says) -> Result<SayTable, NoMemory>
         ensures { IfOk result (λ table. (step : ℕ) → bytes_at table step ≡ bytes_of says step) }
     {
@@ -38,7 +38,7 @@ impl SayTable {
         Ok(SayTable { bytes: table })
     }
 
-    /// The bytes of a step, if it has the remote say any.
+    /// Returns the bytes of a step, if it has the remote say any.
     pub fn get(&self, step: u32) -> Option<&Octets>
         ensures { option_copied result ≡ bytes_at self.now step }
     {

@@ -1,4 +1,4 @@
-//! What a far side takes.
+//! Items that a far side takes.
 
 ghost use Rattle.std.specs.Prelude.{ℕ, OnOk};
 ghost use Rattle.ring_net.specs.Posts.{SameEdges, TookItem};
@@ -16,7 +16,8 @@ use graft_steps::Item;
 use ring_net::Post;
 use tcp_seq::Segment;
 
-/// Takes a segment of a router into the link to the remote. It drops one that isn't a router's or isn't for this remote.
+/// Takes a segment of a router into the link to the remote. A segment that isn't from a router or isn't for this remote
+/// is dropped.
 fn take_segment<C: Drop>(
     far: &mut Fields,
     from: usize,
@@ -38,8 +39,8 @@ fn take_segment<C: Drop>(
     far.remoteward.put(segment, &far.plan, far.pointer)
 }
 
-/// Takes the word of a router that a session landed there, and follows it where it is of a later graft than the last that
-/// was followed.
+/// Takes the word of a router that a session landed there, and points the link at that router if the graft is later
+/// than the last one followed.
 fn take_word<C: Drop>(
     far: &mut Fields,
     from: usize,
@@ -63,8 +64,8 @@ fn take_word<C: Drop>(
     Ok(())
 }
 
-/// Takes the order of the operator to say the bytes of a step. It drops one that isn't the operator's, that is of no step of
-/// this remote, or for whose bytes there is no room.
+/// Takes the order of the operator to say the bytes of a step. An order that isn't from the operator, that is of no
+/// step of this remote, or for whose bytes there is no room is dropped.
 fn take_order<C: Drop>(
     far: &mut Fields,
     from: usize,
@@ -103,7 +104,7 @@ fn drop_other<C: Drop>(
     note_dropped(post)
 }
 
-/// Takes an item of the actor of this number.
+/// Takes an item that the actor `from` sent.
 pub(crate) fn take<C: Drop>(
     far: &mut Fields,
     from: usize,

@@ -14,8 +14,8 @@ use graft_edge::NoMemory;
 use graft_steps::Item;
 use ring_net::Post;
 
-/// Delivers from both links as the plan says, makes the retransmission turn, says a KEEPALIVE where it is time for one, sends all
-/// new slices, and gives the answer that is owed. At 2^32 turns it answers `NoMemory`.
+/// Delivers from both links as the plan says, makes the retransmission turn, says a KEEPALIVE if one is due, sends all
+/// new slices, and sends the acknowledgement that is owed. Returns `NoMemory` at 2^32 turns.
 pub(crate) fn turn<C: Drop>(far: &mut Fields, post: &mut Post<Item<C>>) -> Result<(), NoMemory>
     requires { Keeps far.old }
     ensures edges { SameEdges post.old post.new }

@@ -7,14 +7,14 @@ use Rattle.graft_model.specs.Setups.{Setup, peerings_in, router_numbers}
 use Rattle.graft_model.specs.Parts.{World}
 use Rattle.graft_model.specs.Claims.{Transparent}
 
--- where the route to each prefix comes from
+-- the source of the route to each prefix
 abbrev pub froms_of : BestRoutes → ForwardMap
 froms_of best = each_value (λ b. b.from) best
 
--- the same of all routers, by rising number
+-- the same for all routers, in ascending order of number
 abbrev pub forward_maps : Setup → World → List ForwardMap
 forward_maps setup w = map (λ r. froms_of (w.router r).best) (router_numbers setup)
 
--- each peering of the laboratory has one session, which is its own
+-- each peering of the laboratory has one session, which belongs to it
 abbrev pub AllTransparent : Setup → World → Type 0
 AllTransparent setup w = (p : ℕ) → p < peerings_in setup → Transparent setup w p

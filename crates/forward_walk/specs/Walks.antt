@@ -11,7 +11,7 @@ use Rattle.forward_walk.specs.declared.walk.Walk.{Walk}
 use Rattle.forward_walk.specs.declared.walk.Walk.TheVariants.{Leaves, Local, NoRoute, Loop}
 use Rattle.forward_walk.specs.Tables.{ForwardMap, table_of}
 
--- the longest prefix of a table that covers an address, None where none does (RFC 1812, section 5.2.4.3)
+-- the longest prefix of a table that covers an address, None if none does (RFC 1812, section 5.2.4.3)
 abbrev pub LongestFor : ForwardMap → ℕ → Option PrefixValue → Type 0
 LongestFor table address p = LongestOf (λ q. IsSome (get table q)) (prefix_of 32 address) p
 
@@ -24,15 +24,15 @@ pub record HasEntry (table : ForwardMap) (address : ℕ) (p : PrefixValue) (from
 abbrev pub HasNone : ForwardMap → ℕ → Type 0
 HasNone table address = LongestFor table address None
 
--- how the walk of a packet to this address ends, which has met these routers and is at this one
+-- how the walk of a packet to this address ends, which has visited these routers and is at this one
 pub data WalksTo (tables : List ForwardMap) (address : ℕ) : List RouterId → RouterId → Walk → Type 0 where
-  -- it was here before
+  -- it was at this router before
   MetAgain : {met : List RouterId} {at : RouterId} → Contains met at → WalksTo tables address met at (Loop at)
   -- no prefix covers the address
   NoEntry : {met : List RouterId} {at : RouterId} → ¬ (Contains met at) → HasNone (table_of tables at) address → WalksTo tables address met at (NoRoute at)
   -- it is for a network of this router
   FromOwn : {met : List RouterId} {at : RouterId} {p : PrefixValue} → ¬ (Contains met at) → HasEntry (table_of tables at) address p Own → WalksTo tables address met at (Local at p)
-  -- it leaves over the peering that the route comes from
+  -- it leaves over the peering that the route is from
   FromPeering : {met : List RouterId} {at : RouterId} {p : PrefixValue} {peering : PeeringId} → ¬ (Contains met at) → HasEntry (table_of tables at) address p (Peering peering) → WalksTo tables address met at (Leaves at peering p)
-  -- it goes on at the router that the route comes from
+  -- it goes on at the router that the route is from
   FromRouter : {met : List RouterId} {at next : RouterId} {p : PrefixValue} {walk : Walk} → ¬ (Contains met at) → HasEntry (table_of tables at) address p (Router next) → WalksTo tables address (at ∷ met) next walk → WalksTo tables address met at walk

@@ -12,7 +12,7 @@ use prefix_trie::TrieTable;
 use std::alloc::Global;
 use std::marker::Model;
 
-/// How many numbers a router can have, since a number is one octet.
+/// The number of router numbers, since a number is one octet.
 const ROUTER_NUMBERS: usize = 256;
 
 /// The tables of all routers, each as a trie.
@@ -36,7 +36,8 @@ impl Model for Forwarder {
     ghost view = { λ f. tables_in f.tries };
 }
 
-/// A table of these entries. They are set from the last to the first, so that where a prefix stands twice, the first entry counts.
+/// Returns a table of these entries. They are set from the last to the first, so that the first entry
+/// counts if a prefix occurs twice.
 fn trie_of(alloc: Global, entries: &[ForwardEntry]) -> Result<TrieTable<From>, NoMemory>
     ensures { IfOk result (λ trie. trie.contents ≡ map_of entries.now) }
 {
@@ -49,8 +50,8 @@ fn trie_of(alloc: Global, entries: &[ForwardEntry]) -> Result<TrieTable<From>, N
     Ok(trie)
 }
 
-/// The entry of a router's table for an address: that of its longest prefix that covers the address. A router that has no
-/// table has no entry.
+/// Returns the entry of a router's table for an address: that of its longest prefix that covers the
+/// address. A router that has no table has no entry.
 fn entry_at(tries: &[TrieTable<From>], at: RouterId, address: u32) -> Option<ForwardEntry>
     ensures { MatchOption result (HasNone (table_of (tables_in tries.now) at) address) (λ e. HasEntry (table_of (tables_in tries.now) at) address e.prefix e.from) }
 {
@@ -60,7 +61,7 @@ fn entry_at(tries: &[TrieTable<From>], at: RouterId, address: u32) -> Option<For
     Some(ForwardEntry { prefix, from })
 }
 
-/// The place of a router's number among all that routers can have.
+/// Returns the place of a router's number among all router numbers.
 fn place_of(number: u8) -> usize
     ensures is { result ≡ number }
     ensures fits { result < ROUTER_NUMBERS }
@@ -80,8 +81,9 @@ impl Forwarder {
         Ok(Forwarder { tries })
     }
 
-    /// Follows a packet to an address, from router to router, until it ends or comes to a router again. It ends without a route at
-    /// a router that has no table. At each router that it meets it makes two descents in the trie. It asks for no memory.
+    /// Follows a packet to an address, from router to router, until it ends or reaches a router again.
+    /// It ends without a route at a router that has no table. At each router it makes two descents in
+    /// the trie. It allocates nothing.
     pub fn walk(&self, from: RouterId, address: u32) -> Walk
         ensures ends { WalksTo self.now address [] from result }
         ensures only { (other : Walk) → WalksTo self.now address [] from other → other ≡ result }

@@ -1,5 +1,5 @@
-//! Where packets go in the home network, by the routers' tables: each router takes the longest of its prefixes that
-//! covers the address (RFC 1812, section 5.2.4.3).
+//! Where packets go in the home network, by the routers' tables: each router uses the longest of its
+//! prefixes that covers the address (RFC 1812, section 5.2.4.3).
 #![tactic(auto)]
 
 mod entry;

@@ -2,7 +2,7 @@
 
 use bgp_types::{PeeringId, Prefix, RouterId};
 
-/// Where a packet ends that goes from router to router.
+/// How a packet that goes from router to router ends.
 #[derive(Clone, Copy, Debug, PartialEq, Eq)]
 pub enum Walk {
     /// It leaves the home network at this router, over this peering, by this prefix.
@@ -11,6 +11,6 @@ pub enum Walk {
     Local(RouterId, Prefix),
     /// This router has no prefix that covers the address.
     NoRoute(RouterId),
-    /// It comes to this router again.
+    /// It reaches this router again.
     Loop(RouterId),
 }

@@ -14,7 +14,7 @@ use Rattle.graft_runs.specs.Actors.{ActorPart, RouterIs, FarIs, OperatorIs, Thin
 use Rattle.graft_runs.specs.Makes.{makes_as, taken_by_router, taken_by_far, taken_by_operator}
 use Rattle.graft_actors.specs.Items.{thing_of, MayGo}
 
--- an actor's part, with the laboratory that it is of and its name there: what a type of actors has as its part
+-- an actor's part, with its laboratory and its name there: the part that a type of actors has
 pub record OwnPart : Type 0 where
   pub setup : Setup
   pub name : ActorName
@@ -22,12 +22,12 @@ pub record OwnPart : Type 0 where
 
 -- ---- what it may take
 
--- the actor of this number is there and may send the item to this one
+-- the actor of this number exists and may send the item to this one
 abbrev pub MayComeFrom : {C : Type 0} (session : C → SessionValue) → Setup → Option ActorName → ActorName → Item C → Type 0
 MayComeFrom session setup None to item = ⊥
 MayComeFrom session setup (Some from) to item = MayGo session setup from to item
 
--- the actor can take this from that one, as it stands
+-- the actor can take this from that one in its current state
 abbrev pub MayTake : Setup → ActorName → ActorPart → ActorName → Thing → Type 0
 MayTake setup (Router r) (RouterIs part) from thing = (item : RouterTaken) × (taken_by_router item ≡ (from, thing)) × RouterMayTake setup part item
 MayTake setup (FarSide p) (FarIs part) from thing = (item : FarTaken) × (taken_by_far item ≡ (from, thing)) × FarMayTake setup p part item
@@ -56,7 +56,7 @@ module _ {C : Type 0} (session : C → SessionValue) where
   abbrev pub things : Setup → List (ℕ × Item C) → List (ℕ × Thing)
   things setup sent = map (λ x. (x.0, thing_of session setup x.1)) sent
 
-  -- An event by a row of the actor's own, which takes and sends the things that its items are.
+  -- An event by one of the actor's rows, which takes and sends what its items stand for.
   pub record MakesEvent (before : OwnPart) (entry : JournalEntry) (taken : Option (ℕ × Item C)) (sent : List (ℕ × Item C)) (after : OwnPart) : Type 0 where
     pub welcome : TakesWelcome before taken
     pub row : makes_as before.setup (Some before.name) before.part entry (option_map (λ x. (x.0, thing_of session before.setup x.1)) taken) (things before.setup sent) after.part
@@ -75,12 +75,12 @@ module _ {C : Type 0} (session : C → SessionValue) where
     pub sends : sent ≡ []
     pub stays : after.part ≡ before.part
 
-  -- What an actor may do. Its laboratory and its name stay.
+  -- What an actor may do. Its laboratory and its name stay the same.
   pub record ActsAs (before : OwnPart) (entry : JournalEntry) (taken : Option (ℕ × Item C)) (sent : List (ℕ × Item C)) (after : OwnPart) : Type 0 where
     pub setup : after.setup ≡ before.setup
     pub name : after.name ≡ before.name
     pub does : MakesEvent before entry taken sent after ⊎ DropsItem before entry taken sent after
 
-  -- the same as a net has it, whatever the number of the actor
+  -- the same in the form that a net uses, whatever the number of the actor
   abbrev pub acts : Makes OwnPart (Item C)
   acts n before entry taken sent after = ActsAs before entry taken sent after

@@ -1,4 +1,4 @@
--- What an item of the program is in the world, and what may go from one actor to another.
+-- What an item of the program stands for in the world, and what may go from one actor to another.
 use Rattle.std.specs.Prelude.{ℕ, ◌≡◌, ◌<◌, ◌^◌, length}
 use Rattle.std.specs.Option.{option_map, unwrap_or}
 use Rattle.tcp_seq.specs.declared.segment.Segment.{Segment}
@@ -14,14 +14,14 @@ use Rattle.graft_model.specs.Setups.{Setup, config_of}
 use Rattle.graft_model.specs.Parts.{Told, Moved, Back, Asked, Answered, Done, Seg, PointAt}
 use Rattle.graft_runs.specs.Actors.{Thing, MeshItem, OutwardItem, SegmentItem, OrderItem, ReportItem, StepItem, ActorName, Router, FarSide, Operator}
 
--- the number of the first byte that a peering's home side sends, and of the first that its remote sends
+-- the initial sequence number of a peering's home side, and that of its remote
 abbrev pub home_first : Setup → ℕ → ℕ
 home_first setup p = unwrap_or (option_map (λ config. config.send_first.0) (config_of setup p)) 0
 
 abbrev pub remote_first : Setup → ℕ → ℕ
 remote_first setup p = unwrap_or (option_map (λ config. config.receive_first.0) (config_of setup p)) 0
 
--- the segment over whole numbers: to the remote go bytes of the home side's stream, to home bytes of the remote's
+-- the segment over whole numbers: one to the remote carries bytes of the home side's stream, one to home bytes of the remote's
 abbrev pub placed_for : Way → ℕ → ℕ → Segment → PlacedSegment
 placed_for Remote home remote g = placed home remote g
 placed_for Home home remote g = placed remote home g
@@ -33,7 +33,7 @@ abbrev pub segment_thing : Way → PlacedSegment → Thing
 segment_thing Remote segment = OutwardItem (Seg segment)
 segment_thing Home segment = SegmentItem segment
 
--- An item is this in the world, where a capsule carries this session.
+-- What an item stands for in the world, given the session that a capsule carries.
 abbrev pub thing_of : {C : Type 0} (session : C → SessionValue) → Setup → Item C → Thing
 thing_of session setup (items.Seg g) = segment_thing g.way (segment_of setup g)
 thing_of session setup (items.PointAt k) = OutwardItem (PointAt k)
@@ -49,22 +49,22 @@ thing_of session setup (items.SayOrder step) = StepItem step
 
 -- ---- from whom to whom
 
--- A segment of this peering goes this way, with less than 65,536 bytes, and its numbers are those of places of streams of at most 1 MiB or of a
--- window at their end.
+-- A segment of this peering goes this way, with less than 65,536 bytes, and its sequence numbers are within streams of at most 1 MiB or a window at
+-- their end.
 pub record IsSegmentOf (setup : Setup) (p : ℕ) (side : Way) (g : Segment) : Type 0 where
   pub peering : g.peering.0 ≡ p
   pub way : g.way ≡ side
   pub len : length g.bytes < 2 ^ 16
   pub placed : IsInStreams (segment_of setup g)
 
--- A session that is on its way is established, and its streams have the first numbers of its peering.
+-- A session that is on its way is established, and its streams have the initial sequence numbers of its peering.
 pub record IsOnItsWay (setup : Setup) (session : SessionValue) : Type 0 where
   pub established : state session ≡ Established
   pub sends : session.config.send_first.0 ≡ home_first setup session.config.peering.0
   pub receives : session.config.receive_first.0 ≡ remote_first setup session.config.peering.0
 
--- An item may go from one actor to another: between routers what they tell, sessions on their way, questions, answers and word of landings; between a router and a far side
--- segments of its peering, and to it word of landings; from the operator orders, and to it reports.
+-- An item may go from one actor to another: between routers what they tell, sessions on their way, questions, answers and word of landings; between a
+-- router and a far side segments of its peering, and word of landings to the far side; from the operator orders, and reports to it.
 abbrev pub MayGo : {C : Type 0} (session : C → SessionValue) → Setup → ActorName → ActorName → Item C → Type 0
 MayGo session setup (Router q) (Router r) (items.Told prefix route) = Unit {0}
 MayGo session setup (Router q) (Router r) (items.Moved k capsule) = IsOnItsWay setup (session capsule)

@@ -1,4 +1,4 @@
--- One event as a post has it.
+-- One event, as a post writes it.
 use Rattle.std.specs.Prelude.{ℕ, ◌+◌, List, [], ◌∷◌, Option}
 use Rattle.ring_net.specs.Deeds.{Deed}
 use Rattle.ring_net.specs.Posts.{actor_of, clock_of, Wrote}
@@ -6,7 +6,7 @@ use Rattle.ring_net.specs.declared.post.Post.{Post}
 use Rattle.graft_model.specs.declared.code.Code.{Code}
 use Rattle.graft_model.specs.Codes.{coded}
 
--- the code of the entry of an item that is dropped, which is that of no event
+-- the code of a dropped item's entry, which is that of no event
 abbrev pub dropped : Code
 dropped = coded 0 0 0 0
 
@@ -19,6 +19,6 @@ module _ {I : Type 0} where
     sent = sent;
   }
 
-  -- it was written, whatever it took
+  -- it was written, whether it took an item or not
   abbrev pub WroteOne : Post I → Code → List (ℕ × I) → Post I → Type 0
   WroteOne before code sent after = (taken : Option (ℕ × I)) → Wrote before (deed_of before code taken sent ∷ []) after

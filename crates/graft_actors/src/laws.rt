@@ -1,4 +1,4 @@
-//! What actors do, in the world, and which items are welcome, case by case.
+//! Laws: what actors do in the world, and which items are welcome, case by case.
 
 ghost use Rattle.std.specs.Prelude.{ℕ, ◌≡◌, ◌≢◌, ◌<◌, ◌≤◌, ◌+◌, ◌^◌, ◌↔◌, List, length, Option, Some, None, option_map, slice_get};
 ghost use Rattle.ring_net.specs.declared.entry.JournalEntry.{JournalEntry};
@@ -20,7 +20,8 @@ ghost use Rattle.graft_runs.specs.Makes.{makes};
 ghost use Rattle.graft_actors.specs.Items.{thing_of, IsOnItsWay, IsSegmentOf};
 ghost use Rattle.graft_actors.specs.Acts.{OwnPart, IsWelcome, TakesWelcome, ActsAs, things};
 
-/// What an actor of this number does with an item that is welcome, or with none, is an event by its row in the model. The entry of a dropped item alone has kind 0.
+/// An act of an actor that takes a welcome item, or none, is an event by its row in the model. Only the entry of a
+/// dropped item has kind 0.
 pub fn acts_are_events<C>()
     ensures rows { (session : C → SessionValue) (n : ℕ) (before after : OwnPart) (entry : JournalEntry) (taken : Option (ℕ × Item C)) (sent : List (ℕ × Item C))
         → actor_at before.setup n ≡ Some before.name → ActsAs session before entry taken sent after → TakesWelcome session before taken
@@ -29,9 +30,11 @@ pub fn acts_are_events<C>()
         → ActsAs session before entry taken sent after → (entry.kind ≡ 0) ↔ (TakesWelcome session before taken → ⊥) }
 {}
 
-/// A router takes the segments of a far side that are of its peering; from the operator the order of a graft for a session that is live here, without
-/// a stored graft, to one of the routers; and from another router what it tells, a session of the laboratory's of which nothing is here, a session that
-/// comes back where its shadow is here for that graft, both as sessions on their way are, and word of a landing where its shadow is here for that graft.
+/// A router takes from a far side the segments of its peering. From the operator it takes the order of a graft to one
+/// of the routers, if the session is live here without an errand. From another router it takes what that one tells, a
+/// session that moves here if its place is vacant, and a session that comes back, or word of a landing, if its shadow
+/// for that graft is here. Both kinds of sessions must be established, with the initial sequence numbers of their
+/// peerings.
 pub fn routers_take_what_comes<C>()
     ensures segment { (session : C → SessionValue) (setup : Setup) (r n : ℕ) (part : RouterPart) (g : Segment)
         → IsWelcome session (record { setup = setup; name = Router r; part = RouterIs part }) n (items.Seg g)
@@ -62,8 +65,8 @@ pub fn routers_take_what_comes<C>()
     ensures no_say { (session : C → SessionValue) (setup : Setup) (r n step : ℕ) (part : RouterPart) → ¬ IsWelcome session (record { setup = setup; name = Router r; part = RouterIs part }) n (items.SayOrder step) }
 {}
 
-/// A far side takes the segments of a router that are of its peering, and word of landings; and from the operator the order to say a step that is its remote's,
-/// where the stream has room.
+/// A far side takes from a router the segments of its peering, and word of landings. From the operator it takes the
+/// order to say a step of its remote, if the stream has room.
 pub fn far_sides_take_what_comes<C>()
     ensures segment { (session : C → SessionValue) (setup : Setup) (p n : ℕ) (part : FarPart) (g : Segment)
         → IsWelcome session (record { setup = setup; name = FarSide p; part = FarIs part }) n (items.Seg g)

@@ -1,5 +1,5 @@
-//! The actors of the program in the world of routers: what their items are there, who may send them to whom, which of them they take, and what an
-//! actor does with one that it can't take.
+//! The actors of the program in the world of routers: what their items stand for, who may send them to whom, which of
+//! them they take, and what an actor does with an item that it can't take.
 #![tactic(auto)]
 
 mod known;

@@ -1,4 +1,4 @@
-//! Events as a post has them.
+//! Writing events to a journal, by posts.
 
 ghost use Rattle.std.specs.Prelude.{◌∷◌, [], OnOk};
 ghost use Rattle.ring_net.specs.Posts.{SameEdges};
@@ -9,7 +9,7 @@ use graft_edge::NoMemory;
 use graft_model::{Code, FarEvent, OperatorEvent, RouterEvent};
 use ring_net::Post;
 
-/// Notes an event by its code.
+/// Writes an event to the journal, by its code.
 fn note<I: Drop>(post: &mut Post<I>, code: Code) -> Result<(), NoMemory>
     ensures ok { OnOk result (WroteOne post.old code [] post.new) }
     ensures edges { SameEdges post.old post.new }
@@ -17,7 +17,7 @@ fn note<I: Drop>(post: &mut Post<I>, code: Code) -> Result<(), NoMemory>
     post.note(code.kind, code.a, code.b, code.c)
 }
 
-/// Notes an event by its code, and sends an item.
+/// Writes an event to the journal, by its code, and sends an item.
 fn note_and_send<I: Drop>(
     post: &mut Post<I>,
     code: Code,
@@ -34,7 +34,8 @@ fn note_and_send<I: Drop>(
     }
 }
 
-/// Notes an event of a router that sends nothing. What it takes is known to the caller, as in the calls below.
+/// Writes a router's event that sends nothing to the journal. Which item it takes is known to the caller, here and in
+/// the calls below.
 pub fn note_router<I: Drop>(post: &mut Post<I>, event: RouterEvent) -> Result<(), NoMemory>
     ensures ok { OnOk result (WroteOne post.old (router_code event) [] post.new) }
     ensures edges { SameEdges post.old post.new }
@@ -42,7 +43,7 @@ pub fn note_router<I: Drop>(post: &mut Post<I>, event: RouterEvent) -> Result<()
     note(post, event.code())
 }
 
-/// Notes an event of a router that sends an item.
+/// Writes a router's event to the journal, and sends an item.
 pub fn note_router_sent<I: Drop>(
     post: &mut Post<I>,
     event: RouterEvent,
@@ -55,7 +56,7 @@ pub fn note_router_sent<I: Drop>(
     note_and_send(post, event.code(), to, item)
 }
 
-/// Notes an event of a far side that sends nothing.
+/// Writes a far side's event that sends nothing to the journal.
 pub fn note_far<I: Drop>(post: &mut Post<I>, event: FarEvent) -> Result<(), NoMemory>
     ensures ok { OnOk result (WroteOne post.old (far_code event) [] post.new) }
     ensures edges { SameEdges post.old post.new }
@@ -63,7 +64,7 @@ pub fn note_far<I: Drop>(post: &mut Post<I>, event: FarEvent) -> Result<(), NoMe
     note(post, event.code())
 }
 
-/// Notes an event of a far side that sends an item.
+/// Writes a far side's event to the journal, and sends an item.
 pub fn note_far_sent<I: Drop>(
     post: &mut Post<I>,
     event: FarEvent,
@@ -76,7 +77,7 @@ pub fn note_far_sent<I: Drop>(
     note_and_send(post, event.code(), to, item)
 }
 
-/// Notes an event of the operator that sends nothing.
+/// Writes an event of the operator that sends nothing to the journal.
 pub fn note_operator<I: Drop>(post: &mut Post<I>, event: OperatorEvent) -> Result<(), NoMemory>
     ensures ok { OnOk result (WroteOne post.old (operator_code event) [] post.new) }
     ensures edges { SameEdges post.old post.new }
@@ -84,7 +85,7 @@ pub fn note_operator<I: Drop>(post: &mut Post<I>, event: OperatorEvent) -> Resul
     note(post, event.code())
 }
 
-/// Notes an event of the operator that sends an item.
+/// Writes an event of the operator to the journal, and sends an item.
 pub fn note_operator_sent<I: Drop>(
     post: &mut Post<I>,
     event: OperatorEvent,
@@ -97,7 +98,7 @@ pub fn note_operator_sent<I: Drop>(
     note_and_send(post, event.code(), to, item)
 }
 
-/// Notes that an item was dropped, which is no event.
+/// Writes to the journal that an item was dropped, which is no event.
 pub fn note_dropped<I: Drop>(post: &mut Post<I>) -> Result<(), NoMemory>
     ensures ok { OnOk result (WroteOne post.old dropped [] post.new) }
     ensures edges { SameEdges post.old post.new }

@@ -1,15 +1,15 @@
--- What a source gives and a sink takes, where they tell it, and how faults are counted.
+-- What a source gives and a sink takes, where they report it, and how faults are counted.
 use Rattle.std.specs.Prelude.{◌≡◌, ◌⊎◌, ℕ, ◌-◌, ◌^◌, ◌<◌, ◌≤◌, List, [], ◌++◌, length, take, Option, IfSome, option_map}
 
--- The count of faults rose, or had reached the last number of a count of 64 bits.
+-- The count of faults rose, or had reached 2^64 - 1.
 abbrev pub FaultRose : ℕ → ℕ → Type 0
 FaultRose before after = (before < after) ⊎ (2 ^ 64 - 1 ≤ after)
 
--- What was left is these bytes, followed by what is left now. A source that doesn't tell what is left never does.
+-- What was left is these bytes, followed by what is left now. A source that doesn't report what is left never does.
 abbrev pub Took : Option (List ℕ) → Option (List ℕ) → List ℕ → Type 0
 Took before after bytes = before ≡ option_map (λ rest. bytes ++ rest) after
 
--- Nothing is left, where it is told.
+-- Nothing is left, where the source reports it.
 abbrev pub IsAtEnd : Option (List ℕ) → Type 0
 IsAtEnd left = IfSome left (λ rest. rest ≡ [])
 
@@ -21,6 +21,6 @@ Appended before after bytes = after ≡ option_map (λ written. written ++ bytes
 abbrev pub AppendedFront : Option (List ℕ) → Option (List ℕ) → List ℕ → Type 0
 AppendedFront before after bytes = (n : ℕ) × (n < length bytes) × Appended before after (take n bytes)
 
--- Some bytes were taken, whose number is as the test says.
+-- Some bytes were taken, and their number satisfies the condition.
 abbrev pub TookSome : Option (List ℕ) → Option (List ℕ) → (ℕ → Type 0) → Type 0
 TookSome before after Count = (bytes : List ℕ) × Count (length bytes) × Took before after bytes

@@ -8,13 +8,13 @@ pub record SourceTape : Type 0 where
   pub left : List ℕ
   pub calls : Calls
 
--- a sink in memory: the bytes written, how many it takes in all, and its calls
+-- a sink in memory: the bytes written, how many it has room for in all, and its calls
 pub record SinkTape : Type 0 where
   pub written : List ℕ
   pub room : ℕ
   pub calls : Calls
 
--- one more in a count of 64 bits, which stops at the last number
+-- one more in a count of 64 bits, which stops at 2^64 - 1
 abbrev pub next_count : ℕ → ℕ
 next_count n = if nat_lt n (2 ^ 64 - 1) then n + 1 else n
 

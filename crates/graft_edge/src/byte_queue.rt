@@ -6,11 +6,12 @@ use crate::memory::NoMemory;
 use std::alloc::Global;
 use std::marker::Model;
 
-/// Bytes that are added at the back and dropped at the front. Contracts see the list of those that are
-/// there.
+/// A queue of bytes. Contracts see the list of the bytes in it.
 ///
-/// They stand in one slice, behind a part that was dropped already. As soon as that part is as long as
-/// the rest, the rest moves to the front. So over all calls at most one byte moves for each byte that is
+/// The bytes are kept in one slice, behind a part that was already dropped. As soon as that part is as
+/// long as the rest, the rest moves to the front. So over all calls at most one byte moves for each
+/// byte that is dropped, and the slice is at most twice as long as the queue was at its longest. Its
+/// memory is kept until the queue is dropped.
 /// dropped, and the slice is at most twice as long as the queue was at its longest. Its memory is kept
 /// until the queue is dropped.
 #[derive(Debug, Drop)]
@@ -29,7 +30,7 @@ impl Model for ByteQueue {
     ghost invariant = { λ queue. queue.dropped ≤ length queue.bytes.items };
 }
 
-/// Removes the first `count` bytes, which have to be there. It allocates nothing.
+/// Removes the first `count` bytes, where `count` is at most the length. It allocates nothing.
 fn remove_front(bytes: &mut Vec<u8>, count: usize)
     requires { count ≤ length bytes.old.items }
     ensures { bytes.new.items ≡ drop count bytes.old.items }
@@ -40,7 +41,7 @@ fn remove_front(bytes: &mut Vec<u8>, count: usize)
 }
 
 impl ByteQueue {
-    /// The empty queue. It allocates nothing before bytes are added.
+    /// Returns an empty queue. It allocates nothing before bytes are added.
     pub fn new(alloc: Global) -> ByteQueue
         ensures { result ≡ [] }
     {
@@ -50,7 +51,8 @@ impl ByteQueue {
         }
     }
 
-    /// The queue of a list's bytes, in that list's memory. It allocates nothing and moves no byte.
+    /// Returns a queue of a list's bytes, in that list's memory. It allocates nothing and moves no
+    /// byte.
     pub fn from_octets(octets: Octets) -> ByteQueue
         ensures { result ≡ octets }
     {
@@ -60,8 +62,8 @@ impl ByteQueue {
         }
     }
 
-    /// The list of the bytes, in the queue's memory. It allocates nothing. The bytes move to the front if
-    /// a part that was dropped still stands before them.
+    /// Returns the list of the bytes, in the queue's memory. It allocates nothing. If a dropped part
+    /// still stands before the bytes, they move to the front.
     pub fn into_octets(self) -> Octets
         ensures { result ≡ self }
     {
@@ -70,19 +72,19 @@ impl ByteQueue {
         Items::from_vec(bytes)
     }
 
-    /// The allocator that its memory comes from.
+    /// Returns the allocator that its memory comes from.
     pub fn allocator(&self) -> Global {
         *self.bytes.allocator()
     }
 
-    /// The bytes, as a slice.
+    /// Returns the bytes as a slice.
     pub fn as_slice(&self) -> &[u8]
         ensures { result.now ≡ self.now }
     {
         &self.bytes[self.dropped..]
     }
 
-    /// How many bytes there are, without those that were dropped.
+    /// Returns the number of bytes, without those that were dropped.
     pub fn len(&self) -> usize
         ensures { result ≡ length self.now }
     {
@@ -97,7 +99,8 @@ impl ByteQueue {
         Ok(self.bytes.extend_from_slice(bytes)?)
     }
 
-    /// Keeps the first `len` bytes, which have to be there, and drops the rest. It gives no memory back.
+    /// Keeps the first `len` bytes, where `len` is at most the length, and drops the rest. Its memory
+    /// is kept.
     pub fn truncate(&mut self, len: usize)
         requires { len ≤ length self.old }
         ensures { self.new ≡ take len self.old }
@@ -105,7 +108,7 @@ impl ByteQueue {
         self.bytes.truncate(self.dropped + len);
     }
 
-    /// Drops the first `count` bytes, which have to be there. It gives no memory back.
+    /// Drops the first `count` bytes, where `count` is at most the length. Its memory is kept.
     pub fn drop_front(&mut self, count: usize)
         requires { count ≤ length self.old }
         ensures { self.new ≡ drop count self.old }

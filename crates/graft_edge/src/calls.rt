@@ -8,21 +8,22 @@ use crate::memory::NoMemory;
 use crate::source::Failed;
 use std::alloc::Global;
 
-/// The calls of a source or a sink in memory. Both counts stop at 2^64 - 1.
+/// Counts the calls of a source or a sink in memory, and says which of them fail. Both counts stop at
+/// 2^64 - 1.
 #[derive(Debug, Drop)]
 pub struct Calls {
-    /// The number of the next call, from 1.
+    /// The number of the next call, counted from 1.
     pub next: u64,
     /// The numbers of the calls that are to fail.
     pub fails: Items<u32>,
-    /// How many calls failed.
+    /// The number of calls that failed.
     pub faults: u64,
-    /// How many bytes one call moves at most.
+    /// The greatest number of bytes that one call moves.
     pub step: usize,
 }
 
 impl Calls {
-    /// No calls yet.
+    /// Returns the record of a source or a sink before its first call.
     pub(crate) fn new(alloc: Global, step: usize, fails: &[u32]) -> Result<Calls, NoMemory>
         ensures { IfOk result (λ calls. calls ≡ record { next = 1; fails = fails.now; faults = 0; step = step }) }
     {

@@ -11,8 +11,8 @@ use std::slice;
 /// A list of values, which is read as a slice: `items[k]`, `items.get(k)`, `items.iter()`, `&items[a..b]`,
 /// `for item in &items`.
 ///
-/// An invariant of a loop `for x in items.iter()` speaks of the values so far as over a slice, by
-/// `take l.x-index l.items`. One of `for x in &items` has them as `map (λ x. x.now) l.yielded`.
+/// In an invariant of a loop `for x in items.iter()` the values so far are `take l.x-index l.items`, as
+/// for a slice. In one of `for x in &items` they are `map (λ x. x.now) l.yielded`.
 #[derive(Debug, Drop)]
 pub struct Items<T> {
     vec: Vec<T>,
@@ -30,7 +30,7 @@ impl<T> Model for Items<T> {
 }
 
 impl<T> Items<T> {
-    /// The empty list.
+    /// Returns an empty list.
     pub fn new(alloc: Global) -> Items<T>
         ensures { result ≡ [] }
     {
@@ -39,14 +39,14 @@ impl<T> Items<T> {
         }
     }
 
-    /// The list of a vector's values. It takes no memory.
+    /// Returns the list of a vector's values. It allocates nothing.
     pub fn from_vec(vec: Vec<T>) -> Items<T>
         ensures { result ≡ vec.items }
     {
         Items { vec }
     }
 
-    /// The vector of the values. It takes no memory.
+    /// Returns the vector of the values. It allocates nothing.
     pub fn into_vec(self) -> Vec<T>
         ensures { result.items ≡ self }
     {
@@ -54,14 +54,14 @@ impl<T> Items<T> {
         vec
     }
 
-    /// Its values as a slice.
+    /// Returns its values as a slice.
     pub fn as_slice(&self) -> &[T]
         ensures { result.now ≡ self.now }
     {
         self.vec.as_slice()
     }
 
-    /// How many values there are.
+    /// Returns the number of values.
     pub fn len(&self) -> usize
         ensures { result ≡ length self.now }
     {
@@ -123,7 +123,7 @@ impl<T: Eq> Eq for Items<T> {
 }
 
 impl<T: Drop> Items<T> {
-    /// The list of one value.
+    /// Returns the list of one value.
     pub fn one(alloc: Global, value: T) -> Result<Items<T>, NoMemory>
         ensures { IfOk result (λ list. list ≡ value ∷ []) }
     {
@@ -132,7 +132,7 @@ impl<T: Drop> Items<T> {
         Ok(list)
     }
 
-    /// Adds a value at the end.
+    /// Adds a value at the end. If memory runs out, nothing changes.
     pub fn push(&mut self, value: T) -> Result<(), NoMemory>
         ensures ok { OnOk result (self.new ≡ self.old ++ value ∷ []) }
         ensures err { OnErr result (self.new ≡ self.old) }
@@ -142,7 +142,7 @@ impl<T: Drop> Items<T> {
 }
 
 impl<T: Copy> Items<T> {
-    /// The list of a slice's values.
+    /// Returns a copy of a slice's values.
     pub fn from_slice(alloc: Global, values: &[T]) -> Result<Items<T>, NoMemory>
         ensures { IfOk result (λ list. list ≡ values.now) }
     {
@@ -151,7 +151,8 @@ impl<T: Copy> Items<T> {
         })
     }
 
-    /// A copy with room for so many values more, so that the first of them that are added take no memory.
+    /// Returns a copy with room for `more` further values, so that adding the first `more` takes no
+    /// memory.
     pub fn with_room(&self, more: usize) -> Result<Items<T>, NoMemory>
         ensures { IfOk result (λ list. list ≡ self.now) }
     {
@@ -161,7 +162,7 @@ impl<T: Copy> Items<T> {
         Ok(Items { vec })
     }
 
-    /// Adds a slice's values at the end.
+    /// Adds a slice's values at the end. If memory runs out, nothing changes.
     pub fn extend(&mut self, values: &[T]) -> Result<(), NoMemory>
         ensures ok { OnOk result (self.new ≡ self.old ++ values.now) }
         ensures err { OnErr result (self.new ≡ self.old) }

@@ -22,9 +22,9 @@ impl<T: Drop> From<AllocFailed<T>> for NoMemory {
     }
 }
 
-/// What can be copied, unless memory runs out.
+/// A value that can be copied, unless memory runs out.
 pub trait TryCopy: Drop + Sized {
-    /// An equal value, in memory of its own.
+    /// Returns an equal value, in memory of its own.
     fn copy(&self) -> Result<Self, NoMemory>
         ensures { IfOk result (λ copy. copy ≡ self.now) };
 }

@@ -23,7 +23,7 @@ impl Model for Name {
 }
 
 impl Name {
-    /// The empty text.
+    /// Returns an empty text.
     pub fn new(alloc: Global) -> Name
         ensures { result ≡ [] }
     {
@@ -32,7 +32,7 @@ impl Name {
         }
     }
 
-    /// A copy of a text.
+    /// Returns a copy of a text.
     pub fn from_text(alloc: Global, text: &str) -> Result<Name, NoMemory>
         ensures { IfOk result (λ name. name ≡ text.now) }
     {
@@ -41,21 +41,21 @@ impl Name {
         })
     }
 
-    /// The name with this text. It takes no memory.
+    /// Returns the name with this text. It allocates nothing.
     pub fn from_string(text: String) -> Name
         ensures { result ≡ string_bytes text }
     {
         Name { text }
     }
 
-    /// Its text.
+    /// Returns its text.
     pub fn as_str(&self) -> &str
         ensures { result.now ≡ self.now }
     {
         self.text.as_str()
     }
 
-    /// Adds a text at the end.
+    /// Adds a text at the end. If memory runs out, nothing changes.
     pub fn push_str(&mut self, text: &str) -> Result<(), NoMemory>
         ensures ok { OnOk result (self.new ≡ self.old ++ text.now) }
         ensures err { OnErr result (self.new ≡ self.old) }

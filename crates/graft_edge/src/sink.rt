@@ -1,4 +1,4 @@
-//! Where bytes go to.
+//! Where bytes are written.
 
 ghost use Rattle.std.specs.Prelude.{◌≡◌, ◌↔◌, ◌⊎◌, ◌<◌, ◌≤◌, ℕ, ◌+◌, ◌-◌, List, Option, Some, None, [], length, take, drop, min, IsTrue, IsErr, IfOk, OnOk, OnErr, ◌++◌, Ok, Err, is_err, if◌then◌else◌};
 ghost use Rattle.graft_edge.specs.Outside.{FaultRose, Appended, AppendedFront};
@@ -10,29 +10,29 @@ use std::alloc::Global;
 use std::io::Write;
 use std::marker::Model;
 
-/// Where bytes go to.
+/// A destination of bytes.
 pub trait Sink {
-    /// The bytes that were written, if the sink tells them.
+    /// The bytes that were written, if the sink reports them.
     ghost written: { Self → Option (List ℕ) };
 
-    /// How often it failed. It never decreases.
+    /// The number of writes that failed. It never decreases.
     ghost faults: { Self → ℕ };
 
-    /// Appends the first of the bytes, at least one unless there are none, and returns how many. If it
-    /// fails, it has appended nothing, and its count of faults rises, unless that count has reached
-    /// 2^64 - 1.
+    /// Appends the first of the bytes, at least one unless there are none, and returns how many it
+    /// appended. If it fails, it has appended nothing, and its count of faults rises, unless that count
+    /// has reached 2^64 - 1.
     fn write(&mut self, bytes: &[u8]) -> Result<usize, Failed>
         ensures steady { faults self.old ≤ faults self.new }
         ensures within { IfOk result (λ n. n ≤ length bytes.now) }
         ensures some { result ≡ Ok 0 → bytes.now ≡ [] }
         ensures appended { IfOk result (λ n. Appended (written self.old) (written self.new) (take n bytes.now)) }
 
-        // A write fails only where the count of faults shows it, and then it appended nothing.
+        // If a write fails, the count of faults shows it, and nothing was appended.
         ensures failed { OnErr result (FaultRose (faults self.old) (faults self.new)) }
         ensures unwritten { OnErr result (written self.new ≡ written self.old) };
 }
 
-/// Room in memory, as a sink that takes at most `step` bytes in one call.
+/// A buffer in memory, as a sink that takes at most `step` bytes in one call.
 #[derive(Debug, Drop)]
 pub struct MemSink {
     bytes: Vec<u8>,
@@ -52,8 +52,9 @@ impl Model for MemSink {
 }
 
 impl MemSink {
-    /// A sink with room for so many bytes, all of it allocated here, that takes at most `step` of them
-    /// in one call, which has to be above 0, and fails at the calls of these numbers, counted from 1.
+    /// Returns a sink with room for `room` bytes, all of it allocated here. It takes at most `step`
+    /// bytes in one call, where `step` is above 0, and fails at the calls whose numbers are in `fails`,
+    /// counted from 1.
     pub fn new(alloc: Global, room: usize, step: usize, fails: &[u32]) -> Result<MemSink, NoMemory>
         requires { 0 < step }
         ensures { IfOk result (λ sink. sink
@@ -66,7 +67,7 @@ impl MemSink {
         })
     }
 
-    /// The bytes that were written.
+    /// Returns the bytes that were written.
     pub fn written(&self) -> &[u8]
         ensures { result.now ≡ self.now.written }
     {
@@ -75,7 +76,7 @@ impl MemSink {
 }
 
 /// Copies the first bytes into the buffer from place `at` on, as many as fit and at most `step`, and
-/// returns how many.
+/// returns how many it copied.
 fn copy_into(bytes: &[u8], step: usize, buf: &mut [u8], at: usize) -> usize
     requires { at ≤ length buf.old }
     ensures count { result ≡ min step (min (length buf.new - at) (length bytes.now)) }
@@ -101,8 +102,8 @@ impl Sink for MemSink {
         ensures failed { OnErr result (FaultRose self.old.calls.faults self.new.calls.faults) }
         ensures unwritten { OnErr result (◌≡◌ {A = Option (List ℕ)} (Some self.new.written) (Some self.old.written)) }
 
-        // It fails exactly at the calls that are to fail and if there is no room for any of the bytes, and otherwise takes as
-        // many as it can.
+        // It fails if and only if the call is one of those that are to fail or there is no room for any of the bytes;
+        // otherwise it takes as many as it can.
         ensures fails { IsErr result ↔ (IsTrue (fails_next self.old.calls)
             ⊎ ((self.old.room ≡ length self.old.written) × (0 < length bytes.now))) }
         ensures takes { IfOk result (λ n. n
@@ -126,7 +127,7 @@ impl Sink for MemSink {
     }
 }
 
-/// A writer of std's as a sink. It doesn't tell what was written.
+/// A writer of std as a sink. It doesn't report what was written.
 #[derive(Debug, Drop)]
 pub struct StdSink<W> {
     writer: W,
@@ -134,7 +135,7 @@ pub struct StdSink<W> {
 }
 
 impl<W: Write> StdSink<W> {
-    /// The sink of this writer, with no faults yet.
+    /// Returns a sink for this writer, with no faults yet.
     pub fn new(writer: W) -> StdSink<W> {
         StdSink { writer, faults: 0 }
     }
@@ -145,7 +146,7 @@ impl<W: Write> Sink for StdSink<W> {
 
     ghost faults = { λ s. s.faults };
 
-    /// A writer that takes none of some bytes has failed.
+    /// Writes to the writer. A writer that takes none of some bytes has failed.
     fn write(&mut self, bytes: &[u8]) -> Result<usize, Failed> {
         match self.writer.write(bytes) {
             Ok(n) if n > 0 || bytes.is_empty() => Ok(n),
@@ -157,13 +158,13 @@ impl<W: Write> Sink for StdSink<W> {
     }
 }
 
-/// Writes all of the bytes, in as many calls as it takes. It stops at the first call that fails, and
-/// then only the first of the bytes are written.
+/// Writes all of the bytes, in as many calls as it takes. It stops at the first call that fails; then
+/// only a first part of the bytes is written.
 pub fn write_all<K: Sink>(sink: &mut K, bytes: &[u8]) -> Result<(), Failed>
     ensures steady { K.faults sink.old ≤ K.faults sink.new }
     ensures ok { OnOk result (Appended (K.written sink.old) (K.written sink.new) bytes.now) }
 
-    // It fails only where a write did, and then not all of the bytes were appended.
+    // If it fails, a write failed, and not all of the bytes were appended.
     ensures failed { OnErr result (FaultRose (K.faults sink.old) (K.faults sink.new)) }
     ensures front { OnErr result (AppendedFront (K.written sink.old) (K.written sink.new) bytes.now) }
 {

@@ -1,4 +1,4 @@
-//! Where bytes come from.
+//! Where bytes are read from.
 
 ghost use Rattle.std.specs.Prelude.{◌≡◌, ◌↔◌, ◌<◌, ◌≤◌, ℕ, ◌+◌, List, Option, Some, None, [], length, take, drop, min, IsTrue, IsErr, IfOk, IfErr, OnErr, ◌≢◌, Ok, Err, if◌then◌else◌};
 ghost use Rattle.graft_edge.specs.Outside.{FaultRose, Took, IsAtEnd, TookSome};
@@ -16,26 +16,26 @@ use thiserror::Error;
 #[error("input or output failed")]
 pub struct Failed;
 
-/// Where bytes come from.
+/// An origin of bytes.
 pub trait Source {
-    /// The bytes that weren't read yet, if the source tells them.
+    /// The bytes that weren't read yet, if the source reports them.
     ghost left: { Self → Option (List ℕ) };
 
-    /// How often it failed. It never decreases.
+    /// The number of reads that failed. It never decreases.
     ghost faults: { Self → ℕ };
 
-    /// Reads the next bytes into the first places of the buffer, and returns how many there are. Into
-    /// a buffer that isn't empty it reads none only at the end of input. If it fails, it has read
+    /// Reads the next bytes into the first places of the buffer, and returns how many it read. Into a
+    /// buffer that isn't empty it reads none only at the end of input. If it fails, it has read
     /// nothing, and its count of faults rises, unless that count has reached 2^64 - 1.
     fn read(&mut self, buf: &mut [u8]) -> Result<usize, Failed>
         ensures steady { faults self.old ≤ faults self.new }
 
-        // The bytes that are given were the first of those that were left.
+        // The bytes that are given are the first of those that were left.
         ensures within { IfOk result (λ n. n ≤ length buf.new) }
         ensures took { IfOk result (λ n. Took (left self.old) (left self.new) (take n buf.new)) }
         ensures end { result ≡ Ok 0 → 0 < length buf.new → IsAtEnd (left self.new) }
 
-        // A read fails only where the count of faults shows it, and then it took nothing.
+        // If a read fails, the count of faults shows it, and nothing was taken.
         ensures failed { OnErr result (FaultRose (faults self.old) (faults self.new)) }
         ensures unread { OnErr result (left self.new ≡ left self.old) };
 }
@@ -62,8 +62,8 @@ impl Model for MemSource {
 impl MemSource {
     ghost use Rattle.std.specs.Prelude.{◌≡◌, ◌<◌, IfOk};
 
-    /// A source of these bytes that gives at most `step` of them in one call, which has to be above 0,
-    /// and fails at the calls of these numbers, counted from 1.
+    /// Returns a source of these bytes. It gives at most `step` bytes in one call, where `step` is
+    /// above 0, and fails at the calls whose numbers are in `fails`, counted from 1.
     pub fn new(
         alloc: Global,
         bytes: &[u8],
@@ -83,7 +83,7 @@ impl MemSource {
 }
 
 /// Copies the first bytes into the first places of a buffer, as many as fit and at most `step`, and
-/// returns how many.
+/// returns how many it copied.
 fn copy_front(bytes: &[u8], step: usize, buf: &mut [u8]) -> usize
     ensures count { result ≡ min step (min (length buf.new) (length bytes.now)) }
     ensures front { take result buf.new ≡ take result bytes.now }
@@ -108,7 +108,8 @@ impl Source for MemSource {
         ensures failed { OnErr result (FaultRose self.old.calls.faults self.new.calls.faults) }
         ensures unread { OnErr result (◌≡◌ {A = Option (List ℕ)} (Some self.new.left) (Some self.old.left)) }
 
-        // It fails exactly at the calls that are to fail, and otherwise gives as many bytes as it can.
+        // It fails if and only if the call is one of those that are to fail; otherwise it gives as many bytes as it
+        // can.
         ensures fails { IsErr result ↔ IsTrue (fails_next self.old.calls) }
         ensures gives { IfOk result (λ n. n ≡ min self.old.calls.step (min (length buf.new) (length self.old.left))) }
         ensures counted { self.new.calls
@@ -121,7 +122,7 @@ impl Source for MemSource {
     }
 }
 
-/// A reader of std's as a source. It doesn't tell what is left.
+/// A reader of std as a source. It doesn't report what is left.
 #[derive(Debug, Drop)]
 pub struct StdSource<R> {
     reader: R,
@@ -129,7 +130,7 @@ pub struct StdSource<R> {
 }
 
 impl<R: Read> StdSource<R> {
-    /// The source of this reader's bytes, with no faults yet.
+    /// Returns a source of this reader's bytes, with no faults yet.
     pub fn new(reader: R) -> StdSource<R> {
         StdSource { reader, faults: 0 }
     }
@@ -183,8 +184,8 @@ impl From<NoMemory> for ReadStop {
 }
 
 /// Reads a source to its end, if that is at most `most` bytes away, and returns its bytes. It stops at
-/// the first read that fails, as soon as it has taken more than `most` bytes, and if memory runs out. It
-/// reads at most `most + 2` times.
+/// the first read that fails, as soon as it has taken more than `most` bytes, and when memory runs out.
+/// It reads at most `most + 2` times. Bytes that were taken before it stops are lost.
 pub fn read_all<S: Source>(alloc: Global, source: &mut S, most: usize) -> Result<Octets, ReadStop>
     ensures steady { S.faults source.old ≤ S.faults source.new }
 
@@ -193,7 +194,7 @@ pub fn read_all<S: Source>(alloc: Global, source: &mut S, most: usize) -> Result
     ensures end { IfOk result (λ bytes. (length bytes ≤ most) × IsAtEnd (S.left source.new)) }
     ensures failed { result ≡ Err ReadStop.Failed → FaultRose (S.faults source.old) (S.faults source.new) }
 
-    // More than `most` bytes were taken if it stops as too long, and otherwise not.
+    // If it stops as `TooLong`, more than `most` bytes were taken, and otherwise not.
     ensures too_long { result ≡ Err ReadStop.TooLong → TookSome (S.left source.old) (S.left source.new) (λ n. most < n) }
     ensures stopped { IfErr result (λ stop. stop ≢ ReadStop.TooLong → TookSome (S.left source.old) (S.left source.new) (λ n. n ≤ most)) }
 {

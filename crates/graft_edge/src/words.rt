@@ -24,7 +24,7 @@ impl Model for Words {
 }
 
 impl Words {
-    /// No words yet.
+    /// Returns a list of no words.
     pub fn new(alloc: Global) -> Words
         ensures { result ≡ [] }
     {
@@ -34,7 +34,7 @@ impl Words {
         }
     }
 
-    /// Adds a word at the end.
+    /// Adds a word at the end. If memory runs out, nothing changes.
     pub fn push(&mut self, word: &str) -> Result<(), NoMemory>
         ensures ok { OnOk result (self.new ≡ self.old ++ word.now ∷ []) }
         ensures err { OnErr result (self.new ≡ self.old) }
@@ -43,7 +43,7 @@ impl Words {
         self.words.push(word)
     }
 
-    /// How many words there are.
+    /// Returns the number of words.
     pub fn len(&self) -> usize
         ensures { result ≡ length self.now }
     {
@@ -57,7 +57,7 @@ impl Words {
         self.words.is_empty()
     }
 
-    /// The word at place `k`, counted from 0, which has to be below `len()`.
+    /// Returns the word at place `k`, counted from 0, which has to be below `len()`.
     pub fn get(&self, k: usize) -> &str
         requires { k < length self.now }
         ensures { slice_get self.now k ≡ Some result.now }

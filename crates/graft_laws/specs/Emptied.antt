@@ -1,4 +1,4 @@
--- What becomes of the sessions of a router that is emptied.
+-- Where the sessions of a router that is emptied go.
 use Rattle.std.specs.Prelude.{ℕ, ◌≡◌, ◌≢◌, ◌≤◌, ◌<◌, false, List, ◌∷◌, ◌++◌, Some, slice_get}
 use Rattle.graft_steps.specs.declared.refusal.Outcome.{Outcome}
 use Rattle.graft_steps.specs.declared.refusal.Outcome.TheVariants.{Accepted, Refused}
@@ -11,13 +11,13 @@ use Rattle.graft_model.specs.First.{first_operator, first_world}
 use Rattle.graft_model.specs.declared.event.OperatorEvent.TheVariants.{Go}
 use Rattle.graft_model.specs.Steps.{Event, ByOperator, Step, Run}
 
--- Wherever a group begins among the events, each of its evacuate steps gives by plan.
+-- Whenever a group begins among the events, each of its evacuate steps gives by plan.
 abbrev pub GroupsGiveByPlan : Setup → World → List Event → Type 0
 GroupsGiveByPlan setup first events = (begun rest : List Event) (before after : World) (step router : ℕ) → events ≡ begun ++ ByOperator Go ∷ rest
     → Run setup first begun before → Step setup (ByOperator Go) before after → slice_get setup.steps step ≡ Some (EvacuateStep router)
     → group_of setup step ≡ after.operator.group → GivesByPlan setup before.operator after.operator step router
 
--- Evacuate steps of the first group have given by plan where the world begins, and each later one as its group begins.
+-- Evacuate steps of the first group give by plan in the first world, and each later one as its group begins.
 pub record GiveByPlan (setup : Setup) (events : List Event) : Type 0 where
   pub first : (step router : ℕ) → slice_get setup.steps step ≡ Some (EvacuateStep router) → group_of setup step ≡ 0
       → GivesByPlan setup (first_operator setup) (first_operator setup) step router
@@ -33,15 +33,15 @@ abbrev pub IsLastAccepted : Setup → OperatorPart → ScriptGraft → Type 0
 IsLastAccepted setup operator g =
     (other : ScriptGraft) → graft_at setup other.graft ≡ Some other → other.peering ≡ g.peering → g.graft < other.graft → is_accepted (operator.outcome other.graft) ≡ false
 
--- How a graft that an evacuate step gave to a target has ended. It isn't refused for want of room, and where it was accepted and no later one was, the session
--- belongs at the target.
+-- How a graft that an evacuate step gave to a target has ended. It isn't refused for lack of room, and if it was accepted and no later one was, the
+-- session belongs at the target.
 pub record HasLeft (setup : Setup) (operator : OperatorPart) (g : ScriptGraft) (target : ℕ) : Type 0 where
   pub outcome : Outcome
   pub ended : operator.outcome g.graft ≡ Some outcome
   pub had_room : (room : ℕ) → outcome ≢ Refused (RouterFull room)
   pub placed : outcome ≡ Accepted → IsLastAccepted setup operator g → placement setup operator g.peering ≡ target
 
--- So end all grafts that evacuate steps made in the groups that have begun.
+-- All grafts that evacuate steps made in the groups that have begun end like this.
 abbrev pub AreEmptied : Setup → OperatorPart → Type 0
 AreEmptied setup operator = (g : ScriptGraft) (router target : ℕ) → graft_at setup g.graft ≡ Some g → slice_get setup.steps g.step ≡ Some (EvacuateStep router)
     → group_of setup g.step ≤ operator.group → operator.given g.graft ≡ To target → HasLeft setup operator g target

@@ -1,4 +1,4 @@
--- What follows for the actors: no item comes that one would have to drop, a session is at one place, and a graft in one phase.
+-- Consequences for the actors: no item arrives that would have to be dropped, a session is at one place, and a graft is in one phase.
 use Rattle.std.specs.Prelude.{ℕ, ◌≡◌, ◌≢◌, ◌<◌, [], Some}
 use Rattle.std.specs.List.{flat_map}
 use Rattle.session_value.specs.Sessions.{SessionValue}

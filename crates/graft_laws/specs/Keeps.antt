@@ -10,18 +10,18 @@ use Rattle.graft_laws.specs.Phases.{Phase, Idle}
 use Rattle.graft_laws.specs.Owned.{Stands}
 use Rattle.graft_laws.specs.Life.{Change}
 
--- A world that a run from the first one leads to.
+-- A world to which a run leads from the first world.
 pub record Reached (setup : Setup) (w : World) : Type 0 where
   pub events : List Event
   pub run : Run setup (first_world setup) events w
 
--- What holds of a peering in its phase, with its session: at the start, and after each change where it held before.
+-- A property of a peering, its phase and its session that is an invariant: it holds at the start, and each change keeps it.
 pub record Keeps (setup : Setup) (I : World → ℕ → Phase → SessionValue → Type 0) : Type 0 where
   pub first : (p : ℕ) (config : SessionConfig) → config_of setup p ≡ Some config → I (first_world setup) p (Idle (start_of setup p)) (begun config)
   pub step : (before after : World) (p : ℕ) (phase next : Phase) (s t : SessionValue) → Reached setup before → p < peerings_in setup
       → Stands setup before p phase s → Stands setup after p next t → Change setup before after p phase s next t → I before p phase s → I after p next t
 
--- the peering stands somewhere, and this holds of it there
+-- the peering is in a phase with a session, and the property holds there
 pub record Has (setup : Setup) (I : World → ℕ → Phase → SessionValue → Type 0) (w : World) (p : ℕ) : Type 0 where
   pub phase : Phase
   pub session : SessionValue

@@ -42,7 +42,7 @@ pub record LineGives (p r : ℕ) (segment : PlacedSegment) (before after : World
   pub inward : (x : ℕ) → only r segment x ++ after.inward p x ≡ before.inward p x
   pub says : after.says p ≡ before.says p
 
--- the operator tells the far side to say a step
+-- the operator orders the far side to say a step
 pub record LineSays (p step : ℕ) (before after : World) : Type 0 where
   pub far : after.far p ≡ before.far p
   pub outward : (r : ℕ) → after.outward r p ≡ before.outward r p
@@ -54,31 +54,31 @@ pub record LineSays (p step : ℕ) (before after : World) : Type 0 where
 pub record SameEntries (p : ℕ) (before after : World) : Type 0 where
   pub same : (r : ℕ) → (after.router r).entries p ≡ (before.router r).entries p
 
--- the router r has what this session brings in there, and the others have what they had
+-- the router r has what this session brings in there, and the entries of the others stay the same
 pub record Enters (setup : Setup) (p r : ℕ) (session : SessionValue) (before after : World) : Type 0 where
   pub here : BringsIn setup r session ((after.router r).entries p)
   pub others : (x : ℕ) → x ≢ r → (after.router x).entries p ≡ (before.router x).entries p
 
--- the entries of the router r follow the session, and the others have what they had
+-- the entries of the router r follow the session, and the entries of the others stay the same
 pub record EntersHeard (setup : Setup) (p r : ℕ) (session next : SessionValue) (before after : World) : Type 0 where
   pub here : (x : PrefixValue) → FollowsHeard setup r session next ((before.router r).entries p) ((after.router r).entries p) x
   pub others : (x : ℕ) → x ≢ r → (after.router x).entries p ≡ (before.router x).entries p
 
--- the router r has no entries now, and the others have what they had
+-- the router r has no entries now, and those of the others stay the same
 pub record Drops (p r : ℕ) (before after : World) : Type 0 where
   pub here : (after.router r).entries p ≡ map.empty
   pub others : (x : ℕ) → x ≢ r → (after.router x).entries p ≡ (before.router x).entries p
 
 -- ---- what is put
 
--- an UPDATE has the attributes that the router r is to tell of a prefix on the session, or none where it is to tell none
+-- an UPDATE has the attributes that the router r is to tell of a prefix on the session, or none if it is to tell none
 pub record IsUpdateToTell (setup : Setup) (r : ℕ) (session : SessionValue) (update : Update) (before : World) : Type 0 where
   pub prefix : PrefixValue
   pub attrs : update.attrs ≡ to_tell setup r (before.router r) session prefix
 
 -- ---- changes
 
--- The events of a graft that change neither the session nor its routes, in their order: the phase before and after.
+-- The events of a graft that change neither the session nor its routes, in their order: with the phase before and after.
 pub data GraftMove (setup : Setup) (before : World) : Phase → SessionValue → Phase → Type 0 where
   Begins : {q k t : ℕ} {s : SessionValue} → GraftMove setup before (Idle q) s (Busy q k t Ordered)
   Admits : {q k t : ℕ} {s : SessionValue} → GraftMove setup before (Busy q k t Ordered) s (Busy q k t Stored)
@@ -94,7 +94,7 @@ pub data GraftMove (setup : Setup) (before : World) : Phase → SessionValue →
   NotesRefusal : {q k t : ℕ} {s : SessionValue} {refusal : Refusal} → GraftMove setup before (Busy q k t (Declined refusal)) s (Idle q)
   NotesSuccess : {q k t : ℕ} {s : SessionValue} → GraftMove setup before (Busy q k t Cleared) s (Idle t)
 
--- The events of a session that is live at the router r: the session before and after.
+-- The events of a session that is live at the router r: with the session before and after.
 pub data SessionAct (setup : Setup) (before after : World) (p r : ℕ) : SessionValue → SessionValue → Type 0 where
   Puts : {s next : SessionValue} (update : Update) → PutsUpdate s update next → IsUpdateToTell setup r s update before → SameLine p before after → SameEntries p before after
       → SessionAct setup before after p r s next
@@ -118,7 +118,7 @@ pub data Change (setup : Setup) (before after : World) (p : ℕ) : Phase → Ses
   Acts : {phase : Phase} {s next : SessionValue} (r : ℕ) (errand : Option Errand) → place_by phase s r ≡ Live s errand → SessionAct setup before after p r s next → Change setup before after p phase s phase next
   -- a segment finds no live session
   Strays : {phase : Phase} {s : SessionValue} (r : ℕ) (segment : PlacedSegment) → LineGives p r segment before after → SameEntries p before after → Change setup before after p phase s phase s
-  -- a step is to be said, and the far side's own events
+  -- a step is to be said; the far side's own events follow
   IsToSay : {phase : Phase} {s : SessionValue} (step : ℕ) → LineSays p step before after → SameEntries p before after → Change setup before after p phase s phase s
   FarActs : {phase : Phase} {s : SessionValue} (event : FarEvent) (taken : Option FarTaken) (sent : List FarSent) (part : FarPart) → far_row setup p event (before.far p) taken sent part
       → FarMoves p taken sent part before after → SameEntries p before after → Change setup before after p phase s phase s

@@ -1,4 +1,4 @@
--- What the operator's log says of the grafts of a peering, by the phase of the last one.
+-- What the operator's log says about the grafts of a peering, by the phase of the last one.
 use Rattle.std.specs.Prelude.{ℕ, ◌==◌, ◌≡◌, ◌≢◌, ◌≤◌, ◌⊎◌, Bool, false, List, [], ◌∷◌, ◌++◌, filter, Option, Some, None}
 use Rattle.std.specs.List.{AllByRecursion}
 use Rattle.graft_model.specs.Setups.{Setup, ScriptGraft, group_of, grafts_in, graft_at}
@@ -28,12 +28,12 @@ pub record Waits (operator : OperatorPart) (g : ScriptGraft) : Type 0 where
   pub unordered : operator.source g.graft ≡ None
   pub unended : operator.outcome g.graft ≡ None
 
--- A graft is of a group that has begun. It has ended, or isn't made.
+-- A graft is of a group that has begun. It has ended, or doesn't exist.
 pub record IsBehind (setup : Setup) (operator : OperatorPart) (g : ScriptGraft) : Type 0 where
   pub begun : group_of setup g.step ≤ operator.group
   pub over : HasEnded operator g ⊎ (Waits operator g × (target_in setup operator g ≡ None))
 
--- The graft that is under way is the script's, of the group that is at work. It was ordered at its source, and has no outcome.
+-- The graft that is under way is the script's, in the current group. It was ordered at its source, and has no outcome.
 pub record GoesOn (setup : Setup) (operator : OperatorPart) (p source graft target : ℕ) (now : List ScriptGraft) : Type 0 where
   pub step : ℕ
   pub is : now ≡ record { graft = graft; peering = p; step = step } ∷ []
@@ -47,8 +47,8 @@ abbrev pub GoesOnIn : Setup → OperatorPart → ℕ → Phase → List ScriptGr
 GoesOnIn setup operator p (Idle q) now = now ≡ []
 GoesOnIn setup operator p (Busy q k t stage) now = GoesOn setup operator p q k t now
 
--- The script's grafts of the peering are those that are behind, the one that is under way, and those that wait, in this order. The session belongs at the
--- source of the one that is under way.
+-- The script's grafts of the peering are those that are over, the one that is under way, and those that wait, in this order. The session belongs at
+-- the source of the one that is under way.
 pub record LogSays (setup : Setup) (operator : OperatorPart) (p : ℕ) (phase : Phase) : Type 0 where
   pub past : List ScriptGraft
   pub now : List ScriptGraft

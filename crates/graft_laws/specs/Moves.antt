@@ -1,4 +1,4 @@
--- A step in equations: of each channel, what was taken and what is left are what was there and what was sent.
+-- A step in equations: for each channel, what was taken and what is left are together what was there and what was sent.
 use Rattle.std.specs.Prelude.{ℕ, ◌≡◌, List, [], ◌∷◌, ◌++◌, Option, Some, None}
 use Rattle.tcp_seq.specs.Endpoint.{PlacedSegment}
 use Rattle.graft_model.specs.Points.{at}
@@ -41,14 +41,14 @@ reports_sent r (MeshTo q item ∷ sent) a = reports_sent r sent a
 reports_sent r (OutwardTo p item ∷ sent) a = reports_sent r sent a
 reports_sent r (ReportOut report ∷ sent) a = only r report a ++ reports_sent r sent a
 
--- what is taken stands at the head of its channel
+-- what is taken is at the head of its channel
 abbrev pub RouterHeads : World → ℕ → Option RouterTaken → Type 0
 RouterHeads w r None = Unit {0}
 RouterHeads w r (Some (OrderIn order)) = Heads (w.orders r) order
 RouterHeads w r (Some (SegmentIn p segment)) = Heads (w.inward p r) segment
 RouterHeads w r (Some (MeshIn q item)) = Heads (w.mesh q r) item
 
--- The world after an event of the router r that takes and sends this and leaves this part.
+-- The world after an event of the router r that takes and sends these items and results in this part.
 pub record RouterMoves (r : ℕ) (taken : Option RouterTaken) (sent : List RouterSent) (part : RouterPart) (before after : World) : Type 0 where
   pub heads : RouterHeads before r taken
   pub router : after.router ≡ at before.router r part

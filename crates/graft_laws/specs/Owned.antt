@@ -1,4 +1,4 @@
--- Ownership: a phase and one session of each peering say what stands in every place, in every channel and in the log.
+-- Ownership: for each peering a phase and one session say what is in every place, in every channel and in the log.
 use Rattle.std.specs.Prelude.{ℕ, ◌==◌, ◌≡◌, ◌≤◌, ◌<◌, Bool, false, List, [], filter, IsSome}
 use Rattle.std.specs.List.{AllByRecursion}
 use Rattle.session_value.specs.Sessions.{SessionValue}
@@ -24,13 +24,13 @@ mesh_of p items = filter (is_on p) items
 abbrev pub orders_of : ℕ → List GraftOrder → List GraftOrder
 orders_of p orders = filter (λ o. o.peering == p) orders
 
--- reports name no peering: theirs is that of their graft in the script
+-- reports name no peering: it is that of their graft in the script
 abbrev pub reports_of : Setup → ℕ → List Report → List Report
 reports_of setup p reports = filter (λ o. is_of setup p o.graft) reports
 
 -- ---- where things stand
 
--- The world has of the peering p just what this phase says, with this session.
+-- The world has just what this phase says of the peering p, with this session.
 pub record Stands (setup : Setup) (w : World) (p : ℕ) (phase : Phase) (session : SessionValue) : Type 0 where
   pub places : (r : ℕ) → (w.router r).places p ≡ place_by phase session r
   pub mesh : (a b : ℕ) → mesh_of p (w.mesh a b) ≡ mesh_by phase p session a b
@@ -39,7 +39,7 @@ pub record Stands (setup : Setup) (w : World) (p : ℕ) (phase : Phase) (session
   pub log : LogSays setup w.operator p phase
   pub bounds : InBounds setup phase
 
--- a peering stands somewhere
+-- a peering is in some phase, with some session
 pub record IsHeld (setup : Setup) (w : World) (p : ℕ) : Type 0 where
   pub phase : Phase
   pub session : SessionValue
@@ -51,8 +51,8 @@ pub record IsAbsent (w : World) (p : ℕ) : Type 0 where
   pub mesh : (a b : ℕ) → mesh_of p (w.mesh a b) ≡ []
   pub orders : (r : ℕ) → orders_of p (w.orders r) ≡ []
 
--- Each peering of the setup stands somewhere, and nothing is there of any other. No router has more places taken than it has room for, every report is of a
--- graft of the script, and each router to which an evacuate step gave a session is there.
+-- Each peering of the setup is in some phase, and the world has nothing of any other. No router has more places taken than it has room for, every
+-- report is of a graft of the script, and each router to which an evacuate step gave a session exists.
 pub record Owned (setup : Setup) (w : World) : Type 0 where
   pub peerings : (p : ℕ) → p < peerings_in setup → IsHeld setup w p
   pub no_others : (p : ℕ) → peerings_in setup ≤ p → IsAbsent w p

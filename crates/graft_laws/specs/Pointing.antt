@@ -7,7 +7,7 @@ use Rattle.graft_model.specs.Parts.{FarPart, Outward, Seg, PointAt, World}
 use Rattle.graft_laws.specs.Phases.{Landed, Asking, Confirmed, Cleared, Phase, Idle, Busy}
 use Rattle.graft_laws.specs.Log.{is_of}
 
--- the router at which the session was begun, or landed last
+-- the router where the session began, or landed last
 abbrev pub home_of : Phase → ℕ
 home_of (Idle q) = q
 home_of (Busy q k t (Landed n)) = t
@@ -16,7 +16,7 @@ home_of (Busy q k t Confirmed) = t
 home_of (Busy q k t Cleared) = t
 home_of (Busy q k t stage) = q
 
--- an item to a far side is of no later graft, or of earlier grafts alone
+-- an item to a far side is of this graft or an earlier one; or only of an earlier one
 abbrev pub IsUpTo : ℕ → Outward → Type 0
 IsUpTo last (Seg segment) = Unit {0}
 IsUpTo last (PointAt k) = k ≤ last
@@ -33,7 +33,7 @@ is_word_of last (PointAt k) = k == last
 abbrev pub IsPast : Setup → World → ℕ → ℕ → Type 0
 IsPast setup w p last = (last ≡ 0) ⊎ ((is_of setup p last ≡ true) × (w.operator.outcome last ≢ None))
 
--- The last graft that landed is the one that is under way and has landed, or else one of the past, or there is none and this is 0.
+-- The last graft that landed: the one under way, if it has landed; otherwise an earlier one, or 0 if there is none.
 abbrev pub HasLandedLast : Setup → World → ℕ → Phase → ℕ → Type 0
 HasLandedLast setup w p (Busy q k t (Landed n)) last = last ≡ k
 HasLandedLast setup w p (Busy q k t (Asking n)) last = last ≡ k
@@ -41,14 +41,14 @@ HasLandedLast setup w p (Busy q k t Confirmed) last = last ≡ k
 HasLandedLast setup w p (Busy q k t Cleared) last = last ≡ k
 HasLandedLast setup w p phase last = IsPast setup w p last
 
--- Word of the last landing is on its way from the router where the session is at home, and the link followed earlier grafts alone; or it is
--- on its way no more, and the link points there.
+-- Word of the last landing is on its way from the router where the session is at home, and the link followed only earlier grafts; or it is no longer
+-- on its way, and the link points there.
 abbrev pub WordOf : ℕ → ℕ → FarPart → List Outward → Type 0
 WordOf last home far items =
     ((filter (is_word_of last) items ≡ PointAt last ∷ []) × (far.followed < last))
     ⊎ ((filter (is_word_of last) items ≡ []) × (far.pointer ≡ home) × (far.followed ≡ last))
 
--- Every word of a landing is of the last graft that landed or of an earlier one, and from all routers but one of earlier ones.
+-- Every word of a landing is of the last graft that landed or of an earlier one, and from all routers but one it is of an earlier one.
 pub record Words (w : World) (p home last : ℕ) : Type 0 where
   pub all : (r : ℕ) → AllByRecursion (IsUpTo last) (w.outward r p)
   pub elsewhere : (r : ℕ) → r ≢ home → AllByRecursion (IsBelow last) (w.outward r p)

@@ -1,4 +1,4 @@
--- How many bytes a remote has said, and is still to say.
+-- The number of bytes that a remote has said, and is still to say.
 use Rattle.std.specs.Prelude.{ℕ, ◌≡◌, ◌<◌, ◌≤◌, ◌+◌, ◌*◌, Bool, List, [], ◌∷◌, length, sum_by, Option, Some, None, if◌then◌else◌, slice_get}
 use Rattle.std.specs.List.{AllByRecursion}
 use Rattle.graft_model.specs.Setups.{Setup, PeeringSetup, ScriptStep, SayStep, beat_of, said_by, said_length}
@@ -13,7 +13,7 @@ said_in p (Some step) = said_by p step
 abbrev pub size_at : Setup → ℕ → ℕ → ℕ
 size_at setup p n = length (said_in p (slice_get setup.steps n))
 
--- how many bytes those of the steps say that weren't issued, where the first of them has the number n
+-- how many bytes are said by the steps that weren't issued; the first step has the number n
 abbrev pub unissued : (ℕ → Bool) → ℕ → ℕ → List ScriptStep → ℕ
 unissued issued p n [] = 0
 unissued issued p n (step ∷ steps) = (if issued n then 0 else length (said_by p step)) + unissued issued p (n + 1) steps
@@ -23,8 +23,8 @@ pub record IsSayOf (setup : Setup) (p n : ℕ) : Type 0 where
   pub bytes : List ℕ
   pub is : slice_get setup.steps n ≡ Some (SayStep p bytes)
 
--- What a remote has said, is ordered to say, and says in steps that weren't issued is its opening, what it says over the script, and a KEEPALIVE
--- of 19 bytes for each time that its timer ran. Each number that it is sent is that of a step in which it says something.
+-- What a remote has said, is ordered to say, and says in steps that weren't issued has the length of its opening, what it says over the script, and a
+-- KEEPALIVE of 19 bytes for each time that its timer ran. Each step number that it is sent is that of a step in which it says something.
 pub record Said (setup : Setup) (p : ℕ) (peering : PeeringSetup) (w : World) : Type 0 where
   pub sum : length (w.far p).end.stream + sum_by (size_at setup p) (w.says p) + unissued w.operator.issued p 0 setup.steps ≡ said_length setup p peering + 19 * (w.far p).beats
   pub orders : AllByRecursion (IsSayOf setup p) (w.says p)

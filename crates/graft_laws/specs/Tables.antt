@@ -1,4 +1,4 @@
--- What holds of the tables of routers (RFC 4271, section 9.1).
+-- Invariants of the tables of routers (RFC 4271, section 9.1).
 use Rattle.std.specs.Prelude.{ℕ, ◌==◌, ◌≡◌, ◌≢◌, ◌<◌, Bool, true, false, List, [], ◌∷◌, Option, None, if◌then◌else◌}
 use Rattle.std.specs.FinMap as map
 use Rattle.bgp_types.specs.declared.attrs.Route.{Route}
@@ -26,28 +26,28 @@ has_entries (Busy q k t Confirmed) r = r == t
 has_entries (Busy q k t Cleared) r = r == t
 has_entries (Busy q k t stage) r = r == q
 
--- the router r is the old place of a session that has landed, and doesn't know yet
+-- the router r is the old place of a session that has landed, and doesn't know that yet
 abbrev pub is_late : Phase → ℕ → Bool
 is_late (Busy q k t (Landed n)) r = r == q
 is_late (Busy q k t (Asking n)) r = r == q
 is_late (Busy q k t Confirmed) r = r == q
 is_late phase r = false
 
--- A router's entries of a peering are what its session brings in, at the router that holds it or keeps its routes while it is away; all others
--- have none. Nothing is said of the old place of a session that has landed, until it clears its shadow.
+-- A router's entries of a peering are what its session brings in, at the router that holds it or keeps its routes while it is away; all others have
+-- none. The old place of a session that has landed is exempt until it clears its shadow.
 pub record Entered (setup : Setup) (w : World) (p : ℕ) (phase : Phase) (session : SessionValue) : Type 0 where
   pub here : (r : ℕ) → has_entries phase r ≡ true → BringsIn setup r session ((w.router r).entries p)
   pub elsewhere : (r : ℕ) → has_entries phase r ≡ false → is_late phase r ≡ false → (w.router r).entries p ≡ map.empty
 
 -- ---- best routes
 
--- A prefix that isn't to be decided again has the choice between what the router has for its best route.
+-- The best route to a prefix that isn't dirty is the choice between the router's candidates.
 pub record Decided (setup : Setup) (r : ℕ) (part : RouterPart) : Type 0 where
   pub best : (x : PrefixValue) → has part.dirty x ≡ false → map.get part.best x ≡ chosen setup r part x
 
 -- ---- between routers
 
--- the last that is told of a prefix in a channel, or else what was there
+-- the last that is told of a prefix in a channel, or else what was heard before
 abbrev pub last_told : PrefixValue → List Mesh → Option Route → Option Route
 last_told x [] before = before
 last_told x (Told y route ∷ items) before = last_told x items (if same_prefix x y then route else before)
@@ -57,18 +57,18 @@ last_told x (Asked graft p ∷ items) before = last_told x items before
 last_told x (AnswerTo graft p ∷ items) before = last_told x items before
 last_told x (Done graft p ∷ items) before = last_told x items before
 
--- what the router b has of the router a for a prefix, once all that is on its way has come
+-- what the router b will have heard from the router a for a prefix, once all that is on its way has arrived
 abbrev pub heard_then : World → ℕ → ℕ → PrefixValue → Option Route
 heard_then w a b x = last_told x (w.mesh a b) (map.get ((w.router b).tellings a) x)
 
--- Of each prefix that a isn't to tell b, b has what a tells of its best route, or will have it. A router has nothing of itself.
+-- For each prefix that isn't due from a to b, b has, or will have, what a tells of its best route. A router has heard nothing from itself.
 pub record Informed (setup : Setup) (a b : ℕ) (w : World) : Type 0 where
   pub others : a ≢ b → b < routers_in setup → (x : PrefixValue) → has ((w.router a).due_in b) x ≡ false → heard_then w a b x ≡ tell_in (map.get (w.router a).best x)
   pub itself : a ≡ b → (x : PrefixValue) → (has ((w.router a).due_in a) x ≡ false) × (heard_then w a a x ≡ None)
 
 -- ---- on sessions
 
--- Of each prefix that isn't due on a live established session, that was told on it which is to be told of the best route.
+-- For each prefix that isn't due on a live established session, what was told on it is what is to be told of the best route.
 pub record Answered (setup : Setup) (r : ℕ) (part : RouterPart) : Type 0 where
   pub told : (p : ℕ) (session : SessionValue) (errand : Option Errand) → part.places p ≡ Live session errand → state session ≡ Established
       → (x : PrefixValue) → has (part.due_out p) x ≡ false → map.get session.told x ≡ to_tell setup r part session x

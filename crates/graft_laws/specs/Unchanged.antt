@@ -1,10 +1,10 @@
--- What a frozen session is until it lands or comes back.
+-- A frozen session, until it lands or comes back.
 use Rattle.std.specs.Prelude.{ℕ, ◌≡◌, ◌≢◌, None, ◌⊎◌}
 use Rattle.session_value.specs.Sessions.{SessionValue}
 use Rattle.graft_model.specs.Parts.{World}
 use Rattle.graft_laws.specs.Phases.{Stage, Ordered, Stored, Halted, Moving, Landed, Asking, Confirmed, Returning, Declined, Cleared, Phase, Idle, Busy}
 
--- frozen or on its way, a session is the one that was found; landed or refused, nothing is said of it any more
+-- frozen or on its way, a session is the one that was found; once it is landed or refused, this says nothing
 abbrev pub IsFound : Stage → SessionValue → SessionValue → Type 0
 IsFound Ordered found session = ⊥
 IsFound Stored found session = ⊥

@@ -1,4 +1,5 @@
-//! The laws of the world: what holds of every run of a laboratory, whatever its routers, remotes and links do and in which order.
+//! The laws of the world: what holds for every run of a laboratory, whatever its routers, remotes and links do and in
+//! whatever order.
 #![tactic(auto)]
 
 mod laws;

@@ -43,14 +43,14 @@ sessions_of setup w p =
     flat_map (λ r. sessions_at ((w.router r).places p)) (router_numbers setup)
     ++ flat_map (λ a. flat_map (λ b. flat_map (sessions_on p) (w.mesh a b)) (router_numbers setup)) (router_numbers setup)
 
--- how many hold the session of a peering, moving capsules counted
+-- the number of holders of a peering's session, including moving capsules
 abbrev pub holders : Setup → World → ℕ → ℕ
 holders setup w p = length (sessions_of setup w p)
 
 -- ---- transparent
 
--- The peering has one session, which is the peering's own, with a legal story (RFC 4271, sections 6 and 8.2.2). What the remote received are the first bytes of what that story
--- put, and what it got are the first bytes of what the remote said. Its tables are those of the story (section 3.1).
+-- The peering has one session, which is the peering's own, with a legal story (RFC 4271, sections 6 and 8.2.2). The remote received the first bytes
+-- of what that story put, and the story got the first bytes of what the remote said. Its tables are those of the story (section 3.1).
 pub record Transparent (setup : Setup) (w : World) (p : ℕ) : Type 0 where
   pub session : SessionValue
   pub one : sessions_of setup w p ≡ session ∷ []
@@ -81,8 +81,7 @@ pub record FrozenBefore (setup : Setup) (first : World) (events : List Event) (r
   pub step : Step setup (ByRouter s event) w₃ after
 
 -- A graft that is turned back leaves the session at the router that froze it, as it was there; one that lands leaves it at its target, as it was, and
--- the target owes word of that to the router that froze it.
--- A graft that the source refuses leaves every session where and as it is.
+-- the target owes word of the landing to the router that froze it. A graft that the source refuses changes no session and moves none.
 pub record Unchanged (setup : Setup) (first : World) (events : List Event) : Type 0 where
   pub returned : (r k p target s q : ℕ) (found session : SessionValue) (refusal : Refusal) (after : World)
       → FrozenBefore setup first events r k p target found s q (Return q) (Back k p session refusal) after
@@ -97,7 +96,8 @@ pub record Unchanged (setup : Setup) (first : World) (events : List Event) : Typ
 
 -- ---- made before broken
 
--- Among the events from one world to another there is one by which the router t told x this of the prefix, of the route that it had then and had chosen.
+-- Among the events from one world to another there is one by which the router t told x this about the prefix, from the best route that it had then,
+-- which was its choice.
 pub record IsToldIn (setup : Setup) (t x : ℕ) (prefix : PrefixValue) (first : World) (events : List Event) (route : Option Route) : Type 0 where
   pub begun : List Event
   pub rest : List Event
@@ -107,9 +107,9 @@ pub record IsToldIn (setup : Setup) (t x : ℕ) (prefix : PrefixValue) (first : 
   pub decided : map.get (telling.router t).best prefix ≡ chosen setup t (telling.router t) prefix
   pub told : route ≡ tell_in (map.get (telling.router t).best prefix)
 
--- Among the events that lead to the world `now` there is one by which the router t asked x in graft k, in the world `asking`. The best routes of t were then
--- the choices between all that it had; and what x has heard from t in the world `now` is, for each prefix, what t tells of the best route that it had then,
--- or what it told x since.
+-- Among the events that lead to the world `now`, there is one by which the router t asked x in graft k, in the world `asking`. The best routes of t
+-- were then the choices between all that it had; and what x has heard from t in the world `now` is, for each prefix, what t tells of the best route
+-- that it had then, or what it has told x since.
 pub record HasHeard (setup : Setup) (first : World) (events : List Event) (t x k : ℕ) (now : World) : Type 0 where
   pub begun : List Event
   pub since : List Event
@@ -140,8 +140,9 @@ pub record IsMadeBefore (setup : Setup) (first : World) (events : List Event) (s
   pub heard : (x : PrefixValue) → map.get ((clearing.router s).tellings t) x ≡ tell_in (map.get (giving.router t).best x)
   pub others : (x : ℕ) → x < routers_in setup → x ≢ s → x ≢ t → HasHeard setup first events t x k clearing
 
--- Wherever in the events a router s clears its shadow of graft k, as the router t said, it has the routes that t told when it gave word, and every other
--- router has those that t told when it asked it, or later ones. So a route that t tells is at hand everywhere before the one of s goes.
+-- Whenever a router s clears its shadow of graft k, after word from the router t, it has the routes that t told before it gave word, and every other
+-- router has those that t told before it asked that router, or later ones. So a route that t tells is known everywhere before the route of s is
+-- removed.
 abbrev pub MadeBeforeBroken : Setup → World → List Event → Type 0
 MadeBeforeBroken setup first events = (begun rest : List Event) (s t k p : ℕ) (items : List Mesh) (before after : World)
     → events ≡ begun ++ ByRouter s (Clear t) ∷ rest
@@ -150,17 +151,17 @@ MadeBeforeBroken setup first events = (begun rest : List Event) (s t k p : ℕ) 
 
 -- ---- solves
 
--- what the sessions that a router holds bring in for a prefix, by rising peering
+-- what the sessions that a router holds bring in for a prefix, in ascending order of peering
 abbrev pub session_routes : Setup → World → ℕ → PrefixValue → List SessionRoute
 session_routes setup w r prefix = flat_map (λ p. map (λ session. session_route setup r session prefix) (sessions_at ((w.router r).places p))) (peering_numbers setup)
 
--- what the other routers tell it, by rising number: each its best route where that is own or external
+-- what the other routers tell it, in ascending order of number: each its best route if that is own or external
 abbrev pub router_routes : Setup → World → ℕ → PrefixValue → List RouterRoute
 router_routes setup w r prefix = map
     (λ q. record { router = record { 0 = q }; identifier = identifier_of setup q; cost = cost_between setup r q; told = tell_in (map.get (w.router q).best prefix) })
     (filter (λ q. not (q == r)) (router_numbers setup))
 
--- All that the remote said was got, message by message, up to the end of the session, or up to a rest that begins none.
+-- All that the remote said was got, message by message, up to the end of the session or up to a rest that begins with no whole message.
 pub record GotAll (session : SessionValue) (said : List ℕ) : Type 0 where
   pub rest : List ℕ
   pub is : said ≡ got_bytes session.story ++ rest
@@ -179,9 +180,9 @@ pub record SolvesOn (setup : Setup) (w : World) (p : ℕ) : Type 0 where
   pub got : GotAll session (w.far p).end.stream
   pub elsewhere : (r : ℕ) → r < routers_in setup → r ≢ placement setup w.operator p → ((w.router r).places p ≡ Vacant) × ((w.router r).entries p ≡ map.empty)
 
--- The tables of all routers solve the decision equations (RFC 4271, section 9.1) for the placement by the log: each best route is the choice
--- between the router's own network, what the sessions that it holds heard, and what the other routers tell; what a router has of another is what that one
--- tells now; and each peering is as it is to be.
+-- The tables of all routers solve the decision equations (RFC 4271, section 9.1) for the placement by the log: each best route is the choice between
+-- the router's own network, what the sessions that it holds heard, and what the other routers tell; what a router heard from another is what that one
+-- tells now; and each peering is solved.
 pub record Solves (setup : Setup) (w : World) : Type 0 where
   pub best : (r : ℕ) (prefix : PrefixValue) → r < routers_in setup → map.get (w.router r).best prefix
       ≡ choice (candidates setup.home_as prefix (has_network setup r prefix) (session_routes setup w r prefix) (router_routes setup w r prefix))

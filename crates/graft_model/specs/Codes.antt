@@ -1,4 +1,4 @@
--- Events as a journal has them: a kind by its number, and three arguments, of which those that a kind doesn't have are 0.
+-- Events as a journal stores them: a kind by its number, and three arguments, of which those that a kind doesn't have are 0.
 use Rattle.std.specs.Prelude.{ℕ, Bool, false, true, Option, Some, None, nat_le, ◌==◌, ◌&&◌, if◌then◌else◌}
 use Rattle.bgp_types.specs.Prefixes.{PrefixValue, IsPrefix, cleared}
 use Rattle.tcp_seq.specs.declared.segment.Way.{Way}
@@ -13,7 +13,7 @@ use Rattle.graft_model.specs.declared.event.FarEvent.TheVariants.{Say, Send, Tak
 use Rattle.graft_model.specs.declared.event.OperatorEvent.{OperatorEvent}
 use Rattle.graft_model.specs.declared.event.OperatorEvent.TheVariants.{Order, Note, Go}
 
--- the prefix that an address and a length are, where no bit past the length is set
+-- the prefix of an address and a length, if no bit past the length is set
 abbrev pub prefix_of_args : ℕ → ℕ → Option PrefixValue
 prefix_of_args address len = if nat_le len 32 && (cleared len address == address) then Some (record { address = address; len = len }) else None
 
@@ -28,7 +28,7 @@ abbrev pub way_number : Way → ℕ
 way_number Home = 0
 way_number Remote = 1
 
--- The numbers of the kinds from 27 to 30 are left free.
+-- Kinds 27 to 30 are unassigned.
 abbrev pub router_code : RouterEvent → Code
 router_code (Put p n) = coded 1 p n 0
 router_code (Emit p from len) = coded 2 p from len
@@ -52,7 +52,7 @@ router_code (Ask k q) = coded 34 k q 0
 router_code (Answer q) = coded 35 q 0 0
 router_code (Collect q) = coded 36 q 0 0
 
--- No bit is set past the length of the event's prefix, if it has one.
+-- The event's prefix, if it has one, has no bit set past its length.
 abbrev pub HasPrefix : RouterEvent → Type 0
 HasPrefix (Decide prefix) = IsPrefix prefix
 HasPrefix (Tell q prefix) = IsPrefix prefix

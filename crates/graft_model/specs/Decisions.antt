@@ -34,7 +34,7 @@ session_route setup r session prefix = record {
   heard = map.get session.heard prefix;
 }
 
--- the entry that the router has of it, after the import policy of its own
+-- the entry that the router makes of it, by its own import policy
 abbrev pub entry_of : Setup → ℕ → SessionValue → PrefixValue → Option Entry
 entry_of setup r session prefix = option_map
     (λ route. record { route = route; identifier = remote_identifier session; address = session.config.remote_address })
@@ -42,12 +42,12 @@ entry_of setup r session prefix = option_map
 
 -- ---- deciding
 
--- a told route has the telling router's identifier for its identifier and its address
+-- a told route has the telling router's identifier as its identifier and its address
 abbrev pub telling_candidate : Setup → ℕ → ℕ → Option Route → Option Candidate
 telling_candidate setup r q telling = option_map (λ route. (record { from = Router (record { 0 = q }); route = route }, rank_of setup.home_as false (cost_between setup r q) (identifier_of setup q) (identifier_of setup q) route)) telling
 
--- The choice of a router between its own network, the entries of the peerings by rising number, and those of the routers by rising
--- number (RFC 4271, section 9.1.2).
+-- The choice of a router between its own network, the entries of the peerings in ascending order, and those of the routers in ascending order (RFC
+-- 4271, section 9.1.2).
 abbrev pub chosen : Setup → ℕ → RouterPart → PrefixValue → Option Best
 chosen setup r part prefix = choice (
     own_candidates setup.home_as (has_network setup r prefix)

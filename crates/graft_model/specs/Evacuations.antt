@@ -6,11 +6,11 @@ use Rattle.graft_model.specs.Setups.{Setup, ScriptStep, EvacuateStep, ScriptGraf
 use Rattle.graft_model.specs.Parts.{Gift, Unmade, To, Stays, OperatorPart}
 use Rattle.graft_model.specs.Placements.{placement}
 
--- the peerings that are placed at a router, in rising number
+-- the peerings that are placed at a router, in ascending order
 abbrev pub peerings_at : Setup → (ℕ → ℕ) → ℕ → List ℕ
 peerings_at setup placed r = filter (λ p. placed p == r) (peering_numbers setup)
 
--- the load of each router: how many peerings are placed there
+-- the load of each router: the number of peerings placed there
 abbrev pub loads_of : Setup → (ℕ → ℕ) → List ℕ
 loads_of setup placed = map (λ r. length (peerings_at setup placed r)) (router_numbers setup)
 
@@ -21,8 +21,8 @@ rooms_of setup = map (λ router. router.room) setup.routers
 abbrev pub targets_from : Setup → (ℕ → ℕ) → ℕ → TargetList
 targets_from setup placed r = plan_for (rooms_of setup) r (loads_of setup placed) (length (peerings_at setup placed r))
 
--- The sessions of a router that is emptied are given out as well as can be: no router passes its room, as many get a target as there are free places for,
--- and where all get one, no other way to give all has a lower greatest load among the other routers.
+-- The sessions of a router that is emptied are given out in the best way: no router exceeds its room; as many get a target as there are free places;
+-- and if all get one, no other way to give all has a lower maximum load among the other routers.
 pub record AreGivenWell (setup : Setup) (placed : ℕ → ℕ) (router : ℕ) : Type 0 where
   pub each : length (targets_from setup placed router) ≡ length (peerings_at setup placed router)
   pub room : KeepsRooms (loads_of setup placed) (rooms_of setup) router (targets_from setup placed router)
@@ -39,7 +39,7 @@ abbrev pub gift_of : ℕ → Option (ℕ × Option RouterId) → Gift
 gift_of r None = Unmade
 gift_of r (Some entry) = gift_in r entry.1
 
--- what a peering is given where the router r is emptied: nothing where it is placed elsewhere
+-- what a peering is given when the router r is emptied: nothing if it is placed elsewhere
 abbrev pub gift_to : Setup → (ℕ → ℕ) → ℕ → ℕ → Gift
 gift_to setup placed r p = gift_of r (find (λ entry. entry.0 == p) (zip (peerings_at setup placed r) (targets_from setup placed r)))
 
@@ -57,12 +57,12 @@ abbrev pub gift_or : Gift → Gift → Gift
 gift_or Unmade other = other
 gift_or gift other = gift
 
--- The operator as its group begins: the grafts of the group's evacuate steps are given out, by where sessions belong then.
+-- The operator as its group begins: the group's evacuate steps give out their grafts, by where sessions belong then.
 abbrev pub with_gifts : Setup → OperatorPart → OperatorPart
 with_gifts setup part = record part { given = λ k. gift_or (gift_in_group setup part.group (placement setup part) (graft_at setup k)) (part.given k) }
 
--- An evacuate step gives each session of its router what the plan has for it, by where sessions belonged before the group began, and these are given as well
--- as can be.
+-- An evacuate step gives each session of its router what the plan has for it, by where sessions belonged before the group began, and these are given
+-- in the best way.
 pub record GivesByPlan (setup : Setup) (before after : OperatorPart) (step router : ℕ) : Type 0 where
   pub given : (g : ScriptGraft) → graft_at setup g.graft ≡ Some g → g.step ≡ step → after.given g.graft ≡ gift_to setup (placement setup before) router g.peering
   pub well : AreGivenWell setup (placement setup before) router

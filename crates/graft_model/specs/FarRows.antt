@@ -10,7 +10,7 @@ use Rattle.graft_model.specs.Slices.{EmitsAt}
 use Rattle.graft_model.specs.Setups.{Setup, SayStep, beat_of, routers_in}
 use Rattle.graft_model.specs.Parts.{FarPart, Outward, Seg, PointAt}
 
--- what a far side may take: the next item of a router's channel, or the next step of the operator's
+-- an item that a far side may take: the next item of a router's channel, or the next step of the operator's
 pub data FarTaken : Type 0 where
   OutwardIn : (router : ℕ) → Outward → FarTaken
   SayIn : (step : ℕ) → FarTaken
@@ -32,7 +32,7 @@ with_link part Remote segments = record part { remoteward = segments }
 abbrev pub without : {A : Type 0} → ℕ → List A → List A
 without index items = take index items ++ drop (index + 1) items
 
--- what a link holds after a delivery: all, where the segment is kept to be delivered again
+-- what a link holds after a delivery: everything if the segment is kept to be delivered again
 abbrev pub left_by : Bool → ℕ → List PlacedSegment → List PlacedSegment
 left_by keep index segments = if keep then segments else without index segments
 
@@ -45,7 +45,8 @@ pub record Says (setup : Setup) (p step : ℕ) (before : FarPart) (taken : Optio
   pub room : length before.end.stream + length bytes ≤ 2 ^ 20
   pub effect : after ≡ record before { end = sending bytes before.end }
 
--- The remote says a KEEPALIVE in a round that is a multiple of its beat (RFC 4271, section 4.4). So few are said that the stream has room.
+-- The remote says a KEEPALIVE in a round that is a multiple of its interval (RFC 4271, section 4.4). The stream has room, as the number of them is
+-- limited.
 pub record Beats (setup : Setup) (p round : ℕ) (before : FarPart) (taken : Option FarTaken) (sent : List FarSent) (after : FarPart) : Type 0 where
   pub beat : ℕ
   pub is : option_map beat_of (slice_get setup.peerings p) ≡ Some beat
@@ -57,7 +58,7 @@ pub record Beats (setup : Setup) (p round : ℕ) (before : FarPart) (taken : Opt
   pub sends : sent ≡ []
   pub effect : after ≡ record before { end = sending (spell KeepaliveMsg false) before.end; beats = before.beats + 1; last_beat = round }
 
--- A slice of what was said, or nothing at the place that is emitted next, goes into the link.
+-- A slice of what was said, or a segment without bytes at the place that is emitted next, goes into the link.
 pub record SendsSegment (from len : ℕ) (before : FarPart) (taken : Option FarTaken) (sent : List FarSent) (after : FarPart) : Type 0 where
   pub segment : PlacedSegment
   pub end : Endpoint
@@ -73,7 +74,7 @@ pub record TakesIn (router : ℕ) (before : FarPart) (taken : Option FarTaken) (
   pub sends : sent ≡ []
   pub effect : after ≡ record before { remoteward = before.remoteward ++ segment ∷ [] }
 
--- Any segment of the link to home is delivered to any router; it stays in the link where it is kept.
+-- Any segment of the link to home is delivered to any router; it stays in the link if it is kept.
 pub record Passes (setup : Setup) (index : ℕ) (keep : Bool) (router : ℕ) (before : FarPart) (taken : Option FarTaken) (sent : List FarSent) (after : FarPart) : Type 0 where
   pub segment : PlacedSegment
   pub there : slice_get before.homeward index ≡ Some segment
@@ -82,7 +83,7 @@ pub record Passes (setup : Setup) (index : ℕ) (keep : Bool) (router : ℕ) (be
   pub sends : sent ≡ record { router = router; segment = segment } ∷ []
   pub effect : after ≡ record before { homeward = left_by keep index before.homeward }
 
--- Any segment of the link to the remote reaches it; it stays in the link where it is kept.
+-- Any segment of the link to the remote reaches it; it stays in the link if it is kept.
 pub record Reaches (index : ℕ) (keep : Bool) (before : FarPart) (taken : Option FarTaken) (sent : List FarSent) (after : FarPart) : Type 0 where
   pub segment : PlacedSegment
   pub there : slice_get before.remoteward index ≡ Some segment
@@ -99,7 +100,7 @@ pub record Loses (way : Way) (index : ℕ) (before : FarPart) (taken : Option Fa
   pub sends : sent ≡ []
   pub effect : after ≡ with_link before way (without index (link before way))
 
--- Word that a session landed at a router turns the link there, where it is of a later graft than the last word that was followed.
+-- Word that a session landed at a router turns the link there, if it is of a later graft than the last word that was followed.
 pub record TurnsLink (router : ℕ) (before : FarPart) (taken : Option FarTaken) (sent : List FarSent) (after : FarPart) : Type 0 where
   pub graft : ℕ
   pub takes : taken ≡ Some (OutwardIn router (PointAt graft))

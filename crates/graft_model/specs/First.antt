@@ -28,11 +28,11 @@ abbrev pub first_far : Option PeeringSetup → FarPart
 first_far None = record { end = fresh_endpoint; homeward = []; remoteward = []; pointer = 0; followed = 0; beats = 0; last_beat = 0 }
 first_far (Some peering) = record { end = record fresh_endpoint { stream = peering.opening }; homeward = []; remoteward = []; pointer = peering.start; followed = 0; beats = 0; last_beat = 0 }
 
--- Nothing was ordered, and the evacuate steps of the first group have given out their grafts.
+-- Nothing has been ordered, and the evacuate steps of the first group have given out their grafts.
 abbrev pub first_operator : Setup → OperatorPart
 first_operator setup = with_gifts setup (record { group = 0; issued = λ n. false; given = λ k. Unmade; source = λ k. None; outcome = λ k. None })
 
--- Nothing is on its way, nothing was ordered, and the own networks are to be decided.
+-- Nothing is on its way, nothing has been ordered, and the routers' own networks are dirty.
 abbrev pub first_world : Setup → World
 first_world setup = record {
   router = first_router setup;

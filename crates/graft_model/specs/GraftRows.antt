@@ -1,5 +1,4 @@
--- The events of a router in a graft: the order, the freeze, the way out, the landing or the way back, and the end. No standard knows
--- them.
+-- The events of a router in a graft: the order, the freeze, the departure, the landing or the return, and the end. No standard defines them.
 use Rattle.std.specs.Prelude.{◌≡◌, ℕ, suc, ◌<◌, List, [], ◌∷◌, length, filter, Option, Some, None, Bool, true, false, ◌||◌, is_some}
 use Rattle.std.specs.FinMap as map
 use Rattle.bgp_types.specs.Prefixes.{PrefixValue}
@@ -25,7 +24,7 @@ pub record Admits (setup : Setup) (k : ℕ) (before : RouterPart) (taken : Optio
   pub live : IsLive before peering session None
   pub effect : after ≡ record before { places = at before.places peering (Live session (Some (Leaving (record { graft = k; target = target })))) }
 
--- The source refuses the graft, and the session stays as it is.
+-- The source refuses the graft, and the session doesn't change.
 pub record Refuses (r k : ℕ) (before : RouterPart) (taken : Option RouterTaken) (sent : List RouterSent) (after : RouterPart) : Type 0 where
   pub peering : ℕ
   pub target : ℕ
@@ -66,15 +65,15 @@ is_taken (Live session errand) = true
 is_taken (Frozen session order) = true
 is_taken (Shadow graft) = true
 
--- how many places of a router are taken
+-- the number of places of a router that are taken
 abbrev pub taken_in : Setup → RouterPart → ℕ
 taken_in setup part = length (filter (λ p. is_taken (part.places p)) (peering_numbers setup))
 
--- the first reason, if there is one, for which a router doesn't take a session in
+-- the first reason, if there is one, why a router doesn't take a session in
 abbrev pub refusal_of : Setup → ℕ → RouterPart → SessionValue → Option Refusal
 refusal_of setup r part session = admit_refusal (taken_in setup part) (room_of setup r) (missing_policy setup r session.config)
 
--- The next item of a router is a session that moves here, to a place where nothing is.
+-- The next item of a router is a session that moves here, to a vacant place.
 pub record Comes (setup : Setup) (q : ℕ) (before : RouterPart) (taken : Option RouterTaken) : Type 0 where
   pub graft : ℕ
   pub peering : ℕ
@@ -87,7 +86,8 @@ pub record Comes (setup : Setup) (q : ℕ) (before : RouterPart) (taken : Option
 pub record DueAgain (part : RouterPart) (session : SessionValue) (due : Prefixes) : Type 0 where
   pub members : (x : PrefixValue) → has due x ≡ (is_some (map.get session.told x) || is_some (map.get part.best x))
 
--- The session lands: its routes are taken in by the target's own policies, and the far side is told to point here. Word of it is owed to the source.
+-- The session lands: its routes are taken in by the target's own policies, and the far side is told to point here. Word of the landing is owed to the
+-- source.
 pub record Lands (setup : Setup) (r q : ℕ) (before : RouterPart) (taken : Option RouterTaken) (sent : List RouterSent) (after : RouterPart) : Type 0 where
   pub comes : Comes setup q before taken
   pub admitted : refusal_of setup r before comes.session ≡ None
@@ -102,8 +102,8 @@ pub record Lands (setup : Setup) (r q : ℕ) (before : RouterPart) (taken : Opti
     due_out = at before.due_out comes.peering (after.due_out comes.peering);
   }
 
--- The first router that was not asked, and is neither source nor target, is asked whether it has heard what was told. That is asked once nothing is to
--- be decided here and nothing is to be told to that router, so that it comes behind all routes that it has of this one.
+-- The first router that was not asked, and is neither source nor target, is asked whether it has heard what was told. It is asked once no prefix is
+-- dirty here and nothing is due to that router, so that the question comes after all routes that were told to it.
 pub record Asks (setup : Setup) (r k q : ℕ) (before : RouterPart) (taken : Option RouterTaken) (sent : List RouterSent) (after : RouterPart) : Type 0 where
   pub peering : ℕ
   pub source : ℕ
@@ -117,7 +117,7 @@ pub record Asks (setup : Setup) (r k q : ℕ) (before : RouterPart) (taken : Opt
   pub sends : sent ≡ MeshTo q (Asked k peering) ∷ []
   pub effect : after ≡ record before { places = at before.places peering (Live session (Some (Asking (record { graft = k; source = source; next = q })))) }
 
--- A router that is asked answers: it has heard all that stood before the question.
+-- A router that is asked answers: it has heard all that came before the question.
 pub record Answers (q : ℕ) (before : RouterPart) (taken : Option RouterTaken) (sent : List RouterSent) (after : RouterPart) : Type 0 where
   pub graft : ℕ
   pub peering : ℕ
@@ -125,7 +125,7 @@ pub record Answers (q : ℕ) (before : RouterPart) (taken : Option RouterTaken) 
   pub sends : sent ≡ MeshTo q (Answered graft peering) ∷ []
   pub stays : after ≡ before
 
--- The answer that a landed session waits for has come: the next router may be asked.
+-- The pending answer for a landed session has come: the next router may be asked.
 pub record Counts (q : ℕ) (before : RouterPart) (taken : Option RouterTaken) (sent : List RouterSent) (after : RouterPart) : Type 0 where
   pub graft : ℕ
   pub peering : ℕ
@@ -136,7 +136,7 @@ pub record Counts (q : ℕ) (before : RouterPart) (taken : Option RouterTaken) (
   pub live : IsLive before peering session (Some (Asking (record { graft = graft; source = source; next = q })))
   pub effect : after ≡ record before { places = at before.places peering (Live session (Some (Owing (record { graft = graft; source = source; next = suc q })))) }
 
--- An answer that nothing waits for changes nothing.
+-- An answer that isn't pending changes nothing.
 pub record Ignores (q : ℕ) (before : RouterPart) (taken : Option RouterTaken) (sent : List RouterSent) (after : RouterPart) : Type 0 where
   pub graft : ℕ
   pub peering : ℕ
@@ -145,8 +145,8 @@ pub record Ignores (q : ℕ) (before : RouterPart) (taken : Option RouterTaken) 
   pub unawaited : (source : ℕ) (session : SessionValue) → IsLive before peering session (Some (Asking (record { graft = graft; source = source; next = q }))) → ⊥
   pub stays : after ≡ before
 
--- The source is told that its session has landed here. That is told once all other routers have answered, nothing is to be decided here and nothing is to
--- be told to another router, so that it comes behind all routes that the source has of this router.
+-- The source is told that its session has landed here. It is told once all other routers have answered, no prefix is dirty here and nothing is due to
+-- another router, so that the word comes after all routes that were told to the source.
 pub record Confirms (setup : Setup) (r k : ℕ) (before : RouterPart) (taken : Option RouterTaken) (sent : List RouterSent) (after : RouterPart) : Type 0 where
   pub peering : ℕ
   pub source : ℕ
@@ -170,7 +170,7 @@ pub record TurnsBack (setup : Setup) (r q : ℕ) (before : RouterPart) (taken : 
 
 -- ---- at the source again
 
--- The refused session is back: it is live again, and its entries never went.
+-- The refused session is back: it is live again, and its entries were never removed.
 pub record Returns (q : ℕ) (before : RouterPart) (taken : Option RouterTaken) (sent : List RouterSent) (after : RouterPart) : Type 0 where
   pub graft : ℕ
   pub peering : ℕ
@@ -182,7 +182,7 @@ pub record Returns (q : ℕ) (before : RouterPart) (taken : Option RouterTaken) 
   pub due : DueAgain before session (after.due_out peering)
   pub effect : after ≡ record before { places = at before.places peering (Live session None); due_out = at before.due_out peering (after.due_out peering) }
 
--- The session is at its target, and all routers have heard its routes from there: the shadow ends, with the entries of the peering.
+-- The session is at its target, and all routers have heard its routes from there: the shadow is removed, with the entries of the peering.
 pub record Clears (q : ℕ) (before : RouterPart) (taken : Option RouterTaken) (sent : List RouterSent) (after : RouterPart) : Type 0 where
   pub graft : ℕ
   pub peering : ℕ

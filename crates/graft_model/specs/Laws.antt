@@ -1,4 +1,4 @@
--- What a step leaves as it is, what may happen in a quiet world, and of which events the laws of rows speak.
+-- What a step doesn't change, what may happen in a quiet world, and the events to which the laws of rows apply.
 use Rattle.std.specs.Prelude.{ℕ, ◌≡◌, ◌≢◌, List, [], Option, Some, None}
 use Rattle.session_value.specs.Sessions.{SessionValue}
 use Rattle.graft_model.specs.Parts.{Place, Vacant, Live, Frozen, Shadow, graft_of, RouterPart, World}
@@ -49,7 +49,7 @@ MayStillHappen event = ⊥
 
 -- ---- one outcome
 
--- something is to be done for the graft of this number with the session of a place, or the session is frozen for it
+-- the session of a place has an errand for the graft of this number, or is frozen for it
 abbrev pub HasGraft : ℕ → Place → Type 0
 HasGraft k Vacant = ⊥
 HasGraft k (Live session None) = ⊥
@@ -61,7 +61,7 @@ HasGraft k (Shadow graft) = ⊥
 abbrev pub HasOnce : ℕ → RouterPart → Type 0
 HasOnce k part = (p q : ℕ) → HasGraft k (part.places p) → HasGraft k (part.places q) → p ≡ q
 
--- An event of a router with one outcome. One that names its place by a graft alone has it where the graft is at one place.
+-- An event of a router has only one outcome. An event that names its place only by a graft does if the graft is at one place.
 abbrev pub HasOneOutcome : RouterEvent → RouterPart → Type 0
 HasOneOutcome (Refuse k) part = HasOnce k part
 HasOneOutcome (Freeze k) part = HasOnce k part
@@ -84,7 +84,7 @@ sent_on p (MeshTo q item) = sessions_on p item
 sent_on p (OutwardTo q item) = []
 sent_on p (ReportOut report) = []
 
--- The event changes no session: all but the five by which a session puts, emits, takes in, gets or has a round pass.
+-- The event changes no session. These are all but the five by which a session puts, emits, takes in, gets or has a round pass.
 abbrev pub KeepsSessions : RouterEvent → Type 0
 KeepsSessions (Put p n) = ⊥
 KeepsSessions (Emit p from len) = ⊥

@@ -17,7 +17,7 @@ pub data OperatorSent : Type 0 where
 
 -- ---- ordering
 
--- A remote is to say something, in a step of the group that is at work: what it is to say before in this group was ordered.
+-- A say is ordered, in a step of the current group, after the earlier says of the same remote in this group.
 pub record OrdersSay (setup : Setup) (step number : ℕ) (before : OperatorPart) (taken : Option OperatorTaken) (sent : List OperatorSent) (after : OperatorPart) : Type 0 where
   pub alone : number ≡ 0
   pub group : group_of setup step ≡ before.group
@@ -30,12 +30,13 @@ pub record OrdersSay (setup : Setup) (step number : ℕ) (before : OperatorPart)
   pub sends : sent ≡ SayTo peering step ∷ []
   pub effect : after ≡ record before { issued = at before.issued step true }
 
--- the number with which a graft's order is noted beside its step: its own where an evacuate step makes it, else 0
+-- the graft number in the event of a graft's order: its own if an evacuate step makes it, and 0 otherwise
 abbrev pub number_by : Option ScriptStep → ℕ → ℕ
 number_by (Some (EvacuateStep router)) k = k
 number_by _ k = 0
 
--- A graft is ordered where the session belongs by the log: the step is of the group that is at work, and the earlier grafts of the peering have their outcomes.
+-- A graft is ordered at the router where the session belongs by the log. Its step is in the current group, and the earlier grafts of the peering have
+-- their outcomes.
 pub record OrdersGraft (setup : Setup) (step number : ℕ) (before : OperatorPart) (taken : Option OperatorTaken) (sent : List OperatorSent) (after : OperatorPart) : Type 0 where
   pub graft : ScriptGraft
   pub known : graft_at setup graft.graft ≡ Some graft
@@ -61,7 +62,7 @@ pub record Notes (router : ℕ) (before : OperatorPart) (taken : Option Operator
   pub unended : before.outcome report.graft ≡ None
   pub effect : after ≡ record before { outcome = at before.outcome report.graft (Some report.outcome) }
 
--- The next group of the script is at work, and its evacuate steps give out their grafts. The world has to be quiet before.
+-- The next group of the script becomes the current one, and its evacuate steps give out their grafts. The world must be quiet before.
 pub record BeginsGroup (setup : Setup) (before : OperatorPart) (taken : Option OperatorTaken) (sent : List OperatorSent) (after : OperatorPart) : Type 0 where
   pub further : before.group + 1 < groups_in setup
   pub takes : taken ≡ None

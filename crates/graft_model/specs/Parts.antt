@@ -17,15 +17,15 @@ pub record Order : Type 0 where
   pub graft : ℕ
   pub target : ℕ
 
--- word of a landing that a router owes: the number of the graft, its source, and the first router that is still to be asked whether it has heard
--- what was told, or the one that was asked and hasn't answered
+-- word of a landing that a router owes: the number of the graft, its source, and the next router to ask whether it has heard what was told, or the
+-- one that was asked and hasn't answered
 pub record Word : Type 0 where
   pub graft : ℕ
   pub source : ℕ
   pub next : ℕ
 
--- What a router still has to do for a graft whose session is live there: to send the session away, as it was ordered; or to ask the other routers,
--- one after another, and then to tell the source that the session has landed; or to wait for the answer of the router that it asked.
+-- What a router still has to do for a graft whose session is live there: to send the session away, as ordered; or to ask the other routers, one after
+-- another, and then to tell the source that the session has landed; or to wait for the answer of the router that it asked.
 pub data Errand : Type 0 where
   Leaving : Order → Errand
   Owing : Word → Errand
@@ -37,17 +37,16 @@ graft_of (Leaving order) = order.graft
 graft_of (Owing word) = word.graft
 graft_of (Asking word) = word.graft
 
--- A router's place for a peering: nothing is there; the session is held, with what is to be done for its graft; the session is
--- held and frozen for a graft, so that nothing but its leaving can happen to it; or the session has left in a graft, and its routes
--- stay as a shadow until the graft has ended.
+-- A router's place for a peering: vacant; with the live session, and its errand if it has one; with the session frozen for a graft, so that it can
+-- only leave; or a shadow, since the session has left in a graft, with its routes kept until the graft has ended.
 pub data Place : Type 0 where
   Vacant : Place
   Live : SessionValue → Option Errand → Place
   Frozen : SessionValue → Order → Place
   Shadow : (graft : ℕ) → Place
 
--- A home router: its places by peering; the entries by peering and by router; the best route to each prefix; the prefixes that are
--- to be decided again; and those that are due to be told to each router and on each peering.
+-- A home router: its places by peering; the entries by peering and by router; the best route to each prefix; the dirty prefixes; and those that are
+-- due to be told to each router and on each peering.
 pub record RouterPart : Type 0 where
   pub places : ℕ → Place
   pub entries : ℕ → Entries
@@ -72,15 +71,15 @@ pub record FarPart : Type 0 where
 
 -- ---- the operator
 
--- what an evacuate step has for a graft that it may make: no graft, since its group hasn't begun or the session belongs elsewhere; the router that the
--- session is to go to; or that it stays at the router that is emptied, since no other one has a free place
+-- what an evacuate step gives for a graft that it may make: no graft, since its group hasn't begun or the session belongs elsewhere; the router that
+-- the session is to go to; or that it stays at the router that is emptied, since no other one has a free place
 pub data Gift : Type 0 where
   Unmade : Gift
   To : (target : ℕ) → Gift
   Stays : (router : ℕ) → Gift
 
--- The operator: the group of the script that is at work; which says were ordered; what evacuate steps have for their grafts, by number; and the log of
--- grafts by number, with the router at which a graft was ordered and the outcome that was reported.
+-- The operator: the current group of the script; which says were ordered; what evacuate steps give for their grafts, by number; and the log of grafts
+-- by number, with the router at which a graft was ordered and the outcome that was reported.
 pub record OperatorPart : Type 0 where
   pub group : ℕ
   pub issued : ℕ → Bool
@@ -91,7 +90,7 @@ pub record OperatorPart : Type 0 where
 -- ---- items
 
 -- from a router to a router: a route that is told, or that there is none; a session that moves, or comes back refused; the question whether all that
--- was told is heard, and the answer that it is; word that a session has landed, and that all other routers have heard its routes
+-- was told was heard, and the answer that it was; word that a session has landed, and that all other routers have heard its routes
 pub data Mesh : Type 0 where
   Told : PrefixValue → Option Route → Mesh
   Moved : (graft peering : ℕ) → SessionValue → Mesh
@@ -118,8 +117,8 @@ pub record Report : Type 0 where
 
 -- ---- the world
 
--- The parts of all actors, and the channel from each to each, its next item first. From a far side to a router go segments, and from the
--- operator to a far side the numbers of steps that it is to say.
+-- The parts of all actors, and the channel from each to each other, its next item first. A far side sends routers segments, and the operator sends a
+-- far side the numbers of the steps that it is to say.
 pub record World : Type 0 where
   pub router : ℕ → RouterPart
   pub far : ℕ → FarPart

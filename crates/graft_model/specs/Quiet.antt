@@ -13,19 +13,18 @@ use Rattle.graft_model.specs.Placements.{target_in}
 abbrev pub HasRead : SessionValue → Type 0
 HasRead session = (state session ≡ Closed) ⊎ BeginsNothing (unread session)
 
--- One endpoint received all that the other sends, and the other knows.
+-- One endpoint has received the whole stream of the other, and the other knows.
 pub record AllAcked (from to : Endpoint) : Type 0 where
   pub received : received to ≡ length from.stream
   pub acked : from.acked ≡ length from.stream
 
--- A place where nothing is, or a live session for which no graft is stored, which has read what it can read and, with its remote, received and
--- acknowledged all.
+-- A vacant place, or a live session without an errand that has read what it can and, with its remote, has received and acknowledged everything.
 abbrev pub IsIdle : Endpoint → Place → Type 0
 IsIdle remote Vacant = Unit {0}
 IsIdle remote (Live session None) = HasRead session × AllAcked session.end remote × AllAcked remote session.end
 IsIdle remote place = ⊥
 
--- Nothing is left to do: all channels and links are empty, no prefix is dirty or due, every place is idle, and of the group that is at work each say was
+-- Nothing is left to do: all channels and links are empty, no prefix is dirty or due, every place is idle, and in the current group each say was
 -- ordered and each graft has its outcome.
 pub record Quiet (setup : Setup) (w : World) : Type 0 where
   pub mesh : (a b : ℕ) → w.mesh a b ≡ []

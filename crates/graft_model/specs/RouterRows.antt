@@ -1,5 +1,5 @@
--- The events of a router on its sessions: messages, segments and rounds (RFC 4271, sections 6, 8.2.2 and 9.2; RFC 9293, section 3.4).
--- Each row says what the event takes, what it sends, and the router's part after it; what isn't named stays.
+-- The events of a router on its sessions: messages, segments and rounds (RFC 4271, sections 6, 8.2.2 and 9.2; RFC 9293, section 3.4). Each row says
+-- what the event takes, what it sends, and the router's part after it; what isn't named stays the same.
 use Rattle.std.specs.Prelude.{◌≡◌, ◌≢◌, ◌⊎◌, ℕ, List, [], ◌∷◌, ◌++◌, length, Option, Some, None, true, false, is_some, not}
 use Rattle.std.specs.FinMap as map
 use Rattle.std.specs.List.{list_any}
@@ -21,13 +21,13 @@ use Rattle.graft_model.specs.Setups.{Setup}
 use Rattle.graft_model.specs.Parts.{Errand, Live, RouterPart, Entries, Mesh, Outward, Seg, GraftOrder, Report}
 use Rattle.graft_model.specs.Decisions.{entry_of, to_tell}
 
--- what a router may take: the next item of the operator's channel, of a far side's, or of another router's
+-- an item that a router may take: the next item of the operator's channel, of a far side's, or of another router's
 pub data RouterTaken : Type 0 where
   OrderIn : GraftOrder → RouterTaken
   SegmentIn : (peering : ℕ) → PlacedSegment → RouterTaken
   MeshIn : (router : ℕ) → Mesh → RouterTaken
 
--- what a router may send: to another router, to a far side, to the operator
+-- an item that a router may send: to another router, to a far side, to the operator
 pub data RouterSent : Type 0 where
   MeshTo : (router : ℕ) → Mesh → RouterSent
   OutwardTo : (peering : ℕ) → Outward → RouterSent
@@ -37,21 +37,21 @@ pub data RouterSent : Type 0 where
 abbrev pub Alone : Option RouterTaken → List RouterSent → Type 0
 Alone taken sent = (taken ≡ None) × (sent ≡ [])
 
--- the live session of a peering at a router, with what is to be done for its graft
+-- the live session of a peering at a router, with its errand, if any
 pub record IsLive (part : RouterPart) (p : ℕ) (session : SessionValue) (errand : Option Errand) : Type 0 where
   pub is : part.places p ≡ Live session errand
 
 -- ---- what is put
 
--- due on the peering and not to be decided again
+-- a prefix is due on the peering, and not dirty
 abbrev pub Waits : RouterPart → ℕ → PrefixValue → Type 0
 Waits part p prefix = (has (part.due_out p) prefix ≡ true) × (has part.dirty prefix ≡ false)
 
--- and told otherwise than it is to be told now
+-- it is due and not dirty, and what was told of it isn't what is to be told now
 abbrev pub IsToTell : Setup → ℕ → RouterPart → ℕ → SessionValue → PrefixValue → Type 0
 IsToTell setup r part p session prefix = Waits part p prefix × (map.get session.told prefix ≢ to_tell setup r part session prefix)
 
--- Everything that is due and decided was told as it is to be: it is due no more.
+-- Everything that is due and not dirty was told as it is to be; it is no longer due.
 pub record PutsNothing (setup : Setup) (r p : ℕ) (before : RouterPart) (taken : Option RouterTaken) (sent : List RouterSent) (after : RouterPart) : Type 0 where
   pub alone : Alone taken sent
   pub session : SessionValue
@@ -64,7 +64,7 @@ pub record PutsNothing (setup : Setup) (r p : ℕ) (before : RouterPart) (taken 
   pub due : Drops (before.due_out p) (λ x. not (has before.dirty x)) (after.due_out p)
   pub effect : after ≡ record before { due_out = at before.due_out p (after.due_out p) }
 
--- The first n of the prefixes that are to be told the same as the first one of all are put in one UPDATE, and are due no more.
+-- One UPDATE is put, with the first n of the prefixes that are to be told the same as the very first one. They are no longer due.
 pub record PutsSome (setup : Setup) (r p n : ℕ) (before : RouterPart) (taken : Option RouterTaken) (sent : List RouterSent) (after : RouterPart) : Type 0 where
   pub alone : Alone taken sent
   pub session : SessionValue
@@ -86,7 +86,7 @@ pub record PutsSome (setup : Setup) (r p n : ℕ) (before : RouterPart) (taken :
 
 -- ---- what is emitted and what arrives
 
--- A slice of what was put, or nothing at the place that is emitted next, goes to the far side with the received length of this moment.
+-- A slice of what was put, or a segment without bytes at the place that is emitted next, goes to the far side with the current received length.
 pub record Emits (p from len : ℕ) (before : RouterPart) (taken : Option RouterTaken) (sent : List RouterSent) (after : RouterPart) : Type 0 where
   pub session : SessionValue
   pub errand : Option Errand
@@ -124,14 +124,15 @@ pub record Strays (p : ℕ) (before : RouterPart) (taken : Option RouterTaken) (
 abbrev pub BringsIn : Setup → ℕ → SessionValue → Entries → Type 0
 BringsIn setup r session entries = (x : PrefixValue) → map.get entries x ≡ entry_of setup r session x
 
--- What is due on the peering when its session goes from one state to the next: all best routes once it is established, nothing once it is
--- closed, and else what was due.
+-- What is due on the peering when its session goes from one state to the next: all best routes once it is established, nothing once it is closed, and
+-- otherwise what was due.
 abbrev pub DueThen : SessionState → SessionState → BestRoutes → Prefixes → Prefixes → Type 0
 DueThen OpenConfirm Established best before after = (x : PrefixValue) → has after x ≡ is_some (map.get best x)
 DueThen from Closed best before after = (x : PrefixValue) → has after x ≡ false
 DueThen from to best before after = after ≡ before
 
--- The entry of a prefix follows its session: where another route is heard than before, or none any more, it is what the session brings in now; else it stays.
+-- The entry of a prefix follows its session: if the heard route changed or was withdrawn, it is what the session brings in now; otherwise it stays
+-- the same.
 abbrev pub FollowsHeard : Setup → ℕ → SessionValue → SessionValue → Entries → Entries → PrefixValue → Type 0
 FollowsHeard setup r session next before after x =
     ((map.get next.heard x ≡ map.get session.heard x) × (map.get after x ≡ map.get before x))

@@ -1,4 +1,4 @@
--- What a laboratory is given: the home network, the peerings, and the script of the operator.
+-- The input of a laboratory: the home network, the peerings, and the script of the operator.
 use Rattle.std.specs.Prelude.{ℕ, ◌==◌, ◌+◌, Bool, true, false, List, [], ◌∷◌, ◌++◌, length, take, filter, min, ◌/◌, ◌^◌, All, ◌<◌, ◌≤◌, ◌≡◌, Option, Some, None, option_map, unwrap_or, is_none, if◌then◌else◌, slice_get}
 use Rattle.std.specs.List.{list_any, find, flat_map, range_with_len, last_or}
 use Rattle.std.specs.Str.{bytes_eq}
@@ -14,8 +14,8 @@ pub record NamedRules : Type 0 where
   pub name : List ℕ
   pub rules : List Rule
 
--- a home router: its BGP Identifier, for how many sessions it has room, the interior cost to each router by number, the
--- networks of its own, and its policies
+-- a home router: its BGP Identifier, the number of sessions for which it has room, the interior cost to each router by number, its own networks, and
+-- its policies
 pub record RouterSetup : Type 0 where
   pub identifier : ℕ
   pub room : ℕ
@@ -23,8 +23,8 @@ pub record RouterSetup : Type 0 where
   pub networks : List PrefixValue
   pub policies : List NamedRules
 
--- a peering: the router at which its session starts, what the session begins with, the bytes that its remote says first, the hold time that
--- the remote's OPEN offers, and whether the remote says a KEEPALIVE again and again
+-- a peering: the router at which its session starts, the session's configuration, the bytes that its remote says first, the hold time that the
+-- remote's OPEN offers, and whether the remote says KEEPALIVEs at an interval
 pub record PeeringSetup : Type 0 where
   pub start : ℕ
   pub config : SessionConfig
@@ -32,7 +32,7 @@ pub record PeeringSetup : Type 0 where
   pub hold : ℕ
   pub beats : Bool
 
--- After so many rounds the remote says a KEEPALIVE again: a third of the hold time in force (RFC 4271, section 4.4), 0 where it doesn't.
+-- KEEPALIVE interval of the remote in rounds: a third of the hold time in force (RFC 4271, section 4.4), 0 for none.
 abbrev pub beat_of : PeeringSetup → ℕ
 beat_of peering = if peering.beats then min peering.config.home_hold peering.hold / 3 else 0
 
@@ -73,7 +73,7 @@ identifier_of setup r = of_router (λ router. router.identifier) 0 setup r
 abbrev pub room_of : Setup → ℕ → ℕ
 room_of setup r = of_router (λ router. router.room) 0 setup r
 
--- the interior cost from one router to another: 1 where none is given
+-- the interior cost from one router to another: 1 if none is given
 abbrev pub cost_between : Setup → ℕ → ℕ → ℕ
 cost_between setup r q = unwrap_or (slice_get (of_router (λ router. router.costs) [] setup r) q) 1
 
@@ -85,7 +85,7 @@ has_network setup r prefix = list_any (same_prefix prefix) (of_router (λ router
 abbrev pub rules_named : Setup → ℕ → List ℕ → Option (List Rule)
 rules_named setup r name = option_map (λ policy. policy.rules) (find (λ policy. bytes_eq name policy.name) (of_router (λ router. router.policies) [] setup r))
 
--- the rules that a router has for a session's name; none where the session names no policy
+-- the rules that a router has for a session's name; none if the session names no policy
 abbrev pub rules_for : Setup → ℕ → Option (List ℕ) → Option (List Rule)
 rules_for setup r None = None
 rules_for setup r (Some name) = rules_named setup r name
@@ -103,7 +103,7 @@ first_of (Some name) other = Some name
 abbrev pub missing_policy : Setup → ℕ → SessionConfig → Option (List ℕ)
 missing_policy setup r config = first_of (unknown setup r config.import) (unknown setup r config.export)
 
--- what the session of a peering begins with
+-- the configuration with which the session of a peering begins
 abbrev pub config_of : Setup → ℕ → Option SessionConfig
 config_of setup p = option_map (λ peering. peering.config) (slice_get setup.peerings p)
 
@@ -119,7 +119,7 @@ is_settle (MoveStep peering target) = false
 is_settle (EvacuateStep router) = false
 is_settle SettleStep = true
 
--- the group of a step, from 0: as many groups were ended before it
+-- the group of a step, from 0: the number of groups that ended before it
 abbrev pub group_of : Setup → ℕ → ℕ
 group_of setup step = length (filter is_settle (take step setup.steps))
 
@@ -139,12 +139,12 @@ moved_by setup (MoveStep peering target) = peering ∷ []
 moved_by setup (EvacuateStep router) = peering_numbers setup
 moved_by setup SettleStep = []
 
--- a graft of each of these peerings, by a step, numbered from one above the number k on
+-- a graft of each of these peerings, by a step, numbered from k + 1 on
 abbrev pub numbered : ℕ → ℕ → List ℕ → List ScriptGraft
 numbered k step [] = []
 numbered k step (p ∷ peerings) = record { graft = k + 1; peering = p; step = step } ∷ numbered (k + 1) step peerings
 
--- the grafts of steps, of which the first one is step n, numbered from one above the number k on
+-- the grafts of steps, the first of which is step n, numbered from k + 1 on
 abbrev pub grafts_after : Setup → ℕ → ℕ → List ScriptStep → List ScriptGraft
 grafts_after setup k n [] = []
 grafts_after setup k n (step ∷ steps) = numbered k n (moved_by setup step) ++ grafts_after setup (k + length (moved_by setup step)) (n + 1) steps
@@ -153,7 +153,7 @@ grafts_after setup k n (step ∷ steps) = numbered k n (moved_by setup step) ++ 
 abbrev pub grafts_in : Setup → List ScriptGraft
 grafts_in setup = grafts_after setup 0 0 setup.steps
 
--- how many grafts stand before a step
+-- the number of grafts before a step
 abbrev pub grafts_before : Setup → ℕ → ℕ
 grafts_before setup step = length (grafts_after setup 0 0 (take step setup.steps))
 
@@ -161,7 +161,7 @@ grafts_before setup step = length (grafts_after setup 0 0 (take step setup.steps
 abbrev pub graft_at : Setup → ℕ → Option ScriptGraft
 graft_at setup k = find (λ g. g.graft == k) (grafts_in setup)
 
--- ---- what makes sense
+-- ---- soundness
 
 -- the bytes that a step has a remote say
 abbrev pub said_by : ℕ → ScriptStep → List ℕ
@@ -170,12 +170,13 @@ said_by p (MoveStep peering target) = []
 said_by p (EvacuateStep router) = []
 said_by p SettleStep = []
 
--- how many bytes a remote says over the whole script, its opening with them, its timer's aside
+-- how many bytes a remote says over the whole script, with its opening and without those by its timer
 abbrev pub said_length : Setup → ℕ → PeeringSetup → ℕ
 said_length setup p peering = length peering.opening + length (flat_map (said_by p) setup.steps)
 
--- A peering's session begins at one of the routers, with that router's identifier, and its numbers are those of the laboratory. Its OPEN can be put,
--- and its address told as next hop. What its remote says has room in a stream of 1 MiB, with 27,594 KEEPALIVEs of 19 bytes where it beats.
+-- A peering's session begins at one of the routers, with that router's identifier, and with the peering's number and the home AS of the laboratory.
+-- Its OPEN can be put, and its address told as next hop. What its remote says has room in a stream of 1 MiB, with 27,594 KEEPALIVEs of 19 bytes if it
+-- has an interval.
 pub record IsPeeringSetup (setup : Setup) (p : ℕ) (peering : PeeringSetup) : Type 0 where
   pub start : peering.start < routers_in setup
   pub number : peering.config.peering.0 ≡ p
@@ -192,7 +193,7 @@ pub record IsPeeringSetup (setup : Setup) (p : ℕ) (peering : PeeringSetup) : T
 abbrev pub starting_at : Setup → ℕ → ℕ
 starting_at setup r = length (filter (λ peering. peering.start == r) setup.peerings)
 
--- the peering and the router of a step are there
+-- the peering and the router of a step exist
 abbrev pub IsStep : Setup → ScriptStep → Type 0
 IsStep setup (SayStep peering bytes) = peering < peerings_in setup
 IsStep setup (MoveStep peering target) = (peering < peerings_in setup) × (target < routers_in setup)

@@ -2,7 +2,7 @@
 use Rattle.std.specs.Prelude.{ℕ, ◌≡◌, ◌⊎◌, length}
 use Rattle.tcp_seq.specs.Endpoint.{Endpoint, PlacedSegment, EmitsSlice, EmitsEmpty}
 
--- A slice of so many bytes of the stream is emitted, or the empty one at the place that is emitted next (RFC 9293, section 3.8).
+-- A slice of `len` bytes of the stream is emitted, or the empty one at the place that is emitted next (RFC 9293, section 3.8).
 pub record EmitsAt (from len : ℕ) (before : Endpoint) (segment : PlacedSegment) (after : Endpoint) : Type 0 where
   pub place : segment.place ≡ from
   pub size : length segment.bytes ≡ len

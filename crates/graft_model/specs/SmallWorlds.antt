@@ -1,5 +1,5 @@
--- The smallest laboratory in which a session can be at the wrong router, and worlds of it: one in which nothing is left to do, and others that differ from
--- it in one thing, so that one field of a claim is false.
+-- The smallest laboratory in which a session can be at the wrong router, and some of its worlds: one in which nothing is left to do, and others that
+-- differ from it in one thing, so that one field of a claim is false.
 use Rattle.std.specs.Prelude.{ℕ, [], ◌∷◌, ◌++◌, List, length, None, false}
 use Rattle.std.specs.FinMap as map
 use Rattle.std.specs.List.{enumerate_from}

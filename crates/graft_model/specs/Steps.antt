@@ -67,7 +67,7 @@ operator_row setup (Order step number) before taken sent after = OrdersSay setup
 operator_row setup (Note router) before taken sent after = Notes router before taken sent after
 operator_row setup Go before taken sent after = BeginsGroup setup before taken sent after
 
--- what an event of the operator asks of the whole world: the next group begins in a quiet one
+-- what an event of the operator requires of the whole world: the next group begins in a quiet one
 abbrev pub MayMake : Setup → OperatorEvent → World → Type 0
 MayMake setup (Order step number) w = Unit {0}
 MayMake setup (Note router) w = Unit {0}
@@ -75,7 +75,7 @@ MayMake setup Go w = Quiet setup w
 
 -- ---- what is taken and sent
 
--- a channel whose next item is this one, and what stands behind it
+-- a channel whose next item is this one, and the items after it
 pub record Heads {A : Type 0} (channel : List A) (item : A) : Type 0 where
   pub rest : List A
   pub is : channel ≡ item ∷ rest

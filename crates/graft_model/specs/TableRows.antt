@@ -29,16 +29,16 @@ holds_established (Live session order) = is_established (state session)
 holds_established (Frozen session order) = is_established (state session)
 holds_established (Shadow graft) = false
 
--- the test that one prefix alone passes, and only where this holds
+-- the test that only one prefix passes, and only if the flag is true
 abbrev pub only : PrefixValue → Bool → PrefixValue → Bool
 only prefix holds x = same_prefix prefix x && holds
 
--- Another best route is due to each other router and on each established session that is held.
+-- A new best route is due to each other router and on each established session that is held.
 pub record DueEverywhere (setup : Setup) (r : ℕ) (prefix : PrefixValue) (before after : RouterPart) : Type 0 where
   pub routers : (q : ℕ) → Adds (before.due_in q) (only prefix (nat_lt q (routers_in setup) && not (q == r))) (after.due_in q)
   pub peerings : (p : ℕ) → Adds (before.due_out p) (only prefix (holds_established (before.places p))) (after.due_out p)
 
--- A dirty prefix gets the chosen route. Where that is another one, it is due to be told.
+-- A dirty prefix gets the chosen route. If that is a different one, it is due to be told.
 pub record Decides (setup : Setup) (r : ℕ) (prefix : PrefixValue) (before : RouterPart) (taken : Option RouterTaken) (sent : List RouterSent) (after : RouterPart) : Type 0 where
   pub alone : Alone taken sent
   pub dirty : has before.dirty prefix ≡ true
@@ -51,7 +51,7 @@ pub record Decides (setup : Setup) (r : ℕ) (prefix : PrefixValue) (before : Ro
     due_out = after.due_out;
   }
 
--- A router is told the best route to a prefix, where that is own or external, and else that there is none.
+-- A router is told the best route to a prefix, if that is own or external, and otherwise that there is none.
 pub record Tells (q : ℕ) (prefix : PrefixValue) (before : RouterPart) (taken : Option RouterTaken) (sent : List RouterSent) (after : RouterPart) : Type 0 where
   pub due : has (before.due_in q) prefix ≡ true
   pub clean : has before.dirty prefix ≡ false
@@ -62,7 +62,7 @@ pub record Tells (q : ℕ) (prefix : PrefixValue) (before : RouterPart) (taken :
 abbrev pub with_telling : Tellings → PrefixValue → Option Route → Tellings
 with_telling = with_value
 
--- What another router tells is heard. The prefix is dirty where that is another route than before.
+-- What another router tells is heard. The prefix is dirty if the route changed.
 pub record Hears (q : ℕ) (before : RouterPart) (taken : Option RouterTaken) (sent : List RouterSent) (after : RouterPart) : Type 0 where
   pub prefix : PrefixValue
   pub route : Option Route

@@ -1,4 +1,4 @@
-//! Events as a journal has them: a kind by its number, and three arguments.
+//! Events as a journal stores them: a kind by its number, and three arguments.
 
 ghost use Rattle.std.specs.Prelude.{◌≡◌, ◌≢◌, Bool, IfSome, IfNone};
 ghost use Rattle.tcp_seq.specs.declared.segment.Way.{Way};
@@ -18,21 +18,21 @@ pub struct Code {
     pub c: u32,
 }
 
-/// The code of this kind with these arguments.
+/// Returns the code of this kind with these arguments.
 fn coded(kind: u16, a: u32, b: u32, c: u32) -> Code
     ensures { result ≡ record { kind = kind; a = a; b = b; c = c } }
 {
     Code { kind, a, b, c }
 }
 
-/// The number of a flag.
+/// Returns a flag as a number.
 fn flag_number(keep: bool) -> u32
     ensures { result ≡ flag_lem keep }
 {
     if keep { 1 } else { 0 }
 }
 
-/// The number of the side that a segment goes to.
+/// Returns the number of the side that a segment goes to.
 fn way_number(way: Way) -> u32
     ensures { result ≡ way_number_lem way }
 {
@@ -42,7 +42,7 @@ fn way_number(way: Way) -> u32
     }
 }
 
-/// A prefix as two arguments: its address and its length.
+/// Returns the code of a kind whose arguments are a prefix: its address and its length.
 fn with_prefix(kind: u16, prefix: Prefix) -> Code
     ensures { result ≡ record { kind = kind; a = prefix.address; b = prefix.len; c = 0 } }
 {
@@ -50,7 +50,7 @@ fn with_prefix(kind: u16, prefix: Prefix) -> Code
 }
 
 impl RouterEvent {
-    /// The event as a journal has it.
+    /// Returns the event as a journal stores it.
     pub fn code(self) -> Code
         ensures { result ≡ router_code self }
     {
@@ -83,7 +83,7 @@ impl RouterEvent {
 }
 
 impl FarEvent {
-    /// The event as a journal has it.
+    /// Returns the event as a journal stores it.
     pub fn code(self) -> Code
         ensures { result ≡ far_code self }
     {
@@ -105,7 +105,7 @@ impl FarEvent {
 }
 
 impl OperatorEvent {
-    /// The event as a journal has it.
+    /// Returns the event as a journal stores it.
     pub fn code(self) -> Code
         ensures { result ≡ operator_code self }
     {
@@ -117,7 +117,7 @@ impl OperatorEvent {
     }
 }
 
-/// The one argument of a code; none where it has others.
+/// Returns the only argument of a code, or `None` if another one isn't 0.
 fn one(code: Code) -> Option<u32>
     ensures some { IfSome result (λ a. (a ≡ code.a) × (code.b ≡ 0) × (code.c ≡ 0)) }
     ensures none { IfNone result ((code.b ≡ 0) → (code.c ≡ 0) → ⊥) }
@@ -128,7 +128,7 @@ fn one(code: Code) -> Option<u32>
     Some(code.a)
 }
 
-/// The two arguments of a code; none where it has a third.
+/// Returns the two arguments of a code, or `None` if the third isn't 0.
 fn two(code: Code) -> Option<(u32, u32)>
     ensures some { IfSome result (λ x. (x ≡ (code.a, code.b)) × (code.c ≡ 0)) }
     ensures none { IfNone result ((code.c ≡ 0) → ⊥) }
@@ -139,7 +139,7 @@ fn two(code: Code) -> Option<(u32, u32)>
     Some((code.a, code.b))
 }
 
-/// The flag that an argument is; none where it is above 1.
+/// Returns the flag that an argument stands for, or `None` if it is above 1.
 fn flag(number: u32) -> Option<bool>
     ensures some { IfSome result (λ keep. flag_lem keep ≡ number) }
     ensures none { IfNone result ((keep : Bool) → flag_lem keep ≢ number) }
@@ -151,7 +151,7 @@ fn flag(number: u32) -> Option<bool>
     }
 }
 
-/// The side whose number an argument is; none where it is above 1.
+/// Returns the side that an argument stands for, or `None` if it is above 1.
 fn way(number: u32) -> Option<Way>
     ensures some { IfSome result (λ way. way_number_lem way ≡ number) }
     ensures none { IfNone result ((way : Way) → way_number_lem way ≢ number) }
@@ -163,7 +163,8 @@ fn way(number: u32) -> Option<Way>
     }
 }
 
-/// The prefix of this address and this length; none where the length is above 32, or where the address has a bit set behind the length.
+/// Returns the prefix of this address and length, or `None` if the length is above 32 or the address has a bit set past
+/// the length.
 fn prefix(address: u32, len: u32) -> Option<Prefix>
     ensures { result ≡ prefix_of_args address len }
 {
@@ -171,7 +172,7 @@ fn prefix(address: u32, len: u32) -> Option<Prefix>
     Prefix::new(address, len).filter(|prefix| prefix.address() == address)
 }
 
-/// The event of a router with this code; none where no router's event has it.
+/// Returns the router's event with this code, or `None` if no router's event has it.
 fn router_event(code: Code) -> Option<RouterEvent>
     ensures some { IfSome result (λ event. (router_code event ≡ code) × HasPrefix event) }
     ensures none { IfNone result ((event : RouterEvent) → HasPrefix event → router_code event ≢ code) }
@@ -229,7 +230,7 @@ fn router_event(code: Code) -> Option<RouterEvent>
     })
 }
 
-/// The event of a far side with this code; none where no far side's event has it.
+/// Returns the far side's event with this code, or `None` if no far side's event has it.
 fn far_event(code: Code) -> Option<FarEvent>
     ensures some { IfSome result (λ event. far_code event ≡ code) }
     ensures none { IfNone result ((event : FarEvent) → far_code event ≢ code) }
@@ -266,7 +267,7 @@ fn far_event(code: Code) -> Option<FarEvent>
     })
 }
 
-/// The event of the operator with this code; none where no event of the operator has it.
+/// Returns the operator's event with this code, or `None` if no event of the operator has it.
 fn operator_event(code: Code) -> Option<OperatorEvent>
     ensures some { IfSome result (λ event. operator_code event ≡ code) }
     ensures none { IfNone result ((event : OperatorEvent) → operator_code event ≢ code) }
@@ -283,7 +284,8 @@ fn operator_event(code: Code) -> Option<OperatorEvent>
     }
 }
 
-/// The event with this code; none exactly where no event has it. So the entry of an item that was dropped, which has kind 0, is no event's.
+/// Returns the event with this code, or `None` exactly if no event has it. The entry of a dropped item, which has kind
+/// 0, belongs to no event.
 pub fn event_of(code: Code) -> Option<ActorEvent>
     ensures some { IfSome result (λ event. (actor_code event ≡ code) × IsSound event) }
     ensures none { IfNone result ((event : ActorEvent) → IsSound event → actor_code event ≢ code) }

@@ -1,4 +1,4 @@
-//! When an event can't happen, whatever else the world is.
+//! Laws: when an event can't happen, whatever the rest of the world is.
 
 ghost use Rattle.std.specs.Prelude.{◌≡◌, ◌≢◌, ◌<◌, ◌≤◌, ◌+◌, ◌%◌, ◌⊎◌, ℕ, true, false, List, [], ◌∷◌, Option, Some, None, slice_get, length};
 ghost use Rattle.bgp_types.specs.Prefixes.{PrefixValue};
@@ -26,7 +26,8 @@ ghost use Rattle.graft_model.specs.Claims.{sessions_at};
 ghost use Rattle.graft_model.specs.GraftRows.{taken_in};
 ghost use Rattle.graft_model.specs.Conditions.{HasNoLive, MayFreeze, IsWhyNotFrozen, vacant_in, HasRoom, IsWhyNot};
 
-/// On a session that is frozen, away or absent nothing is put, emitted, got or ticked, and no segment arrives. Where one is live, no segment strays.
+/// Only live sessions act: on a session that is frozen, away or absent nothing is put, emitted or got, no round passes,
+/// and no segment arrives. Where a session is live, no segment strays.
 pub fn live_sessions_alone_act()
     ensures put { (setup : Setup) (r p n : ℕ) (before after : RouterPart) (taken : Option RouterTaken) (sent : List RouterSent)
         → HasNoLive (before.places p) → ¬ router_row setup r (Put p n) before taken sent after }
@@ -42,7 +43,8 @@ pub fn live_sessions_alone_act()
         → before.places p ≡ Live session errand → ¬ router_row setup r (Stray p) before taken sent after }
 {}
 
-/// What a session that acts has to be: established where it puts an UPDATE, not closed where it gets, with a hold time that runs where a round passes.
+/// The state that a session needs to act: established to put an UPDATE, not closed to get, with a running hold time for
+/// a round to pass.
 pub fn sessions_act_in_their_states()
     ensures put { (setup : Setup) (r p n : ℕ) (session : SessionValue) (errand : Option Errand) (before after : RouterPart) (taken : Option RouterTaken) (sent : List RouterSent)
         → before.places p ≡ Live session errand → router_row setup r (Put p n) before taken sent after → state session ≡ Established }
@@ -52,7 +54,7 @@ pub fn sessions_act_in_their_states()
         → before.places p ≡ Live session errand → router_row setup r (Tick p round) before taken sent after → (0 < hold_time session) × (state session ≢ Closed) }
 {}
 
-/// What is to be decided again is neither told nor put.
+/// A dirty prefix is neither told nor put.
 pub fn dirty_prefixes_wait()
     ensures tell { (setup : Setup) (r q : ℕ) (prefix : PrefixValue) (before after : RouterPart) (taken : Option RouterTaken) (sent : List RouterSent)
         → has before.dirty prefix ≡ true → ¬ router_row setup r (Tell q prefix) before taken sent after }
@@ -64,9 +66,11 @@ pub fn dirty_prefixes_wait()
         → has (before.due_in q) prefix ≡ false → ¬ router_row setup r (Tell q prefix) before taken sent after }
 {}
 
-/// A graft goes on only where it stands: its order is taken by a live session for which nothing is to be done, to one of the routers; the session is frozen only as
-/// `MayFreeze` says, and refused only with a reason why not; it leaves only where it is frozen; and its shadow alone is cleared, or made live again. Its source is told
-/// of the landing only where the session is live, word of that is owed and all other routers were asked; and these are asked in their order.
+/// A graft goes on only from its current step. Its order is taken only by a live session without an errand, and only
+/// for one of the routers. The session is frozen only as `MayFreeze` says, and refused only with a reason against that.
+/// It leaves only once it is frozen, and only its shadow is cleared or made live again. Its source is told of the
+/// landing only if the session is live, word of the landing is owed and all other routers were asked; these are asked
+/// in their order.
 pub fn grafts_go_on_where_they_stand()
     ensures admit { (setup : Setup) (r k : ℕ) (order : GraftOrder) (before after : RouterPart) (sent : List RouterSent)
         → router_row setup r (Admit k) before (Some (OrderIn order)) sent after
@@ -94,8 +98,8 @@ pub fn grafts_go_on_where_they_stand()
         → router_row setup r (Clear q) before (Some (MeshIn q (Done k p))) sent after → before.places p ≡ Shadow k }
 {}
 
-/// A router is asked only where nothing is to be decided and nothing is to be told to it, and a source is told of a landing only where nothing is to be told to any
-/// other router.
+/// A router is asked only if no prefix is dirty and nothing is due to that router. A source is told of a landing only
+/// if nothing is due to any other router.
 pub fn word_waits_for_what_is_told()
     ensures decided { (setup : Setup) (r k : ℕ) (x : PrefixValue) (before after : RouterPart) (taken : Option RouterTaken) (sent : List RouterSent)
         → has before.dirty x ≡ true → ¬ router_row setup r (Confirm k) before taken sent after }
@@ -107,8 +111,8 @@ pub fn word_waits_for_what_is_told()
         → has (before.due_in q) x ≡ true → ¬ router_row setup r (Ask k q) before taken sent after }
 {}
 
-/// A session lands only at a vacant place of a known peering, where there is room beside every session and shadow and where its policies are; and is
-/// turned back only from such a place, with the reason why.
+/// A session lands only at a vacant place of a known peering, at a router with room beside all its sessions and
+/// shadows, and with the session's policies. It is turned back only from such a place, with the reason.
 pub fn landings_have_room()
     ensures counted { (setup : Setup) (part : RouterPart) → taken_in setup part + vacant_in setup part ≡ peerings_in setup }
     ensures land { (setup : Setup) (r q k p : ℕ) (session : SessionValue) (before after : RouterPart) (sent : List RouterSent)
@@ -119,13 +123,13 @@ pub fn landings_have_room()
         → (before.places p ≡ Vacant) × (p < peerings_in setup) × (refusal : Refusal) × IsWhyNot setup r before session refusal × (sent ≡ MeshTo q (Back k p session refusal) ∷ []) }
 {}
 
-/// The next group begins only in a quiet world, and only where there is one.
+/// The next group begins only in a quiet world, and only if there is one.
 pub fn groups_begin_in_quiet_worlds()
     ensures quiet { (setup : Setup) (before after : World) → Step setup (ByOperator Go) before after → Quiet setup before }
     ensures further { (setup : Setup) (before after : World) → Step setup (ByOperator Go) before after → before.operator.group + 1 < groups_in setup }
 {}
 
-/// A link is turned only by word of a later graft than the last one that it followed, and stays where it is otherwise.
+/// Only word of a later graft than the last one followed turns a link; otherwise it stays where it is.
 pub fn later_grafts_alone_turn_links()
     ensures later { (setup : Setup) (p r k : ℕ) (before after : FarPart) (sent : List FarSent)
         → far_row setup p (Point r) before (Some (OutwardIn r (PointAt k))) sent after → before.followed < k → (after.pointer ≡ r) × (after.followed ≡ k) }
@@ -133,7 +137,7 @@ pub fn later_grafts_alone_turn_links()
         → far_row setup p (Point r) before (Some (OutwardIn r (PointAt k))) sent after → k ≤ before.followed → after ≡ before }
 {}
 
-/// What a step says is ordered once, in the step's group, and waits for the earlier says of its peering in the group.
+/// A say is ordered once, in its step's group, after the earlier says of its peering in the group.
 pub fn says_wait_for_earlier_ones()
     ensures group { (setup : Setup) (step number : ℕ) (before after : OperatorPart) (taken : Option OperatorTaken) (sent : List OperatorSent)
         → operator_row setup (OrderOf step number) before taken sent after → group_of setup step ≡ before.group }
@@ -145,7 +149,8 @@ pub fn says_wait_for_earlier_ones()
         → m < step → group_of setup m ≡ before.group → slice_get setup.steps m ≡ Some (SayStep p other) → before.issued m ≡ true }
 {}
 
-/// A graft is ordered once, at the router where its session belongs by the log and to its target. It waits for the outcomes of the earlier grafts of its peering.
+/// A graft is ordered once, at the router where its session belongs by the log, to its target, and after the earlier
+/// grafts of its peering have their outcomes.
 pub fn grafts_wait_for_earlier_ones()
     ensures sends { (setup : Setup) (step number r : ℕ) (order : GraftOrder) (before after : OperatorPart) (taken : Option OperatorTaken) (sent : List OperatorSent)
         → operator_row setup (OrderOf step number) before taken sent after → sent ≡ OrderTo r order ∷ []
@@ -163,7 +168,8 @@ pub fn grafts_wait_for_earlier_ones()
         → slice_get setup.steps step ≡ Some (EvacuateStep router) → number ≡ order.graft }
 {}
 
-/// A graft step takes one number, and an evacuate step one for each peering, in their order; they count from 1 over the whole script.
+/// A graft step takes one number, and an evacuate step one for each peering, in their order. Numbers start at 1 and run
+/// through the whole script.
 pub fn grafts_are_numbered()
     ensures step { (setup : Setup) (n p target : ℕ) → slice_get setup.steps n ≡ Some (MoveStep p target)
         → graft_at setup (grafts_before setup n + 1) ≡ Some (record { graft = grafts_before setup n + 1; peering = p; step = n }) }
@@ -172,8 +178,8 @@ pub fn grafts_are_numbered()
     ensures known { (setup : Setup) (k : ℕ) (graft : ScriptGraft) → graft_at setup k ≡ Some graft → (graft.graft ≡ k) × (0 < k) × (k ≤ length (grafts_in setup)) }
 {}
 
-/// As a group begins, its evacuate steps give each peering that is placed at their router what the plan has for it, and nothing to others. What other grafts were
-/// given stays.
+/// As a group begins, its evacuate steps give each peering that is placed at their router what the plan has for it, and
+/// give other peerings nothing. What other grafts were given stays the same.
 pub fn emptied_routers_give_by_plan()
     ensures given { (setup : Setup) (before after : World) (graft : ScriptGraft) (router : ℕ) → Step setup (ByOperator Go) before after → graft_at setup graft.graft ≡ Some graft
         → group_of setup graft.step ≡ before.operator.group + 1 → slice_get setup.steps graft.step ≡ Some (EvacuateStep router) → before.operator.given graft.graft ≡ Unmade
@@ -188,15 +194,16 @@ pub fn emptied_routers_give_by_plan()
         → Plan (rooms_of setup) router (loads_of setup placed) (length (peerings_at setup placed router)) (targets_from setup placed router) }
 {}
 
-/// A remote says a KEEPALIVE by its timer only where it beats, in a round that is a multiple of its beat and above the last one, and 27,594 times at most.
+/// A remote says a KEEPALIVE by its timer only if it has an interval, in a round that is a multiple of it and above the
+/// last one, and at most 27,594 times.
 pub fn beats_are_few_and_later()
     ensures { (setup : Setup) (p round : ℕ) (peering : PeeringSetup) (before after : FarPart) (taken : Option FarTaken) (sent : List FarSent)
         → slice_get setup.peerings p ≡ Some peering → far_row setup p (Beat round) before taken sent after
         → (0 < beat_of peering) × (round % beat_of peering ≡ 0) × (before.last_beat < round) × (before.beats + 1 ≤ 27594) × (after.beats ≡ before.beats + 1) }
 {}
 
-/// In a quiet world each session that a router holds is live and nothing is to be done for a graft of it, and it and its remote received and acknowledged all that the other
-/// put or said.
+/// In a quiet world each session that a router holds is live and has no errand, and it and its remote received and
+/// acknowledged all that the other put or said.
 pub fn quiet_sessions_are_settled()
     ensures live { (setup : Setup) (w : World) (r p : ℕ) → Quiet setup w → sessions_at ((w.router r).places p) ≢ [] → ¬ HasNoLive ((w.router r).places p) }
     ensures unordered { (setup : Setup) (w : World) (r p : ℕ) (session : SessionValue) (errand : Option Errand) → Quiet setup w → (w.router r).places p ≡ Live session errand → errand ≡ None }
@@ -206,7 +213,8 @@ pub fn quiet_sessions_are_settled()
         → ((w.far p).end.acked ≡ length (w.far p).end.stream) × (session.end.acked ≡ length session.end.stream) }
 {}
 
-/// The policy that a landing misses is the import policy, where the router doesn't have it, and else the export policy.
+/// The policy named as missing at a landing is the import policy if the router doesn't have it, and otherwise the
+/// export policy.
 pub fn missing_policies_are_named()
     ensures import { (setup : Setup) (r : ℕ) (config : SessionConfig) (name : List ℕ) → config.import ≡ Some name → rules_named setup r name ≡ None
         → missing_policy setup r config ≡ Some name }
@@ -215,7 +223,7 @@ pub fn missing_policies_are_named()
     ensures neither { (setup : Setup) (r : ℕ) (config : SessionConfig) → config.import ≡ None → config.export ≡ None → missing_policy setup r config ≡ None }
 {}
 
-/// What an actor's event takes it may take. So it can take nothing else, whatever the event.
+/// An event takes only an item that its actor may take, whatever the event.
 pub fn items_are_taken_where_they_may_be()
     ensures router { (setup : Setup) (r : ℕ) (event : RouterEvent) (before after : RouterPart) (item : RouterTaken) (sent : List RouterSent)
         → router_row setup r event before (Some item) sent after → RouterMayTake setup before item }

@@ -1,4 +1,4 @@
-//! What an event changes, and what it leaves, where the rows give a set or a table by its members.
+//! Laws: what an event changes and what it leaves, for the sets and tables that rows describe by their members.
 
 ghost use Rattle.std.specs.Prelude.{◌≡◌, ◌≢◌, ◌<◌, ◌≤◌, ◌+◌, ◌++◌, ◌^◌, ℕ, suc, Bool, true, false, List, [], ◌∷◌, length, Option, Some, None, slice_get, unwrap_or, is_some};
 ghost use Rattle.std.specs.FinMap as map;
@@ -17,9 +17,9 @@ ghost use Rattle.graft_model.specs.Steps.{Put, Emit, Decide, Got, Hear, Tick, Le
 ghost use Rattle.graft_model.specs.Decisions.{chosen, to_tell};
 ghost use Rattle.graft_model.specs.Conditions.{HasEstablished};
 
-/// What becomes due where a router decides a prefix anew. Where the best route is another one than before, the prefix is due to each other router and on each
-/// established session, live or frozen; nothing else becomes due, to no other number and not to the router itself. Where the best route
-/// stays, nothing becomes due.
+/// What becomes due when a router decides a prefix. If the best route changes, the prefix becomes due to each other
+/// router and on each established session, live or frozen, and nothing else becomes due, neither to any other number
+/// nor to the router itself. If the best route stays the same, nothing becomes due.
 pub fn another_best_route_is_due()
     ensures unchanged { (setup : Setup) (r : ℕ) (prefix : PrefixValue) (before after : RouterPart) (taken : Option RouterTaken) (sent : List RouterSent)
         → router_row setup r (Decide prefix) before taken sent after → chosen setup r before prefix ≡ map.get before.best prefix
@@ -41,7 +41,8 @@ pub fn another_best_route_is_due()
         → (has (after.due_in n) x ≡ has (before.due_in n) x) × (has (after.due_out n) x ≡ has (before.due_out n) x) × (map.get after.best x ≡ map.get before.best x) }
 {}
 
-/// On a session that has landed, or is back at its source, exactly that is due which was told on it or is a best route. On the other peerings stays due what was.
+/// On a session that has landed, or is back at its source, exactly those prefixes are due that were told on it or have
+/// a best route. What is due on the other peerings stays the same.
 pub fn moved_sessions_are_told_again()
     ensures told { (setup : Setup) (r q k p : ℕ) (session : SessionValue) (x : PrefixValue) (before after : RouterPart) (sent : List RouterSent)
         → router_row setup r (Land q) before (Some (MeshIn q (Moved k p session))) sent after
@@ -63,14 +64,15 @@ pub fn moved_sessions_are_told_again()
         → map.get session.told x ≡ None → map.get before.best x ≡ None → has (after.due_out p) x ≡ false }
 {}
 
-/// Where a session leaves, its entries and all tables stay, and nothing is due on its peering.
+/// When a session leaves, its entries and all tables stay the same, and nothing is due on its peering.
 pub fn leaving_keeps_the_entries()
     ensures { (setup : Setup) (r k : ℕ) (before after : RouterPart) (taken : Option RouterTaken) (sent : List RouterSent)
         → router_row setup r (Leave k) before taken sent after
         → (after.entries ≡ before.entries) × (after.tellings ≡ before.tellings) × (after.best ≡ before.best) × (after.dirty ≡ before.dirty) × (after.due_in ≡ before.due_in) }
 {}
 
-/// A segment without bytes has the place that is emitted next. Whatever is emitted begins at the place that the event names, and has so many bytes.
+/// A segment without bytes has the place that is emitted next. Any emitted segment begins at the place that the event
+/// names, and has as many bytes as it names.
 pub fn segments_are_what_events_name()
     ensures empty_out { (setup : Setup) (r p from : ℕ) (session : SessionValue) (errand : Option Errand) (before after : RouterPart) (taken : Option RouterTaken) (sent : List RouterSent)
         → router_row setup r (Emit p from 0) before taken sent after → before.places p ≡ Live session errand → from ≡ session.end.emitted }
@@ -83,21 +85,22 @@ pub fn segments_are_what_events_name()
         → (router < routers_in setup) × (sent ≡ record { router = router; segment = segment } ∷ []) }
 {}
 
-/// A session that puts an UPDATE has put 1,044,480 bytes at most then, so that a NOTIFICATION still has room.
+/// After a session puts an UPDATE, its stream has at most 1,044,480 bytes, so that a NOTIFICATION still has room.
 pub fn what_is_put_has_room()
     ensures { (setup : Setup) (r p n : ℕ) (next : SessionValue) (errand : Option Errand) (before after : RouterPart) (taken : Option RouterTaken) (sent : List RouterSent)
         → router_row setup r (Put p (suc n)) before taken sent after → after.places p ≡ Live next errand → length next.end.stream ≤ 1044480 }
 {}
 
-/// What a remote is to say stands at the end of its stream, which then has 1 MiB at most; and nothing else of it changes.
+/// What a remote is to say is added to the end of its stream, which then has at most 1 MiB, and nothing else of it
+/// changes.
 pub fn sayings_join_the_stream()
     ensures { (setup : Setup) (p step : ℕ) (bytes : List ℕ) (before after : FarPart) (taken : Option FarTaken) (sent : List FarSent)
         → slice_get setup.steps step ≡ Some (SayStep p bytes) → far_row setup p (Say step) before taken sent after
         → (after.end.stream ≡ before.end.stream ++ bytes) × (length after.end.stream ≤ 2 ^ 20) × (after.end.emitted ≡ before.end.emitted) × (after.homeward ≡ before.homeward) }
 {}
 
-/// What is told on a session depends on the AS of its remote, on its own address and on its export policy here, and not on its import policy. What a router has of another costs what
-/// the way from the one to the other costs.
+/// What is told on a session depends on the AS of its remote, on its own address and on its export policy here, and not
+/// on its import policy. The interior cost from a router to another is the one that its setup gives, or 1.
 pub fn policies_and_costs_are_the_routers_own()
     ensures export { (setup : Setup) (r : ℕ) (part : RouterPart) (one other : SessionValue) (prefix : PrefixValue)
         → one.config.peering ≡ other.config.peering → one.config.remote_as ≡ other.config.remote_as → one.config.local_address ≡ other.config.local_address → one.config.export ≡ other.config.export
@@ -105,8 +108,8 @@ pub fn policies_and_costs_are_the_routers_own()
     ensures cost { (setup : Setup) (r q : ℕ) (router : RouterSetup) → slice_get setup.routers r ≡ Some router → cost_between setup r q ≡ unwrap_or (slice_get router.costs q) 1 }
 {}
 
-/// A prefix for which a router has something else than before is to be decided again: where another router told another route, where a session that landed brought
-/// in an entry, and where the entries of a session that went were cleared.
+/// A prefix whose candidates at a router changed is dirty: another router told a different route, a session that landed
+/// brought in an entry, or the entries of a session that left were cleared.
 pub fn what_changed_is_dirty()
     ensures hear { (setup : Setup) (r q : ℕ) (prefix : PrefixValue) (route : Option Route) (before after : RouterPart) (sent : List RouterSent)
         → router_row setup r (Hear q) before (Some (MeshIn q (Told prefix route))) sent after
@@ -125,7 +128,8 @@ pub fn what_changed_is_dirty()
         → has before.dirty x ≡ true → has after.dirty x ≡ true }
 {}
 
-/// Nothing is due on the peering of a session that has closed, and all best routes are due where one has been established.
+/// Nothing is due on the peering of a session that has closed, and all best routes are due once it has been
+/// established.
 pub fn states_say_what_is_due()
     ensures closed { (setup : Setup) (r p : ℕ) (next : SessionValue) (errand : Option Errand) (x : PrefixValue) (before after : RouterPart) (taken : Option RouterTaken) (sent : List RouterSent)
         → router_row setup r (Got p) before taken sent after → after.places p ≡ Live next errand → state next ≡ Closed → has (after.due_out p) x ≡ false }

@@ -20,7 +20,7 @@ pub enum RouterEvent {
     Decide { prefix: Prefix },
     /// Another router is told the best route to a prefix.
     Tell { router: u32, prefix: Prefix },
-    /// What another router told of a prefix is heard.
+    /// What another router told about a prefix is heard.
     Hear { router: u32 },
     /// The order of a graft is stored.
     Admit { graft: u32 },
@@ -36,13 +36,13 @@ pub enum RouterEvent {
     TurnBack { router: u32 },
     /// A session that this router refused is back.
     Return { router: u32 },
-    /// A session is at its target, as this router says: its shadow here ends.
+    /// This router, the target, says that a session landed there: its shadow here ends.
     Clear { router: u32 },
     /// A router is asked, for a graft whose session has landed here, whether it has heard what it was told.
     Ask { graft: u32, router: u32 },
-    /// This router asked, and is told that all was heard.
+    /// This router asked, and receives the answer that all was heard.
     Answer { router: u32 },
-    /// What this router answered is counted, where a graft waits for it.
+    /// The answer of this router is counted, if a graft waits for it.
     Collect { router: u32 },
     /// The source of a graft is told that its session has landed here, and that all other routers have heard its routes.
     Confirm { graft: u32 },
@@ -59,13 +59,15 @@ pub enum FarEvent {
     Send { from: u32, len: u32 },
     /// The next segment of a router goes into the link.
     Take { router: u32 },
-    /// The segment at this place of the link is delivered to a router. Where `keep` holds, the link delivers it once more.
+    /// The segment at this place of the link is delivered to a router. If `keep` is true, the link will deliver it once
+    /// more.
     Pass { index: u32, keep: bool, router: u32 },
-    /// The segment at this place of the link is delivered to the remote. Where `keep` holds, the link delivers it once more.
+    /// The segment at this place of the link is delivered to the remote. If `keep` is true, the link will deliver it
+    /// once more.
     Reach { index: u32, keep: bool },
     /// The segment at this place of the link, on its way to that side, is lost.
     Lose { way: Way, index: u32 },
-    /// The link is pointed at a router, as that one said.
+    /// The link is pointed at a router, by word from that router.
     Point { router: u32 },
     /// The remote's timer says a KEEPALIVE in this round.
     Beat { round: u32 },
@@ -74,8 +76,8 @@ pub enum FarEvent {
 /// An event of the operator.
 #[derive(Clone, Copy, Debug, PartialEq, Eq, Hash)]
 pub enum OperatorEvent {
-    /// What a step of the script, counted from 0, has a remote say is ordered, or a graft of the step: `graft` is its number where
-    /// an evacuate step makes it, else 0.
+    /// A say or a graft of a step of the script is ordered. Steps are counted from 0; `graft` is the graft's number if
+    /// an evacuate step makes it, and 0 otherwise.
     Order { step: u32, graft: u32 },
     /// A router's report of how a graft ended goes into the log.
     Note { router: u32 },

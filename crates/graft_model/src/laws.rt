@@ -1,4 +1,4 @@
-//! What holds of every event and every step of the world.
+//! Laws that hold for every event and every step of the world.
 
 ghost use Rattle.std.specs.Prelude.{◌≡◌, ◌≢◌, ◌<◌, ℕ, suc, List, [], ◌∷◌, ◌++◌, Option, Some, None};
 ghost use Rattle.std.specs.List.{flat_map};
@@ -19,14 +19,14 @@ ghost use Rattle.graft_model.specs.Codes.{router_code, far_code, operator_code, 
 ghost use Rattle.graft_model.specs.Laws.{LeavesByRouter, LeavesByFar, LeavesByOperator, MayStillHappen, HasOnce, HasOneOutcome, taken_on, sent_on, KeepsSessions};
 ghost use Rattle.graft_model.specs.SmallWorlds as small;
 
-/// An event leaves the parts of all other actors as they are, and every channel that its actor has no end of.
+/// An event changes neither the parts of other actors nor a channel of which its actor is neither sender nor receiver.
 pub fn steps_leave_the_rest()
     ensures router { (setup : Setup) (r : ℕ) (event : RouterEvent) (before after : World) → RouterStep setup r event before after → LeavesByRouter r before after }
     ensures far { (setup : Setup) (p : ℕ) (event : FarEvent) (before after : World) → FarStep setup p event before after → LeavesByFar p before after }
     ensures operator { (setup : Setup) (event : OperatorEvent) (before after : World) → OperatorStep setup event before after → LeavesByOperator before after }
 {}
 
-/// The kind and the arguments of an event tell it apart from every other event, of its actor and of others.
+/// The kind and the arguments of an event identify it among all events, of its actor and of others.
 pub fn codes_are_exact()
     ensures router { (one other : RouterEvent) → router_code one ≡ router_code other → one ≡ other }
     ensures far { (one other : FarEvent) → far_code one ≡ far_code other → one ≡ other }
@@ -53,21 +53,23 @@ pub fn rows_are_exact()
         → operator_row setup event before taken sent after → operator_row setup event before taken items other → (items ≡ sent) × (other ≡ after) }
 {}
 
-/// An event leads from a world to one world, where no two places of a router have the same graft.
+/// An event leads from a world to only one world, if no two places of a router have the same graft.
 pub fn events_lead_to_one_world()
     ensures { (setup : Setup) (event : Event) (w u v : World) → ((r k : ℕ) → HasOnce k (w.router r)) → Step setup event w u → Step setup event w v → v ≡ u }
 {}
 
-/// In a graft no session is made, lost or changed: what a router held of a peering and took, it holds or sent then, in every field.
+/// A graft makes, loses and changes no session: the sessions of a peering that a router held or took are those that it
+/// then holds or sent, in every field.
 pub fn grafts_keep_sessions()
     ensures { (setup : Setup) (r p : ℕ) (event : RouterEvent) (before after : RouterPart) (taken : Option RouterTaken) (sent : List RouterSent)
         → KeepsSessions event → router_row setup r event before taken sent after
         → sessions_at (after.places p) ++ flat_map (sent_on p) sent ≡ taken_on p taken ++ sessions_at (before.places p) }
 {}
 
-/// Where a session is after an event of its graft. It leaves for the target of the order for which it was frozen, and its shadow stays. It is live where
-/// it lands and where it comes back; at its source nothing of it is left when the graft ends. Word of a landing goes to the far side, and is owed to the
-/// source, to which it goes once the other routers were asked one after another; and word of the outcome goes to the operator.
+/// Where a session is after an event of its graft. It leaves for the target of the order for which it was frozen, and
+/// its shadow stays. It is live where it lands and where it comes back; nothing of it is left at its source when the
+/// graft ends. Word of a landing goes to the far side, and is owed to the source, which gets it once the other routers
+/// were asked one after another. Word of the outcome goes to the operator.
 pub fn grafts_move_sessions()
     ensures left { (setup : Setup) (r k p : ℕ) (session : SessionValue) (order : Order) (before after : RouterPart) (taken : Option RouterTaken) (sent : List RouterSent)
         → HasOnce k before → before.places p ≡ Frozen session order → order.graft ≡ k → router_row setup r (Leave k) before taken sent after
@@ -92,7 +94,7 @@ pub fn grafts_move_sessions()
         → (after.places p ≡ Vacant) × (after.entries p ≡ map.empty) × (sent ≡ ReportOut (record { graft = k; outcome = Accepted }) ∷ []) }
 {}
 
-/// A segment that strays, a session that is turned back and a question that is answered leave the router as it is.
+/// A segment that strays, a session that is turned back and a question that is answered don't change the router.
 pub fn refused_items_change_nothing()
     ensures strays { (setup : Setup) (r p : ℕ) (before after : RouterPart) (taken : Option RouterTaken) (sent : List RouterSent)
         → router_row setup r (Stray p) before taken sent after → (after ≡ before) × (sent ≡ []) }
@@ -102,8 +104,9 @@ pub fn refused_items_change_nothing()
         → router_row setup r (Answer q) before (Some (MeshIn q (Asked k p))) sent after → (after ≡ before) × (sent ≡ MeshTo q (Answered k p) ∷ []) }
 {}
 
-/// A claim can be false by one of its fields. Each of these worlds differs in one thing from a small one in which nothing is left to do, and that makes the
-/// field false after which the clause is named: `all_received` is the `received` of what solves a peering.
+/// Each claim can be false in each of its fields. Each of these worlds differs in one thing from a small one in which
+/// nothing is left to do, which makes the field false that the clause is named after; `all_received` is the field
+/// `received` of `SolvesOn`.
 pub fn claims_can_be_false()
     ensures one { ¬ Transparent small.pair small.with_session_lost 0 }
     ensures legal { ¬ Transparent small.pair (small.with_session small.opened_twice) 0 }

@@ -58,7 +58,7 @@ pub record IsStepOf (setup : Setup) (before : World) (entry : JournalEntry) (nex
   pub step : Step setup event before after
   pub sees : Sees setup next after
 
--- one event of a net, made by its actor's row, is a step; a Go where the world is quiet
+-- one event of a net, made by its actor's row, is a step; a Go must be made in a quiet world
 abbrev pub AnEventIsAStep : Type 0
 AnEventIsAStep = (setup : Setup) (net next : Net) (deed : Deed Thing) (w : World) → Sees setup net w → worlds.Step (makes setup) net deed next → (IsGo deed.entry → Quiet setup w)
     → IsStepOf setup w deed.entry next
@@ -73,7 +73,7 @@ pub record IsRunOf (setup : Setup) (before : World) (entries : List JournalEntry
   pub run : Run setup before events after
   pub sees : Sees setup last after
 
--- at each Go of a run, the world that the net is then is quiet
+-- at each Go of a run, the world that the net is seen as is quiet
 abbrev pub QuietAtGo : (setup : Setup) (net last : Net) (deeds : List (Deed Thing)) → worlds.Run (makes setup) net deeds last → Type 0
 QuietAtGo setup net last [] run = Unit {0}
 QuietAtGo setup net last (deed ∷ deeds) run = (IsGo deed.entry → (w : World) → Sees setup net w → Quiet setup w) × QuietAtGo setup run.0 last deeds run.2
@@ -83,7 +83,7 @@ ANetRunIsARun = (setup : Setup) (net last : Net) (deeds : List (Deed Thing)) (w 
     → IsRunOf setup w (map (λ d. d.entry) deeds) last
 
 module _ {A : Type 0} (part : A → ActorPart) where
-  -- the events of these entries are a run of the world, to the one that a view is seen as
+  -- the events of these entries are a run of the world, to the one as which a view is seen
   pub record RunsOn (setup : Setup) (before : World) (entries : List JournalEntry) (last : View A Thing) : Type 0 where
     pub events : List Event
     pub entries_of : AreEntriesOf setup events entries
@@ -114,12 +114,12 @@ abbrev pub SetupsAreKept : Type 0
 SetupsAreKept = (setup : Setup) (net last : worlds.World PartWithSetup Thing) (deeds : List (Deed Thing)) → HaveSetup setup net → worlds.Run makes_in_its_setup net deeds last
     → worlds.Run (makes setup) (without_setups net) deeds (without_setups last) × HaveSetup setup last
 
--- the same of a merged journal
+-- the same for a merged journal
 abbrev pub JournalsOfParts : {A : Type 0} (part : A → PartWithSetup) → Type 0
 JournalsOfParts {A} part = (setup : Setup) (u v : View A Thing) (levels : List ℕ) (notes : ℕ → List (Noted Thing)) (entries : List JournalEntry) (net : worlds.World PartWithSetup Thing) → HaveSetup setup net
     → RunsTo part makes_in_its_setup u net levels notes entries v → RunsTo (λ a. (part a).part) (makes setup) u (without_setups net) levels notes entries v
 
--- ---- what the words hold
+-- ---- consequences of the definitions
 
 -- each row of the model is an event that its actor makes
 abbrev pub RouterRowsAreMade : Type 0
@@ -137,15 +137,15 @@ OperatorRowsAreMade = (setup : Setup) (event : OperatorEvent) (before after : Op
     → operator_row setup event before took gave after → HasCode (operator_code event) entry → AllByRecursion (λ s. IsActor setup (sent_by_operator s).0) gave
     → makes setup (routers_in setup + peerings_in setup) (OperatorIs before) entry (option_map (λ t. numbered setup (taken_by_operator t)) took) (map (λ s. numbered setup (sent_by_operator s)) gave) (OperatorIs after)
 
--- a net is one world
+-- a net is seen as one world only
 abbrev pub OneWorldIsSeen : Type 0
 OneWorldIsSeen = (setup : Setup) (net : Net) (w v : World) → Sees setup net w → Sees setup net v → v ≡ w
 
--- an entry is that of one event
+-- an entry belongs to one event only
 abbrev pub OneEventHasTheEntry : Type 0
 OneEventHasTheEntry = (setup : Setup) (one other : Event) (entry : JournalEntry) → IsEntryOf setup one entry → IsEntryOf setup other entry → one ≡ other
 
--- entries are those of one list of events
+-- entries belong to one list of events only
 abbrev pub OneListHasTheEntries : Type 0
 OneListHasTheEntries = (setup : Setup) (events others : List Event) (entries : List JournalEntry) → AreEntriesOf setup events entries → AreEntriesOf setup others entries → events ≡ others
 

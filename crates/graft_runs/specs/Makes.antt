@@ -51,8 +51,8 @@ pub record HasCode (code : Code) (entry : JournalEntry) : Type 0 where
   pub b : entry.b ≡ code.b
   pub c : entry.c ≡ code.c
 
--- The entry is that of an event whose row in the model holds. What the row takes and sends are the items, with the numbers of their
--- senders and receivers. Each receiver is there, which no row of its own says; a sender is there, since else it has no channel.
+-- The entry is that of an event whose row in the model holds. What the row takes and sends are the items, with the numbers of their senders and
+-- receivers. Each receiver must exist, which no row says; a sender exists, since otherwise it would have no channel.
 pub record MakesRow {E P T S : Type 0} (setup : Setup) (code : E → Code) (row : E → P → Option T → List S → P → Type 0) (takes : T → ActorName × Thing) (gives : S → ActorName × Thing)
     (before : P) (entry : JournalEntry) (taken : Option (ℕ × Thing)) (sent : List (ℕ × Thing)) (after : P) : Type 0 where
   pub event : E
@@ -64,25 +64,25 @@ pub record MakesRow {E P T S : Type 0} (setup : Setup) (code : E → Code) (row 
   pub is_sent : sent ≡ map (λ s. numbered setup (gives s)) gave
   pub there : AllByRecursion (λ s. IsActor setup (gives s).0) gave
 
--- A router makes the events of a router's rows, a far side those of a far side's, the operator the operator's; nobody makes another's.
+-- A router makes the events of a router's rows, a far side those of a far side's, the operator the operator's; no actor makes those of another kind.
 abbrev pub makes_as : Setup → Option ActorName → ActorPart → JournalEntry → Option (ℕ × Thing) → List (ℕ × Thing) → ActorPart → Type 0
 makes_as setup (Some (Router r)) (RouterIs before) entry taken sent (RouterIs after) = MakesRow setup router_code (router_row setup r) taken_by_router sent_by_router before entry taken sent after
 makes_as setup (Some (FarSide p)) (FarIs before) entry taken sent (FarIs after) = MakesRow setup far_code (far_row setup p) taken_by_far sent_by_far before entry taken sent after
 makes_as setup (Some Operator) (OperatorIs before) entry taken sent (OperatorIs after) = MakesRow setup operator_code (operator_row setup) taken_by_operator sent_by_operator before entry taken sent after
 makes_as setup actor before entry taken sent after = ⊥
 
--- What an actor of this number may make. Of a Go it says the operator's own condition alone: that the world is quiet can't be said of a
--- part, and the laws of steps and runs have it as a condition.
+-- What an actor of this number may make. Of a Go it states only the operator's own condition. That the world is quiet can't be stated for a part; it
+-- is a condition of the laws of steps and runs.
 abbrev pub makes : Setup → Makes ActorPart Thing
 makes setup n before entry taken sent after = makes_as setup (actor_at setup n) before entry taken sent after
 
 -- ---- a part that knows its setup
 
--- an actor's part with the setup of its laboratory: what a type of actors, whose `makes` is one for all its values, has as its part
+-- an actor's part with the setup of its laboratory: the part of a type of actors, which has one `makes` for all its values
 pub record PartWithSetup : Type 0 where
   pub setup : Setup
   pub part : ActorPart
 
--- what the actor makes in its own setup, which stays
+-- what the actor makes in its own setup, which stays the same
 abbrev pub makes_in_its_setup : Makes PartWithSetup Thing
 makes_in_its_setup n before entry taken sent after = (after.setup ≡ before.setup) × makes before.setup n before.part entry taken sent after.part

@@ -17,7 +17,7 @@ part_of w (Router r) = RouterIs (w.router r)
 part_of w (FarSide p) = FarIs (w.far p)
 part_of w Operator = OperatorIs w.operator
 
--- the items from one actor to another; no other two actors have a channel, and a number that is nobody's has none
+-- the items from one actor to another; no other two actors have a channel, and a number that is no actor's has none
 abbrev pub channel_of : World → Option ActorName → Option ActorName → List Thing
 channel_of w (Some (Router a)) (Some (Router b)) = map MeshItem (w.mesh a b)
 channel_of w (Some (Router r)) (Some (FarSide p)) = map OutwardItem (w.outward r p)
@@ -27,18 +27,18 @@ channel_of w (Some Operator) (Some (Router r)) = map OrderItem (w.orders r)
 channel_of w (Some Operator) (Some (FarSide p)) = map StepItem (w.says p)
 channel_of w from to = []
 
--- Of routers and peerings that the setup doesn't have, the world has what it began with, and nothing on its way.
+-- Routers and peerings that the setup doesn't have are as in the first world, with nothing on its way.
 pub record IsWithin (setup : Setup) (w : World) : Type 0 where
   pub parts : (x : ActorName) → (IsActor setup x → ⊥) → part_of w x ≡ part_of (first_world setup) x
   pub channels : (x y : ActorName) → (IsActor setup x → IsActor setup y → ⊥) → channel_of w (Some x) (Some y) ≡ []
 
--- The net is the world: each actor's part and each channel is the world's.
+-- The net is seen as the world: each actor's part and each channel is the world's.
 pub record Sees (setup : Setup) (net : Net) (w : World) : Type 0 where
   pub parts : (n : ℕ) (x : ActorName) → actor_at setup n ≡ Some x → net.part n ≡ part_of w x
   pub channels : (a b : ℕ) → net.channel a b ≡ channel_of w (actor_at setup a) (actor_at setup b)
   pub within : IsWithin setup w
 
--- The actors of a view, and its channels where an edge leads, are those of a net that is the world.
+-- The actors of a view, and its channels wherever there is an edge, are those of a net that is seen as the world.
 pub record SeesView {A : Type 0} (part : A → ActorPart) (setup : Setup) (view : View A Thing) (w : World) : Type 0 where
   pub net : Net
   pub is : IsWorldOf part view net

@@ -17,7 +17,7 @@ kind_place (Dirty r) = 5
 kind_place (DueIn r q) = 6
 kind_place (DueOut p) = 7
 
--- the numbers that it names, from the left
+-- the numbers that it has, from the left
 abbrev pub numbers_of : Pending → List ℕ
 numbers_of Script = []
 numbers_of (Graft k) = k ∷ []

@@ -1,12 +1,12 @@
-//! What actors send one another.
+//! What actors send to one another.
 
 use crate::refusal::{Outcome, Refusal};
 use bgp_types::{Prefix, Route};
 use graft_edge::{PeeringId, RouterId};
 use tcp_seq::Segment;
 
-/// An item on the way from one actor to another. `C` is what carries a session that moves, its
-/// capsule. `graft` is the number of a graft.
+/// An item in flight from one actor to another. `C` is the capsule, which carries a session that moves.
+/// `graft` is the number of a graft.
 #[derive(Debug, Drop)]
 pub enum Item<C> {
     /// A segment of a peering's connection, between the router that holds its session and its far side.
@@ -25,14 +25,15 @@ pub enum Item<C> {
         graft: u32,
         capsule: C,
     },
-    /// From the target to the source: the session again, which it didn't take.
+    /// From the target to the source: the session again, which the target refused.
     Back {
         graft: u32,
         capsule: C,
         refusal: Refusal,
     },
-    /// From the target to a router that is neither source nor target: it holds the session now, and has told this router the routes
-    /// that it has with it. Has it heard them?
+    /// From the target to a router that is neither source nor target: the target holds the session now,
+    /// and has told this router the routes that it has with it. It asks whether the router has heard
+    /// them.
     Asked {
         graft: u32,
         peering: PeeringId,
@@ -42,8 +43,8 @@ pub enum Item<C> {
         graft: u32,
         peering: PeeringId,
     },
-    /// From the target to the source: it holds the session now, has told the source the routes that it has with it, and all other
-    /// routers have heard them.
+    /// From the target to the source: the target holds the session now, has told the source the routes
+    /// that it has with it, and all other routers have heard them.
     Done {
         graft: u32,
         peering: PeeringId,
@@ -59,16 +60,16 @@ pub enum Item<C> {
         graft: u32,
         outcome: Outcome,
     },
-    /// From the operator to a far side: say the bytes of this step of the script, counted from 0.
+    /// From the operator to a far side: send the bytes of this step of the script, counted from 0.
     SayOrder {
         step: u32,
     },
 }
 
-/// Asks of a type that its values may go to another thread.
+/// Requires of a type that its values may be sent to another thread.
 fn goes_to_threads<T: Send>() {}
 
-/// An item may go to another thread where its capsule may.
+/// An item may be sent to another thread if its capsule may.
 pub fn items_go_to_threads<C: Send>() {
     goes_to_threads::<Item<C>>()
 }

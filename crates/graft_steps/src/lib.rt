@@ -1,10 +1,11 @@
-//! The steps of a graft: the move of a live BGP session from the home router that holds it, the
-//! source, to another one, the target. The operator orders it, the source refuses it or freezes the
-//! session and sends it away, the target sends it back, or takes it and says so once its routes are
-//! heard, and the source reports how it ended. Here are these steps with their refusals, the items that routers, far sides and the
-//! operator send one another, the operator's log, and what an actor still has to do.
+//! The steps of a graft: the move of a live BGP session from the home router that holds it, the source,
+//! to another one, the target. The operator orders it. The source refuses it, or freezes the session
+//! and sends it away. The target sends it back, or takes it and reports so once its routes are heard.
+//! The source reports how the graft ended. This crate has these steps with their refusals, the items
+//! that routers, far sides and the operator send one another, the operator's log, and what an actor
+//! still has to do.
 //!
-//! No call takes memory but `copy`.
+//! No call except `copy` allocates memory.
 #![tactic(auto)]
 
 mod admission;

@@ -3,16 +3,16 @@
 use crate::refusal::Outcome;
 use graft_edge::{Items, NoMemory, PeeringId, RouterId, TryCopy};
 
-/// The grafts of a script, in the order of their numbers: those of its graft steps, and those that its evacuate
-/// steps made as their groups began.
+/// The grafts of a script, in the order of their numbers: those of its graft steps, and those that its
+/// evacuate steps made when their groups began.
 pub type GraftLog = Items<GraftEntry>;
 
-/// A graft in the log: its number, its peering, the router that it was ordered at, which is none until
-/// then, its target, and how far it is.
+/// A graft in the log: its number, its peering, the router at which it was ordered, which is none
+/// before it is ordered, its target, and how far it is.
 ///
-/// Numbers count from 1 over the script. A graft step takes one, and an evacuate step one for each
-/// peering of the laboratory, in their order. Where no router has a free place for a session of a
-/// router that is emptied, source and target are that router, and the graft ended with `NoTarget`.
+/// Numbers count from 1 over the script. A graft step takes one number, and an evacuate step one for
+/// each peering of the laboratory, in their order. If no router has a free place for a session of a
+/// router that is evacuated, source and target are that router, and the graft ended with `NoTarget`.
 #[derive(Debug, Drop)]
 pub struct GraftEntry {
     pub graft: u32,
@@ -22,10 +22,10 @@ pub struct GraftEntry {
     pub stage: GraftStage,
 }
 
-/// How far a graft is, as the operator knows.
+/// How far a graft is, as far as the operator knows.
 #[derive(Debug, Drop)]
 pub enum GraftStage {
-    /// It wasn't ordered yet.
+    /// It isn't ordered yet.
     Waiting,
     /// It was ordered, and the source hasn't reported.
     Issued,

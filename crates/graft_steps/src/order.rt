@@ -1,5 +1,6 @@
-//! A graft at its source, step by step: ordered, frozen, away; and at its target: landed. Each step is a type of its own, which
-//! only the step before it makes and the next one uses up, so no step is skipped and none is made twice.
+//! A graft at its source, step by step: ordered, frozen, away; and at its target: landed. Each step is
+//! a type of its own, which only the step before it creates and the next one consumes, so no step is
+//! skipped and none is made twice.
 
 ghost use Rattle.std.specs.Prelude.{◌≡◌, ◌<◌, ◌+◌, ◌-◌, ◌^◌, IfOk, IfSome, IfNone, MatchBool};
 ghost use Rattle.std.specs.Result.{result_err};
@@ -11,8 +12,8 @@ use bgp_types::SessionState;
 use graft_edge::{PeeringId, RouterId};
 use std::marker::Model;
 
-/// Which graft it is: its number, which counts the graft steps of the script from 1, the peering
-/// whose session moves, the router that holds the session, and the one that is to take it.
+/// Identifies a graft: its number, which counts the graft steps of the script from 1, the peering whose
+/// session moves, the router that holds the session, and the one that is to take it.
 #[derive(Clone, Copy, Debug, PartialEq, Eq, Hash)]
 pub struct GraftIds {
     pub graft: u32,
@@ -27,21 +28,22 @@ pub struct Ordered {
     ids: GraftIds,
 }
 
-/// A graft whose session is frozen at the source: it takes nothing in and gives nothing out until it
-/// is sent away.
+/// A graft whose session is frozen at the source: the session neither receives nor sends until it is
+/// sent away.
 #[derive(Debug, Drop)]
 pub struct Frozen {
     ids: GraftIds,
 }
 
-/// A graft whose session was sent to the target, and of which the source waits to hear.
+/// A graft whose session was sent to the target, and whose answer the source awaits.
 #[derive(Debug, Drop)]
 pub struct Away {
     ids: GraftIds,
 }
 
-/// A graft whose session has landed at its target, where the source isn't told of that yet. Before it is, each router that is neither
-/// source nor target is asked, one after another, whether it has heard what the target told.
+/// A graft whose session has landed at its target, before the source is told of it. First each router
+/// that is neither source nor target is asked, one after another, whether it has heard what the target
+/// told.
 #[derive(Debug, Drop)]
 pub struct Landed {
     ids: GraftIds,
@@ -100,10 +102,10 @@ impl Ordered {
         self.ids
     }
 
-    /// Freezes the session, which is in this state and has this hold time in seconds, 0 where it has
-    /// no hold timer. `SameRouter` comes exactly where the target is the source, else
-    /// `NotEstablished` exactly where the session isn't established, else `HoldTooShort` exactly where
-    /// its hold time is 1 to 29. A refusal ends the graft: look at its `ids` before, to report it.
+    /// Freezes the session, which is in this state and has this hold time in seconds, 0 if it has no
+    /// hold timer. The result is `SameRouter` if and only if the target is the source, else
+    /// `NotEstablished` if and only if the session isn't established, else `HoldTooShort` if and only
+    /// if its hold time is 1 to 29. A refusal ends the graft: read its `ids` before, to report it.
     pub fn freeze(self, state: SessionState, hold: u32) -> Result<Frozen, Refusal>
         ensures refusal { result_err result ≡ freeze_refusal self.source self.target state hold }
         ensures frozen { IfOk result (λ frozen. frozen ≡ self) }
@@ -129,7 +131,7 @@ impl Frozen {
         self.ids
     }
 
-    /// The session leaves for the target.
+    /// Sends the session to the target.
     pub fn leave(self) -> Away
         ensures { result ≡ self }
     {
@@ -144,15 +146,15 @@ impl Away {
         self.ids
     }
 
-    /// The target took the session, so the source keeps nothing of it: the graft is accepted.
+    /// Ends the graft as accepted: the target took the session, so the source keeps nothing of it.
     pub fn cleared(self) -> Outcome
         ensures { result ≡ Outcome.Accepted }
     {
         Outcome::Accepted
     }
 
-    /// The target sent the session back, so the source holds it again: the graft is refused, for the
-    /// reason that the target gave.
+    /// Ends the graft as refused, for the reason that the target gave: the target sent the session
+    /// back, so the source holds it again.
     pub fn turned_back(self, refusal: Refusal) -> Outcome
         ensures { result ≡ Outcome.Refused refusal }
     {
@@ -161,7 +163,7 @@ impl Away {
 }
 
 impl Landed {
-    /// No router was asked yet.
+    /// Returns a graft that has landed, before any router is asked.
     pub fn new(graft: u32, peering: PeeringId, source: RouterId, target: RouterId) -> Landed
         ensures { result ≡ record { ids = record { graft = graft; peering = peering; source = source; target = target }; next = 0 } }
     {
@@ -182,8 +184,9 @@ impl Landed {
         self.ids
     }
 
-    /// The router that is to answer next, of so many: the first that was not asked, and is neither source nor target. None where all have
-    /// answered.
+    /// Returns the router that is to answer next, of `routers` routers: the first that wasn't asked, or
+    /// that was asked last and hasn't answered, and that is neither source nor target. Returns `None`
+    /// if all have answered.
     pub fn next(&self, routers: u32) -> Option<u32>
         ensures some { IfSome result (λ q. IsNextToAsk self.now.ids.source.0 self.now.ids.target.0 routers self.now.next q) }
         ensures none { IfNone result (AreAllAsked self.now.ids.source.0 self.now.ids.target.0 routers self.now.next) }
@@ -198,14 +201,14 @@ impl Landed {
         None
     }
 
-    /// Whether this router is the one that is to answer, for this graft.
+    /// Whether this router is the one whose answer is awaited, for this graft.
     pub fn awaits(&self, graft: u32, router: u32) -> bool
         ensures { MatchBool result ((self.now.ids.graft ≡ graft) × (self.now.next ≡ router)) (¬ ((self.now.ids.graft ≡ graft) × (self.now.next ≡ router))) }
     {
         self.ids.graft == graft && self.next == router
     }
 
-    /// This router is asked.
+    /// Records that this router is asked.
     pub fn asked(self, router: u32) -> Landed
         ensures { result ≡ record self { next = router } }
     {
@@ -215,7 +218,7 @@ impl Landed {
         }
     }
 
-    /// The router that was asked has answered.
+    /// Records that the router that was asked has answered.
     pub fn answered(self) -> Landed
         requires { self.next < 2 ^ 32 - 1 }
         ensures { result ≡ record self { next = self.next + 1 } }
@@ -226,7 +229,7 @@ impl Landed {
         }
     }
 
-    /// The source is told, by which the graft has ended here.
+    /// Ends the graft at its target: the source is told.
     pub fn confirmed(self) -> GraftIds
         ensures { result ≡ self.ids }
     {

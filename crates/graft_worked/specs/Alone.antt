@@ -1,4 +1,4 @@
--- What all fields of a claim but one say of a world in which the session is to be at router b: so that this one field may be false alone.
+-- The claims without one field, for a world in which the session is to be at router b, so that this field may be the only false one.
 use Rattle.std.specs.Prelude.{◌≡◌, ◌≢◌, [], ◌∷◌, Some, None}
 use Rattle.std.specs.FinMap as map
 use Rattle.bgp_types.specs.Prefixes.{PrefixValue}

@@ -11,7 +11,7 @@ use Rattle.graft_worked.specs.Graft.{session}
 abbrev pub three : Setup
 three = record base { routers = router_a ∷ router_b ∷ router_b ∷ [] }
 
--- the target, with this to be done for the graft of the session that has landed there
+-- the target, with this errand of the session that has landed there
 abbrev pub target_with : Errand → RouterPart
 target_with errand = record idle_router { places = at (λ p. Vacant) 0 (Live session (Some errand)) }
 

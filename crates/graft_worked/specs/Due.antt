@@ -1,4 +1,4 @@
--- Parts of routers in which another best route is due where it isn't to be told.
+-- Parts of routers in which a new best route is due where it shouldn't be.
 use Rattle.std.specs.Prelude.{None}
 use Rattle.std.specs.FinMap as map
 use Rattle.graft_model.specs.Points.{at}
@@ -11,7 +11,7 @@ use Rattle.graft_worked.specs.Graft.{ten_alone, a_cleared, a_decided, b_decided}
 abbrev pub b_due_to_itself : RouterPart
 b_due_to_itself = record b_decided { due_in = two map.empty ten_alone ten_alone }
 
--- it is due on a peering too whose place is vacant
+-- the route is due on a peering whose place is vacant, too
 abbrev pub b_due_on_vacant : RouterPart
 b_due_on_vacant = record b_decided { due_out = two map.empty ten_alone ten_alone }
 

@@ -23,7 +23,7 @@ emptying room_of_b = record {
   steps = EvacuateStep 0 ∷ SettleStep ∷ [];
 }
 
--- the operator as the first group begins, where b has room for four sessions, and where it has room for the one that starts there
+-- the operator as the first group begins, first with room for four sessions at b, then with room only for the one that starts there
 abbrev pub with_room : OperatorPart
 with_room = first_operator (emptying 4)
 

@@ -29,6 +29,6 @@ far_first = record idle_far { end = record fresh_endpoint { stream = open_bytes 
 abbrev pub operator_first : OperatorPart
 operator_first = record { group = 0; issued = λ n. false; given = λ k. Unmade; source = λ k. None; outcome = λ k. None }
 
--- Router b has nothing, and nothing is on its way.
+-- Router b has nothing, and all channels are empty.
 abbrev pub first : World
 first = world_of a_first idle_router far_first operator_first nothing

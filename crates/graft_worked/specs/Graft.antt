@@ -34,11 +34,11 @@ put_all = framed 1 (0x04 ∷ 0xFD ∷ 0xE8 ∷ 0x00 ∷ 0x00 ∷ 0x0A ∷ 0xFF �
 abbrev pub said_all : List ℕ
 said_all = open_bytes ++ (keepalive_bytes ++ update_bytes)
 
--- bytes that stand from place 0 on
+-- bytes from place 0 on
 abbrev pub from_zero : List ℕ → Bytes
 from_zero bytes = map.from_sorted (enumerate_from 0 bytes)
 
--- Each has all that the other sent, 91 and 48 bytes, and knows that the other has all.
+-- Each has received all that the other sent, 91 and 48 bytes, and knows that the other has received all.
 abbrev pub home_end : Endpoint
 home_end = record { stream = put_all; emitted = 48; acked = 48; arrived = from_zero said_all; read = 91; owed = true }
 
@@ -138,7 +138,7 @@ a_decided = record a_cleared { best = at_ten (over_router 1); dirty = map.empty;
 abbrev pub a_after : RouterPart
 a_after = record a_decided { due_in = λ q. map.empty }
 
--- what b owes to a
+-- the word that b owes to a
 abbrev pub to_a : Word
 to_a = record { graft = 1; source = 0; next = 0 }
 
@@ -208,6 +208,6 @@ graft_events =
     ∷ ByRouter 1 (Decide ten)
     ∷ []
 
--- the last world, with the source's entry kept: the shadow's routes never went
+-- the last world, with the source's entry kept: the shadow's routes were never removed
 abbrev pub with_entry_kept : World
 with_entry_kept = world_of (record a_after { entries = at (λ p. map.empty) 0 (at_ten entry) }) b_after far_after operator_after nothing

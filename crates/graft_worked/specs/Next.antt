@@ -1,4 +1,4 @@
--- What all conditions but one say of an UPDATE that is put, and parts of router a of which one condition alone is false.
+-- The row of an UPDATE that is put without one of its conditions, and parts of router a for which only one condition is false.
 use Rattle.std.specs.Prelude.{◌≡◌, ◌≢◌, ℕ, List, [], ◌∷◌, ◌++◌, length, Option, None, false}
 use Rattle.std.specs.FinMap as map
 use Rattle.std.specs.List.{list_any}
@@ -53,7 +53,7 @@ pub record PutsSomeBut (but : Condition) (setup : Setup) (r p n : ℕ) (before :
 
 -- ---- two prefixes are due, whose attributes differ
 
--- 9.0.0.0/8, which stands before 10.0.0.0/8
+-- 9.0.0.0/8, which comes before 10.0.0.0/8
 abbrev pub nine : PrefixValue
 nine = record { address = 0x09000000; len = 8 }
 

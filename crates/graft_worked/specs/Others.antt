@@ -20,7 +20,7 @@ with_stray = world_of a_after b_after far_after operator_after (record nothing {
 abbrev pub without_stray : World
 without_stray = world_of a_after b_after far_after operator_after nothing
 
--- The remote beats, with a hold time of 90 seconds in force: it says a KEEPALIVE in each round that is a multiple of 30.
+-- The remote says KEEPALIVEs at an interval, with a hold time of 90 seconds in force: one in each round that is a multiple of 30.
 abbrev pub beating : Setup
 beating = record base { peerings = record peering_c { config = record config { home_hold = 90 }; beats = true } ∷ [] }
 
@@ -34,7 +34,7 @@ with_segment = world_of a_first idle_router far_sent operator_before nothing
 abbrev pub without_segment : World
 without_segment = world_of a_first idle_router far_emitted operator_before nothing
 
--- the session with a hold time of 90 seconds, established; and after its first round, which asks for no answer
+-- the session with a hold time of 90 seconds, established; and after its first round, which needs no answer
 abbrev pub session_timed : SessionValue
 session_timed = record {
   config = record config { home_hold = 90 };

@@ -1,4 +1,4 @@
--- Worlds of two routers and one peering, written as what each of them has.
+-- Worlds of two routers and one peering, written by what each of them has.
 use Rattle.std.specs.Prelude.{ℕ, ◌==◌, List, [], if◌then◌else◌}
 use Rattle.std.specs.FinMap as map
 use Rattle.tcp_seq.specs.Endpoint.{PlacedSegment, fresh_endpoint}

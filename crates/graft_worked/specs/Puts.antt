@@ -1,4 +1,4 @@
--- A world in which an UPDATE is put: 10.0.0.0/8 is a network of router b's own, which router a heard and is to tell on the session.
+-- A world in which an UPDATE is put: 10.0.0.0/8 is a network of router b's own, which router a has heard and is to tell on the session.
 use Rattle.std.specs.Prelude.{ℕ, List, [], ◌∷◌, ◌++◌, None}
 use Rattle.std.specs.FinMap as map
 use Rattle.bgp_types.specs.declared.rank.From.TheVariants as from

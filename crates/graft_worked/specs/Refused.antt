@@ -1,5 +1,6 @@
--- A laboratory in which each graft is refused: router b has no room, and the graft stands in the first group. Ordered at once it is refused at the source, whose
--- session isn't established yet; ordered once it is, the session is frozen with bytes that it hasn't got, leaves, and router b turns it back.
+-- A laboratory in which each graft is refused: router b has no room, and the graft is in the first group. If it is ordered at once, it is refused at
+-- the source, whose session isn't established yet. If it is ordered once the session is established, the session is frozen with bytes that it hasn't
+-- got, leaves, and router b turns it back.
 use Rattle.std.specs.Prelude.{ℕ, List, [], ◌∷◌, ◌++◌, Bool, Some, None, true, false}
 use Rattle.bgp_types.specs.declared.message.SessionState.TheVariants.{OpenSent}
 use Rattle.bgp_story.specs.WorkedSessions.{update_bytes}

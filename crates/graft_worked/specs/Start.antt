@@ -86,7 +86,7 @@ b_dirty = record idle_router { tellings = at (λ q. map.empty) 0 (at_ten route);
 abbrev pub b_chosen : RouterPart
 b_chosen = record b_before { due_in = at (λ q. map.empty) 0 ten_alone }
 
--- ---- the world in which the session is established, and nothing of the UPDATE is got
+-- ---- the world in which the session is established, and none of the UPDATE was got
 
 abbrev pub joined_world : World
 joined_world = world_of (a_with session_joined) idle_router far_emitted operator_before nothing

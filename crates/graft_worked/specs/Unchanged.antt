@@ -1,5 +1,5 @@
--- What all fields but one say of a run that leaves frozen sessions as they are, and worlds from which events lead to another session than the one that was
--- frozen, or to another place. No run of the laboratory leads to these worlds: a capsule for the graft is on its way in them before the freeze.
+-- `Unchanged` without one field, and worlds from which events lead to a session other than the frozen one, or to another place. No run of the
+-- laboratory leads to these worlds: a capsule for the graft is on its way in them before the freeze.
 use Rattle.std.specs.Prelude.{ℕ, ◌≡◌, ◌≢◌, List, [], ◌∷◌, ◌++◌, Some, None}
 use Rattle.graft_steps.specs.declared.refusal.Refusal.{Refusal}
 use Rattle.graft_steps.specs.declared.refusal.Refusal.TheVariants.{RouterFull}
@@ -32,7 +32,7 @@ pub record UnchangedBut (but : Field) (setup : Setup) (first : World) (events : 
       → Run setup first begun w₁ → Step setup (ByRouter r (Refuse k)) w₁ w₂
       → (sessions_of setup w₂ p ≡ sessions_of setup w₁ p) × ((q : ℕ) → sessions_at ((w₂.router q).places p) ≡ sessions_at ((w₁.router q).places p))
 
--- the worked graft as its session has landed
+-- the worked graft once its session has landed
 abbrev pub with_landing : World
 with_landing = world_of a_left b_landed far_before operator_ordered (record nothing { out_b = PointAt 1 ∷ [] })
 

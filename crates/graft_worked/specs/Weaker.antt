@@ -1,4 +1,5 @@
--- Worlds in which one field of a claim is false, and all others hold: each is the last world of the worked graft, or the one before it, with one thing changed.
+-- Worlds in which one field of a claim is false, and all others hold. Each is the last world of the worked graft, or the one before it, with one
+-- thing changed.
 use Rattle.std.specs.Prelude.{[], ◌∷◌, ◌++◌, Some, None, false}
 use Rattle.std.specs.FinMap as map
 use Rattle.bgp_story.specs.declared.line.Line.TheVariants.{Got}
@@ -48,7 +49,7 @@ opened_twice = record session { story = heard_lines 0 ++ sent_lines 0 }
 abbrev pub with_second_open : World
 with_second_open = with_session opened_twice
 
--- received: an octet more than was put
+-- received: one octet more than was put
 abbrev pub with_octet_received : World
 with_octet_received = with_remote (record remote_end { arrived = from_zero (put_all ++ 0 ∷ []) })
 
@@ -135,7 +136,7 @@ with_segment_homeward = with_far (record far_after { homeward = empty_segment �
 abbrev pub with_segment_remoteward : World
 with_segment_remoteward = with_far (record far_after { remoteward = empty_segment ∷ [] })
 
--- decided, told_in, told_out: the prefix is to be decided, or due
+-- decided, told_in, told_out: the prefix is dirty, or due
 abbrev pub with_prefix_dirty : World
 with_prefix_dirty = with_b (record b_after { dirty = ten_alone })
 

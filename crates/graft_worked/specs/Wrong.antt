@@ -1,4 +1,4 @@
--- Worlds to which wrong rules would lead on the way of the worked graft.
+-- Worlds to which wrong rules would lead during the worked graft.
 use Rattle.std.specs.Prelude.{[], ◌∷◌, Some, None}
 use Rattle.bgp_story.specs.WorkedSessions.{ten}
 use Rattle.graft_model.specs.Parts.{Live, Owing, Told, Moved, PointAt, World}
@@ -6,7 +6,7 @@ use Rattle.graft_worked.specs.Places.{holding, nothing, world_of}
 use Rattle.graft_worked.specs.First.{session_first}
 use Rattle.graft_worked.specs.Graft.{session, a_frozen, a_left, a_after, b_before, b_landed, b_put, to_a, far_before, far_after, operator_ordered, operator_after}
 
--- the session has left, and its source holds it all the same
+-- the session has left, and its source still holds it
 abbrev pub with_session_kept : World
 with_session_kept = world_of a_frozen b_before far_before operator_ordered (record nothing { to_b = Moved 1 0 session ∷ [] })
 
@@ -14,6 +14,6 @@ with_session_kept = world_of a_frozen b_before far_before operator_ordered (reco
 abbrev pub with_session_begun_again : World
 with_session_begun_again = world_of a_left (holding b_landed (Live session_first (Some (Owing to_a)))) far_before operator_ordered (record nothing { out_b = PointAt 1 ∷ [] })
 
--- all is done but for one item that is on its way between the routers
+-- all is done except that one item is still on its way between the routers
 abbrev pub with_telling_on_its_way : World
 with_telling_on_its_way = world_of a_after b_put far_after operator_after (record nothing { to_b = Told ten None ∷ [] })

@@ -1,8 +1,9 @@
-//! What holds of the worked worlds. Each of the 32 kinds of events has among them a world in which it can happen, and one in which it can't:
+//! Laws of the worked worlds. For each of the 32 kinds of events there is a world among them in which it can happen,
+//! and one in which it can't:
 //!
 //! | Kinds | Can happen | Can't happen, of router a, router b, the far side or the operator |
 //! |---|---|---|
-//! | Order, Say, Send, Pass, Arrive, Got, Emit, Take, Reach, Decide, Put of none, Tell, Hear | on the way from the first world (`base_runs_to_its_end`) | at its end (`some_events_never_happen`; of Emit and Send `nothing_is_sent_at_the_end`) |
+//! | Order, Say, Send, Pass, Arrive, Got, Emit, Take, Reach, Decide, Put of none, Tell, Hear | in the run from the first world (`base_runs_to_its_end`) | at its end (`some_events_never_happen`; of Emit and Send `nothing_is_sent_at_the_end`) |
 //! | Go, Admit, Freeze, Leave, Land, Point, Confirm, Clear, Note | in the graft (`a_graft_runs_to_its_end`) | at its end |
 //! | Put of one | `an_update_may_be_put` | at its end |
 //! | Refuse, TurnBack, Return | in grafts that are refused (`refused_grafts_run_to_their_end`) | at its end |
@@ -43,13 +44,13 @@ pub fn base_is_a_setup()
     ensures setup { IsSetup base }
 {}
 
-/// The worked setup begins with its session at router a, its OPEN put and not emitted, the remote's OPEN and KEEPALIVE said, the link to a,
-/// and nothing dirty, due or on its way.
+/// The worked setup begins with its session at router a, with its OPEN put and not emitted. The remote has said its
+/// OPEN and a KEEPALIVE, the link points at a, and nothing is dirty, due or on its way.
 pub fn base_begins()
     ensures world { first_world base ≡ first }
 {}
 
-/// The worked graft, from one quiet world to another. The last world is transparent and solves, and it doesn't solve where
+/// The worked graft, from one quiet world to another. The last world is transparent and solves, and it doesn't solve if
 /// the source's entry is kept.
 pub fn a_graft_runs_to_its_end()
     ensures before { Quiet base before_graft }
@@ -82,7 +83,8 @@ pub fn other_events_may_happen()
     ensures tick { Step others.beating (ByRouter 0 (Tick 0 1)) others.with_round_due others.with_round }
 {}
 
-/// Where there is a third router, the target of a graft asks it before it tells the source; the third answers, and its answer is counted once. Word isn't given before.
+/// If there is a third router, the target of a graft asks it before it tells the source; the third answers, and its
+/// answer is counted once. Word isn't given before.
 pub fn every_router_is_asked()
     ensures asked { router_row three 1 (Ask 1 2) landed None (MeshTo 2 (Asked 1 0) ∷ []) asking }
     ensures answered { router_row three 2 (Answer 1) idle_router (Some (MeshIn 1 (Asked 1 0))) (MeshTo 1 (Answered 1 0) ∷ []) idle_router }
@@ -92,9 +94,9 @@ pub fn every_router_is_asked()
     ensures not_before { (taken : Option RouterTaken) (sent : List RouterSent) (after : RouterPart) → ¬ router_row three 1 (Confirm 1) landed taken sent after }
 {}
 
-/// A router of three sessions is emptied in the first group. The first session goes to router c, which has one free place, and the other two go to router b.
-/// Where b has no free place, these two stay. The session at b is given nothing. A graft that has a target may be ordered under its number; none is ordered for a
-/// session that stays or is elsewhere.
+/// A router of three sessions is emptied in the first group. The first session goes to router c, which has one free
+/// place, and the other two go to router b. If b has no free place, these two stay. The session at b is given nothing.
+/// A graft that has a target may be ordered under its number; none is ordered for a session that stays or is elsewhere.
 pub fn emptied_routers_are_worked()
     ensures setup { IsSetup (emptying 4) }
     ensures first { with_room.given 1 ≡ To 2 }
@@ -133,22 +135,24 @@ pub fn nothing_is_sent_at_the_end()
     ensures send_elsewhere { (from len : ℕ) (after : World) → from ≢ 91 → ¬ Step base (ByFar 0 (Send from len)) after_graft after }
 {}
 
-/// The last world doesn't solve where the link still points at the source.
+/// The last world doesn't solve if the link still points at the source.
 pub fn a_link_left_behind_solves_nothing()
     ensures { ¬ Solves base with_link_at_source }
 {}
 
-/// Worlds to which wrong rules would lead on the way of the worked graft are none that is claimed. Where the source keeps the session that left, there are two;
-/// where the target begins a new one, its OPEN is put again, and the remote received what that one never put; and where an item between routers
-/// is forgotten, the tables don't solve though all else is done.
+/// The worlds to which wrong rules would lead during the worked graft violate the claims. If the source keeps the
+/// session that left, there are two sessions. If the target begins a new one, its OPEN is put again, and the remote
+/// received bytes that the new one never put. If an item between routers is forgotten, the tables don't solve though
+/// all else is done.
 pub fn wrong_rules_lead_elsewhere()
     ensures kept { ¬ Transparent base with_session_kept 0 }
     ensures begun_again { ¬ Transparent base with_session_begun_again 0 }
     ensures forgotten { ¬ Solves base with_telling_on_its_way }
 {}
 
-/// Every field of what is called transparent or solved is needed: each of these worlds differs in one thing from the last world of the worked graft, which
-/// makes that field false, and all other fields hold there (`fields_are_false_alone`). The laws above have such worlds for `one`, `linked` and `tellings`.
+/// Every field of `Transparent` and of `Solves` is needed. Each of these worlds differs in one thing from the last
+/// world of the worked graft, which makes that field false, while all other fields hold (`fields_are_false_alone`). The
+/// laws above have such worlds for `one`, `linked` and `tellings`.
 pub fn each_field_of_a_claim_can_be_false()
     ensures own { ¬ Transparent base weaker.with_other_address 0 }
     ensures legal { ¬ Transparent base weaker.with_second_open 0 }
@@ -166,8 +170,8 @@ pub fn each_field_of_a_claim_can_be_false()
     ensures best { ¬ Solves base weaker.with_best_missing }
 {}
 
-/// In each of the worlds of `each_field_of_a_claim_can_be_false`, and in three more that aren't as claimed, all fields of the claim but one hold.
-/// Where no field is left out, that is the claim.
+/// In each of the worlds of `each_field_of_a_claim_can_be_false`, and in three more that violate a claim, all fields of
+/// the claim but one hold. With no field left out, this is the claim itself.
 pub fn fields_are_false_alone()
     ensures transparent { (w : World) (s : SessionValue) → alone.TransparentBut alone.Best w s → Transparent base w 0 }
     ensures solves { (w : World) (s : SessionValue) → alone.SolvesBut alone.Own w s → Solves base w }
@@ -191,7 +195,7 @@ pub fn fields_are_false_alone()
     ensures tellings { alone.SolvesBut alone.Tellings with_telling_on_its_way session }
 {}
 
-/// Every field of what is called quiet is needed, in the same way; of `places` each part is.
+/// Every field of `Quiet` is needed in the same way, and so is each part of its field `places`.
 pub fn each_field_of_quiet_can_be_false()
     ensures mesh { ¬ Quiet base weaker.with_word_on_its_way }
     ensures outward { ¬ Quiet base weaker.with_segment_outward }

@@ -1,5 +1,5 @@
-//! The world of `graft_model` tried on worked worlds: a laboratory of two routers and one peering, from its first world over a graft to
-//! its end, every event written out.
+//! The world of `graft_model` tried on worked worlds: a laboratory of two routers and one peering, from its first world
+//! through a graft to its end, every event written out.
 #![tactic(auto)]
 
 mod frozen_sessions;

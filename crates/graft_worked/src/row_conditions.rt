@@ -1,4 +1,4 @@
-//! Conditions of an event's row, each with a part of a router that it alone forbids.
+//! Conditions of an event's row, each with a part of a router that only this condition forbids.
 
 ghost use Rattle.std.specs.Prelude.{ℕ, List, [], Option, None};
 ghost use Rattle.bgp_story.specs.WorkedSessions.{ten};
@@ -13,9 +13,10 @@ ghost use Rattle.graft_worked.specs.Graft.{b_landed, b_decided};
 ghost use Rattle.graft_worked.specs.Next as next;
 ghost use Rattle.graft_worked.specs.Puts.{a_to_put, a_has_put};
 
-/// An UPDATE takes the prefixes that are to be told the same as the first one of all, as many as its event says. Where 9.0.0.0/8 and 10.0.0.0/8 are due with
-/// different attributes, the second one isn't put first: that it isn't the first one of all forbids it, and that its attributes aren't those of the
-/// first one, and without either of the two it is allowed. One prefix alone isn't put as two, and that is forbidden by the count alone.
+/// An UPDATE takes the prefixes that are to be told the same as the first one of all, as many as its event says. If
+/// 9.0.0.0/8 and 10.0.0.0/8 are due with different attributes, the second one isn't put first. Two conditions together
+/// forbid it: that an UPDATE begins with the first one of all, and that its attributes are those of the first one.
+/// Without either of them it is allowed. One prefix isn't put as two; only the count forbids that.
 pub fn an_update_is_the_next_one()
     ensures none_lost { (but : next.Condition) (setup : Setup) (r p n : ℕ)
         (before : RouterPart) (taken : Option RouterTaken) (sent : List RouterSent) (after : RouterPart)
@@ -31,8 +32,8 @@ pub fn an_update_is_the_next_one()
     ensures told_first { next.PutsSomeBut next.ToldFirst base 0 0 1 next.a_two_due None [] next.a_second_put }
 {}
 
-/// Another best route is due to the other routers, and on the peerings whose session is established here: not to the router itself, not on a peering whose
-/// place is vacant, and not on a session that has only put its OPEN.
+/// A new best route is due to the other routers, and on the peerings whose session is established here: not to the
+/// router itself, not on a peering whose place is vacant, and not on a session that has only put its OPEN.
 pub fn a_best_route_is_due_to_others()
     ensures due { router_row base 1 (Decide ten) b_landed None [] b_decided }
     ensures itself { ¬ router_row base 1 (Decide ten) b_landed None [] due.b_due_to_itself }

@@ -1,4 +1,4 @@
-//! The program `graftlab`: does what its words say, with standard input and standard output.
+//! The program `graftlab`: does the command that its words name, with standard input and standard output.
 #![tactic(auto)]
 
 use graft_edge::{FreeGate, NoMemory, StdSink, StdSource, Words};
@@ -7,8 +7,7 @@ use std::env::Env;
 use std::process::ExitCode;
 use std::{env, io};
 
-/// The words after the program's name. A word that isn't UTF-8 makes the line no command, as an
-/// empty word does.
+/// Returns the words after the program's name. A word that isn't UTF-8 makes the line no command, like an empty word.
 fn words_of(rt: &(impl Env + AllocGlobal)) -> Result<Words, NoMemory> {
     let mut words = Words::new(rt.alloc());
     match env::args(rt) {

@@ -1,16 +1,16 @@
 //! Reads cases of inputs and prints what each one is read as. What the library gives is proved; these
 //! are worked cases in TOML as people write it, with answers from the rules of its keys.
 //!
-//! The text has parts, which a line `====` parts. A part begins with an input. A case is a line `== what
-//! it shows`, and behind it changes of that input, a line each:
+//! The text has parts, separated by lines `====`. A part begins with an input. A case is a line `== what
+//! it shows`, followed by changes of that input, one a line:
 //!
-//! - `-line` leaves this line out, and the lines that follow as `+line` stand in its place;
+//! - `-line` leaves this line out, and the lines that follow as `+line` replace it;
 //! - `>line` is a line of an input of its own;
-//! - `*n text` stands for the text n times, in place of `+` or `>`: `\n` in it ends a line, and in the copy
-//!   with the number k, from 0, `@0` is k modulo 256, `@1` is k divided by 256, and `@n` is k + 1;
-//! - `!crlf` ends lines by CR and LF, `!bom` puts a byte order mark in front, `!pad n` adds a comment up to n
-//!   bytes, and `!byte n` puts a byte in place of all;
-//! - `!show` asks for the whole of an input that is accepted; without it a line says that it is one.
+//! - `*n text` is the text n times, in place of `+` or `>`: `\n` in it ends a line, and in copy k, counted
+//!   from 0, `@0` is k modulo 256, `@1` is k divided by 256, and `@n` is k + 1;
+//! - `!crlf` ends lines by CR and LF, `!bom` adds a byte order mark at the start, `!pad n` adds a comment up to n
+//!   bytes, and `!byte n` replaces everything by one byte;
+//! - `!show` prints an accepted input in full; without it a line says that the input is accepted.
 #![tactic(auto)]
 
 use bgp_types::{Address, PrefixList};
@@ -19,7 +19,7 @@ use std::alloc::{AllocError, Global};
 use std::fmt::Write;
 use std::io;
 
-/// Adds a line of the copy with the number `k`.
+/// Appends a line of copy `k`.
 fn put_numbered(text: &mut String, line: &str, k: u32) -> Result<(), AllocError> {
     let mut pieces = line.split('@');
     if let Some(first) = pieces.next() {
@@ -39,7 +39,7 @@ fn put_numbered(text: &mut String, line: &str, k: u32) -> Result<(), AllocError>
     Ok(())
 }
 
-/// Adds copies of a text.
+/// Appends copies of a text.
 fn put_copies(text: &mut String, change: &str) -> Result<(), AllocError> {
     let (count, copy) = change.split_once(" ").unwrap_or((change, ""));
     for k in 0..count.parse::<u32>().unwrap_or(0) {
@@ -51,7 +51,7 @@ fn put_copies(text: &mut String, change: &str) -> Result<(), AllocError> {
     Ok(())
 }
 
-/// Adds a line that a change puts in.
+/// Appends a line that a change adds.
 fn put_in(text: &mut String, change: &str) -> Result<(), AllocError> {
     if let Some(copies) = change.strip_prefix("*") {
         return put_copies(text, copies);
@@ -67,7 +67,7 @@ fn put_in(text: &mut String, change: &str) -> Result<(), AllocError> {
     Ok(())
 }
 
-/// Adds a line of the input that a case changes, or what stands in its place.
+/// Appends a line of the input that a case changes, or the lines that replace it.
 fn put_line(text: &mut String, case: &str, line: &str) -> Result<(), AllocError> {
     let mut is_out = false;
     let mut is_here = false;
@@ -86,7 +86,7 @@ fn put_line(text: &mut String, case: &str, line: &str) -> Result<(), AllocError>
     Ok(())
 }
 
-/// The lines of a case.
+/// Returns the lines of a case.
 fn lines_of(alloc: Global, base: &str, case: &str) -> Result<String, AllocError> {
     let mut text = String::new(alloc);
     if case.lines().any(|change| change.starts_with(">")) {
@@ -101,7 +101,7 @@ fn lines_of(alloc: Global, base: &str, case: &str) -> Result<String, AllocError>
     Ok(text)
 }
 
-/// The same lines, ended by CR and LF.
+/// Returns the same lines, ended by CR and LF.
 fn with_crlf(alloc: Global, text: &str) -> Result<String, AllocError> {
     let mut other = String::new(alloc);
     for line in text.lines() {
@@ -111,7 +111,7 @@ fn with_crlf(alloc: Global, text: &str) -> Result<String, AllocError> {
     Ok(other)
 }
 
-/// The text with a comment behind it, so that it has so many bytes.
+/// Returns the text followed by a comment, so that it has `len` bytes.
 fn padded(alloc: Global, text: String, len: usize) -> Result<String, AllocError> {
     let mut text = text;
     text.push_str("#")?;
@@ -128,7 +128,7 @@ fn padded(alloc: Global, text: String, len: usize) -> Result<String, AllocError>
     Ok(text)
 }
 
-/// The input of a case.
+/// Returns the input of a case.
 fn input_of(alloc: Global, base: &str, case: &str) -> Result<String, AllocError> {
     let mut text = lines_of(alloc, base, case)?;
     for change in case.lines() {
@@ -145,7 +145,7 @@ fn input_of(alloc: Global, base: &str, case: &str) -> Result<String, AllocError>
     Ok(text)
 }
 
-/// The byte that stands in place of all, where a case has one.
+/// Returns the byte that replaces all, if a case has one.
 fn byte_of(case: &str) -> Option<u8> {
     let mut byte = None;
     for change in case.lines() {
@@ -218,7 +218,7 @@ fn print_input(rt: &HostRuntime, input: &LabInput) -> io::Result<()> {
     Ok(())
 }
 
-/// Prints what bytes are read as: an input whole, where it is to be shown.
+/// Prints what bytes are read as. An accepted input is printed in full if `is_shown`.
 fn print_read(rt: &HostRuntime, shows: &str, bytes: &[u8], is_shown: bool) -> io::Result<()> {
     match read_lab(rt.alloc(), bytes) {
         Ok(input) if is_shown => {

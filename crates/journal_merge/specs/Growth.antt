@@ -1,4 +1,4 @@
--- What a net did between two moments at which all of it was in one thread, however many phases, levels and calls at a mark lie between.
+-- What a net did between two moments at which all of it was in one thread, with any number of phases, levellings and calls at a mark between them.
 use Rattle.std.specs.Prelude.{ℕ, ◌≡◌, ◌≤◌, ◌<◌, ◌==◌, true, false, List, [], ◌∷◌, ◌++◌, length, map, filter, slice_index_or}
 use Rattle.std.specs.List.{AllByRecursion}
 use Rattle.ring_net.specs.declared.entry.JournalEntry.{JournalEntry}
@@ -11,7 +11,8 @@ abbrev pub noted_by : {I : Type 0} → ℕ → List (Noted I) → List (Noted I)
 noted_by k ns = filter (λ n. n.deed.entry.actor == k) ns
 
 module _ {I : Type 0} where
-  -- Up to a level, at this clock, the clocks of n actors are counted by their first events. It is the greatest of them. The rest of the events come after it.
+  -- Up to a levelling at this clock, the clocks of n actors are counted by their first events. It is the greatest of them. The rest of the events
+  -- come after it.
   pub record UpToLevel (n : ℕ) (before : ℕ → ℕ) (level : ℕ) (notes rest : ℕ → List (Noted I)) : Type 0 where
     pub first : ℕ → List (Noted I)
     pub after : ℕ → ℕ
@@ -19,20 +20,21 @@ module _ {I : Type 0} where
     pub clocked : (k : ℕ) → k < n → Clocked (before k) (first k) (after k)
     pub greatest : IsGreatest n after level
 
-  -- The clocks of n actors over their events: up to the first level, from there, where each clock is the level's, up to the next one, and so on.
+  -- The clocks of n actors over their events: up to the first levelling, from there, where each clock is that of the levelling, up to the next one,
+  -- and so on.
   abbrev pub ClockedOver : (n : ℕ) (before : ℕ → ℕ) (levels : List ℕ) (notes : ℕ → List (Noted I)) (after : ℕ → ℕ) → Type 0
   ClockedOver n before [] notes after = (k : ℕ) → k < n → Clocked (before k) (notes k) (after k)
   ClockedOver n before (level ∷ levels) notes after = (rest : ℕ → List (Noted I)) × UpToLevel n before level notes rest × ClockedOver n (λ k. level) levels rest after
 
 module _ {A P I : Type 0} (part : A → P) where
-  -- the actors are the parts, and the channels of the edges have the items
+  -- the parts of the world are the actors, and for each edge the items in flight are those in its channel
   pub record IsWorldOf (v : View A I) (w : World P I) : Type 0 where
     pub parts : (k : ℕ) (d : A) → k < length v.actors → w.part k ≡ part (slice_index_or v.actors k d)
     pub channels : (a b : ℕ) → v.edge a b ≡ true → w.channel a b ≡ map (λ x. x.item) (v.channel a b)
 
 module _ {A P I : Type 0} (part : A → P) (makes : Makes P I) where
-  -- Each actor is the replay of its events, which its journal has more; their clocks are exact, with levels at these clocks
-  -- in between; and what a channel held and was sent is what was taken from it and what it holds, in order.
+  -- Each actor is the replay of its events, which were added to its journal; their clocks are exact, with levellings at these clocks in between; and
+  -- what a channel held before and was sent is what was taken from it and what it holds, in order.
   pub record Grew (u v : View A I) (levels : List ℕ) (notes : ℕ → List (Noted I)) : Type 0 where
     pub size : length v.actors ≡ length u.actors
     pub replays : (k : ℕ) (d : A) → k < length u.actors → Replay makes k (part (slice_index_or u.actors k d)) (deeds (notes k)) (part (slice_index_or v.actors k d))
@@ -44,9 +46,9 @@ module _ {A P I : Type 0} (part : A → P) (makes : Makes P I) where
     pub carries : (a b : ℕ) → u.edge a b ≡ true → u.channel a b ++ sent_to b (notes a) ≡ taken_from a (notes b) ++ v.channel a b
     pub apart : (a b : ℕ) → u.edge a b ≡ false → taken_from a (notes b) ≡ []
 
-  -- A run of events with these entries, from a world of one view to one of another. Each actor's events are its own, in order,
-  -- and their clocks are exact: what an event takes from a channel has the clock of the event that sent it as its stamp. Where
-  -- no edge leads, the model's channel grows by what was sent there, which the net drops.
+  -- A run of events with these entries, from a world of one view to a world of another. Each actor's events are its own, in order, and their clocks
+  -- are exact: what an event takes from a channel has as its stamp the clock of the event that sent it. Where no edge leads, the model's channel
+  -- grows by what was sent there, which the net drops.
   pub record RunsTo (u : View A I) (w : World P I) (levels : List ℕ) (notes : ℕ → List (Noted I)) (entries : List JournalEntry) (v : View A I) : Type 0 where
     pub events : List (Noted I)
     pub same : entries_of events ≡ entries

@@ -1,4 +1,5 @@
-//! The journals of a net's actors as one list, which is a run of the world that the actors are.
+//! Merges the journals of a net's actors into one list, which is a run of the world that the actors
+//! make up.
 #![tactic(auto)]
 
 mod laws;

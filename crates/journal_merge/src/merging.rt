@@ -8,14 +8,14 @@ use graft_edge::{Items, NoMemory};
 use ring_net::{Journal, JournalEntry, Journals};
 use std::alloc::Global;
 
-/// Whether an entry stands before another: by clock, and at one clock by actor.
+/// Whether an entry is before another: by clock, and at the same clock by actor.
 fn is_before(first: &JournalEntry, second: &JournalEntry) -> bool
     ensures { result ≡ by_clock first.now second.now }
 {
     first.clock < second.clock || first.clock == second.clock && first.actor < second.actor
 }
 
-/// The entries of two sorted lists as one sorted list.
+/// Returns the entries of two sorted lists as one sorted list.
 fn merge_two(
     alloc: Global,
     first: &[JournalEntry],
@@ -43,7 +43,7 @@ fn merge_two(
     Ok(Items::from_vec(merged))
 }
 
-/// The place of a shortest one of lists.
+/// Returns the place of a shortest list.
 fn shortest(runs: &[Journal]) -> usize
     requires { 0 < length runs.now }
     ensures { result < length runs.now }
@@ -57,7 +57,7 @@ fn shortest(runs: &[Journal]) -> usize
     shortest
 }
 
-/// Takes a shortest one of sorted lists out.
+/// Removes and returns a shortest one of sorted lists.
 fn take_shortest(runs: &mut Vec<Journal>) -> Journal
     requires { 0 < length runs.old.items }
     ensures all { IsPermutation (flat_map (λ run. run) runs.old.items) (result ++ flat_map (λ run. run) runs.new.items) }
@@ -68,7 +68,7 @@ fn take_shortest(runs: &mut Vec<Journal>) -> Journal
     runs.remove(at)
 }
 
-/// The entries of sorted lists as one sorted list. The two shortest lists are merged, again and again.
+/// Returns the entries of sorted lists as one sorted list. It merges the two shortest lists repeatedly.
 fn merge_all(alloc: Global, mut runs: Vec<Journal>) -> Result<Journal, NoMemory>
     requires { AllOrdered runs.items }
     ensures all { IfOk result (IsPermutation (flat_map (λ run. run) runs.items)) }
@@ -85,8 +85,9 @@ fn merge_all(alloc: Global, mut runs: Vec<Journal>) -> Result<Journal, NoMemory>
     }
 }
 
-/// All entries by clock, and at one clock by actor. Its time grows with their number times the
-/// logarithm of the number of journals, and with the square of the number of journals; and it holds at most all entries twice.
+/// Returns all entries by clock, and at the same clock by actor. The time it takes grows with the
+/// number of entries times the logarithm of the number of journals, and with the square of the number
+/// of journals. It holds each entry at most twice. If memory runs out, the journals are lost.
 pub fn merge(alloc: Global, journals: Journals) -> Result<Journal, NoMemory>
     ensures merged { IfOk result (IsMerged journals) }
     ensures each { IfOk result (Interleaves (λ k. slice_index_or journals k [])) }

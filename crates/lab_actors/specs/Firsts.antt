@@ -10,7 +10,7 @@ use Rattle.world_nodes.specs.Fresh.{IsFresh}
 use Rattle.world_nodes.specs.Nodes.{own, Works}
 use Rattle.world_nodes.specs.declared.node.Node.{Node}
 
--- the part of the first world that an actor is
+-- an actor's part of the first world
 abbrev pub first_part : Setup → ActorName → ActorPart
 first_part setup (Router r) = RouterIs (first_router setup r)
 first_part setup (FarSide p) = FarIs (first_far (slice_get setup.peerings p))
@@ -25,7 +25,7 @@ pub record IsFirst (setup : Setup) (faults : List Fault) (name : ActorName) (nod
   pub works : Works node
   pub fresh : IsFresh setup faults node
 
--- The first so many actors of a laboratory, in the order of their numbers.
+-- The first n actors of a laboratory, in the order of their numbers.
 pub record AreFirstUpTo (setup : Setup) (faults : List Fault) (n : ℕ) (actors : List Node) : Type 0 where
   pub size : length actors ≡ n
   pub each : (k : ℕ) (d : Node) (x : ActorName) → k < n → actor_at setup k ≡ Some x → own (slice_index_or actors k d) ≡ first_own setup x

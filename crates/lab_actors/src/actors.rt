@@ -22,7 +22,7 @@ use router_core::Router;
 use std::alloc::Global;
 use world_nodes::Node;
 
-/// The laboratory that the caller's proof names. It is the one that the input describes.
+/// Returns the laboratory that the caller's proof names, which must be the one that the input describes.
 fn known_for(_input: &LabInput) -> Known
     ghost setup: { Setup }
     ensures { result.setup ≡ setup }
@@ -30,7 +30,7 @@ fn known_for(_input: &LabInput) -> Known
     Known::new()
 }
 
-/// The router of this number, as it begins.
+/// Returns the router of this number, as it begins.
 fn router_of(alloc: Global, input: &LabInput, number: RouterId) -> Result<Node, NoMemory>
     requires accepted { IsAccepted input.now }
     requires there { number.0 < length input.now.routers }
@@ -42,7 +42,7 @@ fn router_of(alloc: Global, input: &LabInput, number: RouterId) -> Result<Node, 
     Ok(Node::Router(router))
 }
 
-/// The far side of the peering of this number, as it begins.
+/// Returns the far side of the peering of this number, as it begins.
 fn far_of(alloc: Global, input: &LabInput, peering: PeeringId) -> Result<Node, NoMemory>
     requires accepted { IsAccepted input.now }
     requires there { peering.0 < length input.now.peerings }
@@ -54,7 +54,7 @@ fn far_of(alloc: Global, input: &LabInput, peering: PeeringId) -> Result<Node, N
     Ok(Node::Far(far))
 }
 
-/// The operator, as it begins.
+/// Returns the operator, as it begins.
 fn operator_of(alloc: Global, input: &LabInput) -> Result<Node, NoMemory>
     requires { IsAccepted input.now }
     ensures { IfOk result (IsFirst (setup_of input.now) input.now.faults TheOperator) }
@@ -65,7 +65,7 @@ fn operator_of(alloc: Global, input: &LabInput) -> Result<Node, NoMemory>
     Ok(Node::Operator(operator))
 }
 
-/// The routers, as they begin.
+/// Returns the routers, as they begin.
 fn routers_of(alloc: Global, input: &LabInput) -> Result<Actors<Node>, NoMemory>
     requires { IsAccepted input.now }
     ensures { IfOk result (AreFirstUpTo (setup_of input.now) input.now.faults (length input.now.routers)) }
@@ -78,7 +78,7 @@ fn routers_of(alloc: Global, input: &LabInput) -> Result<Actors<Node>, NoMemory>
     Ok(actors)
 }
 
-/// The routers and behind them the far sides, as they begin.
+/// Returns the routers followed by the far sides, as they begin.
 fn with_far_sides(
     alloc: Global,
     input: &LabInput,
@@ -96,8 +96,8 @@ fn with_far_sides(
     Ok(actors)
 }
 
-/// All actors of the laboratory that an input describes, each as it begins: the routers, the far sides by their peerings, and the operator. The input is one
-/// that was accepted.
+/// Returns all actors of the laboratory that an input describes, each as it begins: the routers, the far sides in the
+/// order of their peerings, and the operator. The input must be one that was accepted.
 pub fn actors_of(alloc: Global, input: &LabInput) -> Result<Actors<Node>, NoMemory>
     requires { IsAccepted input.now }
     ensures first { IfOk result (AreFirst own (setup_of input.now)) }

@@ -7,7 +7,7 @@ use Rattle.lab_tables.specs.declared.input.Step.{Step}
 use Rattle.lab_tables.specs.declared.input.Step.TheVariants.{Settle}
 use Rattle.lab_budgets.specs.declared.budget.Budget.{Budget}
 
--- how many rounds a settle may make that names no number: 2,048, and 8 for each planned fault
+-- the most rounds of a settle that names no number: 2,048, and 8 for each planned fault
 abbrev pub usual_rounds : LabInput → ℕ
 usual_rounds input = 2048 + 8 * length input.faults
 
@@ -23,7 +23,7 @@ is_settle step = false
 abbrev pub ends_itself : List Step → Bool
 ends_itself steps = option_map_or is_settle (slice_get steps (length steps - 1)) false
 
--- where the last step is no settle, one is added
+-- if the last step isn't a settle, one is added
 abbrev pub added_budget : ℕ → Bool → List Budget
 added_budget usual ended = if ended then [] else record { rounds = usual; least = 0 } ∷ []
 
@@ -31,7 +31,7 @@ added_budget usual ended = if ended then [] else record { rounds = usual; least 
 abbrev pub budgets_in : LabInput → List Budget
 budgets_in input = flat_map (budget_of (usual_rounds input)) input.steps ++ added_budget (usual_rounds input) (ends_itself input.steps)
 
--- A settle makes a round, and may make as many as it makes at least.
+-- A settle may make at least one round, and no fewer than its least number.
 pub record IsSoundBudget (budget : Budget) : Type 0 where
   pub some : 1 ≤ budget.rounds
   pub enough : budget.least ≤ budget.rounds

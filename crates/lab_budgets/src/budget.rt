@@ -8,14 +8,14 @@ use graft_edge::{Items, NoMemory};
 use lab_tables::{LabInput, Step};
 use std::alloc::Global;
 
-/// How many rounds a settle may make, and how many it makes at least.
+/// The most rounds that a settle may make, and the least that it makes.
 #[derive(Clone, Copy, Debug)]
 pub struct Budget {
     pub rounds: u32,
     pub least: u32,
 }
 
-/// What a settle has that names no rounds: 2,048, and 8 for each planned fault.
+/// Returns the most rounds of a settle that names no number: 2,048, and 8 for each planned fault.
 fn usual_rounds(input: &LabInput) -> Result<u32, NoMemory>
     ensures { IfOk result (λ rounds. rounds ≡ usual_rounds_lem input.now) }
 {
@@ -40,7 +40,7 @@ fn push_budget(budgets: &mut Items<Budget>, usual: u32, step: &Step) -> Result<(
     }
 }
 
-/// The budgets of the settles of a script.
+/// Returns the budgets of the settles of a script.
 fn step_budgets(alloc: Global, usual: u32, steps: &[Step]) -> Result<Items<Budget>, NoMemory>
     ensures { IfOk result (λ budgets. budgets ≡ flat_map (budget_of usual) steps.now) }
 {
@@ -51,7 +51,7 @@ fn step_budgets(alloc: Global, usual: u32, steps: &[Step]) -> Result<Items<Budge
     Ok(budgets)
 }
 
-/// Whether a step ends a group.
+/// Returns whether a step ends a group.
 fn is_settle(step: &Step) -> bool
     ensures { result ≡ is_settle_lem step.now }
 {
@@ -61,7 +61,7 @@ fn is_settle(step: &Step) -> bool
     }
 }
 
-/// Whether the last step of a script ends a group.
+/// Returns whether the last step of a script ends a group.
 fn ends_itself(steps: &[Step]) -> bool
     ensures { result ≡ ends_itself_lem steps.now }
 {
@@ -71,7 +71,7 @@ fn ends_itself(steps: &[Step]) -> bool
     }
 }
 
-/// Adds the budget of the settle that is added behind a last step of another kind.
+/// Adds the budget of the settle that is added after a last step of another kind.
 fn push_added(budgets: &mut Items<Budget>, usual: u32, steps: &[Step]) -> Result<(), NoMemory>
     ensures { OnOk result (budgets.new ≡ budgets.old ++ added_budget usual (ends_itself_lem steps.now)) }
 {
@@ -84,8 +84,9 @@ fn push_added(budgets: &mut Items<Budget>, usual: u32, steps: &[Step]) -> Result
     })
 }
 
-/// The budget of each settle of an input, in their order, that of an added one last. A settle that names no rounds has 2,048,
-/// and 8 for each planned fault. Where these pass 32 bits, which no accepted input's do, the answer is as if memory ran out.
+/// Returns the budget of each settle of an input, in their order, with that of an added one last. A settle that names
+/// no rounds has 2,048, and 8 for each planned fault. Returns `NoMemory` if these pass 32 bits, which those of no
+/// accepted input do.
 pub fn budgets_of(alloc: Global, input: &LabInput) -> Result<Items<Budget>, NoMemory>
     ensures { IfOk result (λ budgets. budgets ≡ budgets_in input.now) }
 {

@@ -1,4 +1,4 @@
-//! What holds of the budgets of an input.
+//! Laws of the budgets of an input.
 
 ghost use Rattle.std.specs.Prelude.{◌≡◌, ◌≤◌, ℕ, List, length};
 ghost use Rattle.std.specs.List.{AllByRecursion};
@@ -8,17 +8,17 @@ ghost use Rattle.lab_input.specs.Labs.{InputOf};
 ghost use Rattle.lab_setup.specs.Setups.{setup_of};
 ghost use Rattle.lab_budgets.specs.Budgets.{budgets_in, IsSoundBudget};
 
-/// Each group of the laboratory that an input describes has one budget, and there is no other.
+/// Each group of the laboratory that an input describes has one budget, and there are no others.
 pub fn each_group_has_a_budget()
     ensures { (input : LabInput) → length (budgets_in input) ≡ groups_in (setup_of input) }
 {}
 
-/// Whatever bytes are an input: each budget has at least one round, and no fewer than it makes at least.
+/// For all bytes that are an input: each budget allows at least one round, and no fewer than the least number.
 pub fn budgets_are_sound()
     ensures { (bytes : List ℕ) (input : LabInput) → InputOf bytes input → AllByRecursion IsSoundBudget (budgets_in input) }
 {}
 
-/// Whatever bytes are an input: no planned fault lets its segment wait for more than six turns.
+/// For all bytes that are an input: no planned fault holds its segment back for more than six turns.
 pub fn accepted_faults_are_short()
     ensures { (bytes : List ℕ) (input : LabInput) → InputOf bytes input → AllByRecursion (λ fault. fault.after ≤ 6) input.faults }
 {}

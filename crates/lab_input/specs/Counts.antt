@@ -1,4 +1,4 @@
--- What is counted over a whole input.
+-- Counts over a whole input.
 use Rattle.std.specs.Prelude.{ℕ, ◌+◌, ◌-◌, ◌==◌, nat_lt, Bool, ◌&&◌, List, [], ◌∷◌, ◌++◌, length, slice_get, sum_by, count_by, Option, Some, None, codes, if◌then◌else◌}
 use Rattle.std.specs.List.{flat_map}
 use Rattle.bgp_types.specs.declared.message.Message.TheVariants.{UpdateMsg}
@@ -31,7 +31,7 @@ abbrev pub added_to : Option Step → ℕ
 added_to (Some (Settle rounds least)) = 0
 added_to _ = 1
 
--- where the last step isn't a settle, one is added
+-- if the last step isn't a settle, one is added
 abbrev pub added_settle : List Step → ℕ
 added_settle steps = added_to (slice_get steps (length steps - 1))
 
@@ -54,14 +54,14 @@ room_flaw peerings number router = over (codes "sessions") router.sessions (peer
 
 -- ---- what a remote says
 
--- a remote speaks with four octets an AS number where both sides support them
+-- a remote uses four-octet AS numbers if both sides support them
 abbrev pub is_wide : PeeringInput → Bool
 is_wide p = p.as4 && p.remote_as4
 
 abbrev pub octets_if : Bool → ℕ → ℕ
 octets_if said n = if said then n else 0
 
--- how many octets a step says on a peering
+-- the number of octets that a step says on a peering
 abbrev pub said_by : Bool → ℕ → Step → ℕ
 said_by wide number (Announce peering prefixes a) = octets_if (peering.0 == number) (length (spell (UpdateMsg (update_of (Announce peering prefixes a))) wide))
 said_by wide number (Withdraw peering prefixes) = octets_if (peering.0 == number) (length (spell (UpdateMsg (update_of (Withdraw peering prefixes))) wide))
@@ -71,7 +71,7 @@ said_by wide number _ = 0
 abbrev pub said_on : List Step → ℕ → PeeringInput → ℕ
 said_on steps number p = length p.opening + sum_by (said_by (is_wide p) number) steps
 
--- a remote that beats says half as much, so that its beats have room
+-- a remote that sends KEEPALIVEs of its own has half the limit, so that they have room
 abbrev pub most_said : PeeringInput → ℕ
 most_said p = if p.beats then 524288 else 1048576
 

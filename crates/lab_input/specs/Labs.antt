@@ -1,4 +1,4 @@
--- Which bytes are an input, which input they are, and which rule is the first that others don't meet.
+-- Which bytes are an input, which input they stand for, and the first rule that others don't meet.
 use Rattle.std.specs.Prelude.{◌≡◌, ℕ, ◌+◌, nat_lt, List, [], ◌∷◌, length, Option, Some, None, option_map, Result, Ok, Err, codes, if◌then◌else◌}
 use Rattle.toml.specs.Data.{Members}
 use Rattle.lab_keys.specs.declared.flaw.Flaw.{Flaw}
@@ -29,23 +29,23 @@ abbrev pub unless : Option BadInput → LabInput → Result LabInput BadInput
 unless None input = Ok input
 unless (Some bad) input = Err bad
 
--- rule 2: the bytes are a document
+-- rule 2: the bytes are a TOML document
 abbrev pub input_in : Option Members → Result LabInput BadInput
 input_in None = Err NotToml
 input_in (Some doc) = unless (bad_in doc) (lab_of doc)
 
--- the greatest number of bytes of an input
+-- the limit of bytes of an input
 abbrev pub most_bytes : ℕ
 most_bytes = 4194304
 
 abbrev pub too_long : BadInput
 too_long = Limit (codes "input") (most_bytes + 1)
 
--- rule 1: there are few bytes
+-- rule 1: the number of bytes is within the limit
 unfoldable pub input_of : List ℕ → Result LabInput BadInput
 input_of bytes = if nat_lt most_bytes (length bytes) then Err too_long else input_in (document_of bytes)
 
--- The bytes are this input.
+-- The bytes stand for this input.
 abbrev pub InputOf : List ℕ → LabInput → Type 0
 InputOf bytes input = input_of bytes ≡ Ok input
 

@@ -1,4 +1,4 @@
--- The names of an input: which are repeated, and which name nothing.
+-- The names of an input: which are repeated, and which are unknown.
 use Rattle.std.specs.Prelude.{ℕ, ◌==◌, Bool, ◌&&◌, List, [], ◌∷◌, ◌++◌, map, Option, Some, None, codes, if◌then◌else◌}
 use Rattle.std.specs.List.{list_any, find}
 use Rattle.std.specs.Option.{option_or, option_map_or}
@@ -21,7 +21,7 @@ use Rattle.lab_tables.specs.declared.words.StepWord.{StepWord}
 use Rattle.lab_tables.specs.declared.words.StepWord.TheVariants.{Grafts, Settles, Evacuates}
 use Rattle.lab_tables.specs.Scripts.{word_at}
 
--- the first fault of things, each looked at beside those before it
+-- the first fault in a list, each member checked against those before it
 abbrev pub each_after : {A : Type 0} → (List A → A → Option BadInput) → List A → List A → Option BadInput
 each_after bad before [] = None
 each_after bad before (x ∷ xs) = option_or (bad before x) (each_after bad (before ++ x ∷ []) xs)
@@ -54,7 +54,7 @@ router_again before r = first_of (
 
 -- ---- costs
 
--- from the same router to the same one
+-- two costs have the same two ends
 abbrev pub same_ends : CostInput → CostInput → Bool
 same_ends c d = (c.from.0 == d.from.0) && (c.to.0 == d.to.0)
 
@@ -74,7 +74,7 @@ remote_of t = address_or 0 (codes "remote_address") t
 abbrev pub policies_at : List RouterInput → List ℕ → List (List ℕ)
 policies_at routers name = option_map_or (λ r. map (λ p. p.name) r.policies) (find (λ r. bytes_eq name r.name) routers) []
 
--- where a peering before this one has its name, or its remote's address
+-- given whether earlier peerings have its name and its remote's address
 abbrev pub peering_flaw : List RouterInput → (again_name again_remote : Bool) → Members → Option BadInput
 peering_flaw routers again_name again_remote t =
     let policies = policies_at routers (text_at (codes "at") t) in
@@ -95,7 +95,7 @@ peering_named routers before t =
 
 -- ---- faults
 
--- of the same segment
+-- two faults are of the same segment
 abbrev pub same_segment : Fault → Fault → Bool
 same_segment fault other = is_of other.peering other.way other.segment fault
 

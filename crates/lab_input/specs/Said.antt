@@ -4,7 +4,7 @@ use Rattle.bgp_types.specs.declared.message.Update.{Update}
 use Rattle.lab_tables.specs.declared.input.Step.{Step}
 use Rattle.lab_tables.specs.declared.input.Step.TheVariants.{Announce, Withdraw}
 
--- the UPDATE that the remote of a step's peering says; it is empty where the step is of another kind
+-- the UPDATE that the remote of a step's peering says; it is empty if the step is of another kind
 abbrev pub update_of : Step → Update
 update_of (Announce peering prefixes a) = record { withdrawn = []; attrs = Some a; nlri = prefixes }
 update_of (Withdraw peering prefixes) = record { withdrawn = prefixes; attrs = None; nlri = [] }

@@ -1,4 +1,4 @@
-//! Why an input is refused.
+//! Reasons why an input is refused.
 
 use bgp_types::{Name, NoMemory};
 use thiserror::Error;
@@ -9,7 +9,7 @@ pub enum BadInput {
     /// The bytes aren't a TOML document.
     #[error("not toml")]
     NotToml,
-    /// What stands at this path is missing, unknown or of a wrong shape.
+    /// The value at this path is missing, unknown or of a wrong shape.
     #[error("shape {0}")]
     Shape(Name),
     /// The number or count at this path is beyond its limits.
@@ -18,7 +18,7 @@ pub enum BadInput {
     /// No router, peering or policy has this name.
     #[error("unknown {0}")]
     Unknown(Name),
-    /// This name, address or network stands there more than once.
+    /// This name, address or network occurs more than once.
     #[error("repeated {0}")]
     Repeated(Name),
 }

@@ -1,4 +1,4 @@
-//! What is counted over a whole input.
+//! Counts over a whole input.
 
 ghost use Rattle.std.specs.Prelude.{◌≡◌, ◌==◌, ◌&&◌, ◌++◌, length, sum_by, count_by, IfOk};
 ghost use Rattle.std.specs.List.{flat_map};
@@ -14,22 +14,22 @@ use bgp_types::{Items, Message, NoMemory, PrefixList, TryCopy, Update, message_l
 use lab_tables::{LabInput, PeeringInput, RouterInput, Step, each_once};
 use std::alloc::Global;
 
-/// The most grafts, an evacuate step counted as one for each peering.
+/// The limit of grafts. An evacuate step counts as one for each peering.
 const MOST_GRAFTS: u64 = 256;
 
-/// The most settles, an added one among them.
+/// The limit of settles, including an added one.
 const MOST_SETTLES: u64 = 64;
 
-/// The most different prefixes of networks and of announce and withdraw steps.
+/// The limit of distinct prefixes of networks and of announce and withdraw steps.
 const MOST_PREFIXES: u64 = 4096;
 
-/// The most octets that the remote of a peering says.
+/// The limit of octets that the remote of a peering says.
 const MOST_SAID: u64 = 1_048_576;
 
-/// The same of a remote that sends KEEPALIVEs of its own.
+/// The same limit for a remote that sends KEEPALIVEs of its own.
 const MOST_SAID_BEATING: u64 = 524_288;
 
-/// How many grafts a step makes at most, with so many peerings.
+/// Returns how many grafts a step makes at most, given the number of peerings.
 fn grafts_of(peerings: u64, step: &Step) -> u64
     ensures { result ≡ grafts_of_lem peerings step.now }
 {
@@ -40,7 +40,7 @@ fn grafts_of(peerings: u64, step: &Step) -> u64
     }
 }
 
-/// How many grafts steps make at most. Memory holds no steps whose sum passes 64 bits.
+/// Returns how many grafts steps make at most. No steps that fit in memory have a sum above 64 bits.
 fn grafts_in(peerings: u64, steps: &[Step]) -> Result<u64, NoMemory>
     ensures { IfOk result (λ n. n ≡ sum_by (grafts_of_lem peerings) steps.now) }
 {
@@ -62,7 +62,7 @@ fn settles_of(step: &Step) -> u64
     }
 }
 
-/// One settle, where the last step isn't one.
+/// Returns 1 if a settle is to be added, since the last step isn't one, and 0 otherwise.
 fn added_settle(steps: &[Step]) -> u64
     ensures { result ≡ added_settle_lem steps.now }
 {
@@ -72,7 +72,7 @@ fn added_settle(steps: &[Step]) -> u64
     1 - settles_of(&steps[steps.len() - 1])
 }
 
-/// How many settles steps make, with an added one.
+/// Returns the number of settles in steps, including an added one.
 fn settles_in(steps: &[Step]) -> Result<u64, NoMemory>
     ensures { IfOk result (λ n. n ≡ sum_by settles_of_lem steps.now + added_settle_lem steps.now) }
 {
@@ -94,7 +94,7 @@ fn add_prefixes(all: &mut PrefixList, step: &Step) -> Result<(), NoMemory>
     }
 }
 
-/// The networks of routers.
+/// Returns the networks of routers.
 fn networks_of(alloc: Global, routers: &[RouterInput]) -> Result<PrefixList, NoMemory>
     ensures { IfOk result (λ all. all ≡ flat_map (λ r. r.networks) routers.now) }
 {
@@ -105,7 +105,7 @@ fn networks_of(alloc: Global, routers: &[RouterInput]) -> Result<PrefixList, NoM
     Ok(all)
 }
 
-/// Adds the prefixes of steps.
+/// Returns a list with the prefixes of steps added.
 fn add_all(all: PrefixList, steps: &[Step]) -> Result<PrefixList, NoMemory>
     ensures { IfOk result (λ whole. whole ≡ all ++ flat_map prefixes_of_lem steps.now) }
 {
@@ -116,7 +116,7 @@ fn add_all(all: PrefixList, steps: &[Step]) -> Result<PrefixList, NoMemory>
     Ok(all)
 }
 
-/// How many different prefixes an input names.
+/// Returns the number of distinct prefixes that an input names.
 fn prefixes_in(alloc: Global, input: &LabInput) -> Result<u64, NoMemory>
     ensures { IfOk result (λ n. n ≡ length (once_after [] (prefixes_named_lem input.now))) }
 {
@@ -125,7 +125,7 @@ fn prefixes_in(alloc: Global, input: &LabInput) -> Result<u64, NoMemory>
     Ok(once.len() as u64)
 }
 
-/// How many peerings start at a router.
+/// Returns the number of peerings that start at a router.
 fn peerings_at(peerings: &[PeeringInput], router: u64) -> u64
     ensures { result ≡ peerings_at_lem peerings.now router }
 {
@@ -135,7 +135,7 @@ fn peerings_at(peerings: &[PeeringInput], router: u64) -> u64
         .count() as u64
 }
 
-/// A router with more peerings than it has room for.
+/// Returns the fault of a router with more peerings than it has room for.
 fn router_room(
     alloc: Global,
     peerings: &[PeeringInput],
@@ -149,7 +149,7 @@ fn router_room(
     Ok(bad)
 }
 
-/// The first router with more peerings than it has room for.
+/// Returns the fault of the first router with more peerings than it has room for.
 fn room_flaw(
     alloc: Global,
     peerings: &[PeeringInput],
@@ -167,14 +167,14 @@ fn room_flaw(
     Ok(None)
 }
 
-/// Whether a remote speaks with AS numbers of four octets: both sides support them.
+/// Returns whether a remote uses four-octet AS numbers: both sides support them.
 fn is_wide(peering: &PeeringInput) -> bool
     ensures { result ≡ is_wide_lem peering.now }
 {
     peering.as4 && peering.remote_as4
 }
 
-/// The UPDATE that a step says.
+/// Returns the UPDATE that a step says.
 pub fn update_of(alloc: Global, step: &Step) -> Result<Update, NoMemory>
     ensures { IfOk result (λ update. update ≡ update_of_lem step.now) }
 {
@@ -201,7 +201,7 @@ pub fn update_of(alloc: Global, step: &Step) -> Result<Update, NoMemory>
     }
 }
 
-/// How many octets the UPDATE of a step has.
+/// Returns the number of octets of a step's UPDATE.
 fn update_len(alloc: Global, wide: bool, step: &Step) -> Result<u64, NoMemory>
     ensures { IfOk result (λ n. n ≡ length (spell (UpdateMsg (update_of_lem step.now)) wide)) }
 {
@@ -212,7 +212,7 @@ fn update_len(alloc: Global, wide: bool, step: &Step) -> Result<u64, NoMemory>
     Ok(len as u64)
 }
 
-/// How many octets a step says on a peering.
+/// Returns the number of octets that a step says on a peering.
 fn said_by(alloc: Global, wide: bool, number: u64, step: &Step) -> Result<u64, NoMemory>
     ensures { IfOk result (λ n. n ≡ said_by_lem wide number step.now) }
 {
@@ -228,7 +228,7 @@ fn said_by(alloc: Global, wide: bool, number: u64, step: &Step) -> Result<u64, N
     }
 }
 
-/// How many octets the remote of a peering says.
+/// Returns the number of octets that the remote of a peering says.
 fn said_on(
     alloc: Global,
     steps: &[Step],
@@ -247,8 +247,8 @@ fn said_on(
     Ok(said)
 }
 
-/// The most octets that the remote of a peering says. One that sends KEEPALIVEs of its own says half as
-/// much, so that they have room.
+/// Returns the limit of octets that the remote of a peering says. One that sends KEEPALIVEs of its own has half the
+/// limit, so that they have room.
 fn most_said(peering: &PeeringInput) -> u64
     ensures { result ≡ most_said_lem peering.now }
 {
@@ -259,7 +259,7 @@ fn most_said(peering: &PeeringInput) -> u64
     }
 }
 
-/// A remote that says too much.
+/// Returns the fault of a remote that says too much.
 fn peering_said(
     alloc: Global,
     steps: &[Step],
@@ -273,7 +273,7 @@ fn peering_said(
     Ok(bad)
 }
 
-/// The first peering whose remote says too much.
+/// Returns the fault of the first peering whose remote says too much.
 fn said_flaw(
     alloc: Global,
     steps: &[Step],
@@ -291,7 +291,7 @@ fn said_flaw(
     Ok(None)
 }
 
-/// More grafts than a script has.
+/// Returns the fault of more grafts than a script may have.
 fn grafts_flaw(alloc: Global, input: &LabInput) -> Result<Option<BadInput>, NoMemory>
     ensures { IfOk result (λ bad. bad ≡ over_lem (codes "grafts") 256 (sum_by (grafts_of_lem (length input.now.peerings)) input.now.steps)) }
 {
@@ -300,7 +300,7 @@ fn grafts_flaw(alloc: Global, input: &LabInput) -> Result<Option<BadInput>, NoMe
     Ok(bad)
 }
 
-/// More settles than a script has.
+/// Returns the fault of more settles than a script may have.
 fn settles_flaw(alloc: Global, input: &LabInput) -> Result<Option<BadInput>, NoMemory>
     ensures { IfOk result (λ bad. bad ≡ over_lem (codes "settles") 64 (sum_by settles_of_lem input.now.steps + added_settle_lem input.now.steps)) }
 {
@@ -309,7 +309,7 @@ fn settles_flaw(alloc: Global, input: &LabInput) -> Result<Option<BadInput>, NoM
     Ok(bad)
 }
 
-/// More different prefixes than an input names.
+/// Returns the fault of more distinct prefixes than an input may name.
 fn prefixes_flaw(alloc: Global, input: &LabInput) -> Result<Option<BadInput>, NoMemory>
     ensures { IfOk result (λ bad. bad ≡ over_lem (codes "prefixes") 4096 (length (once_after [] (prefixes_named_lem input.now)))) }
 {
@@ -318,7 +318,7 @@ fn prefixes_flaw(alloc: Global, input: &LabInput) -> Result<Option<BadInput>, No
     Ok(bad)
 }
 
-/// The first count of a whole input that is above its limit.
+/// Returns the fault of the first count of a whole input that is above its limit.
 fn whole_flaw(alloc: Global, input: &LabInput) -> Result<Option<BadInput>, NoMemory>
     ensures { IfOk result (λ bad. bad ≡ first_of (over_lem (codes "grafts") 256 (sum_by (grafts_of_lem (length input.now.peerings)) input.now.steps)
         ∷ over_lem (codes "settles") 64 (sum_by settles_of_lem input.now.steps + added_settle_lem input.now.steps)
@@ -330,7 +330,7 @@ fn whole_flaw(alloc: Global, input: &LabInput) -> Result<Option<BadInput>, NoMem
     Ok(first(grafts, first(settles, first(prefixes, None))))
 }
 
-/// The first count of a router or of a peering that is above its limit.
+/// Returns the fault of the first count of a router or of a peering that is above its limit.
 fn part_flaw(alloc: Global, input: &LabInput) -> Result<Option<BadInput>, NoMemory>
     ensures { IfOk result (λ bad. bad ≡ first_of (each_from (room_flaw_lem input.now.peerings) 0 input.now.routers ∷ each_from (said_flaw_lem input.now.steps) 0 input.now.peerings ∷ [])) }
 {
@@ -339,7 +339,7 @@ fn part_flaw(alloc: Global, input: &LabInput) -> Result<Option<BadInput>, NoMemo
     Ok(first(room, first(said, None)))
 }
 
-/// The first count of an input that is above its limit.
+/// Returns the fault of the first count of an input that is above its limit.
 pub(crate) fn counted(alloc: Global, input: &LabInput) -> Result<Option<BadInput>, NoMemory>
     ensures { IfOk result (λ bad. bad ≡ counted_lem input.now) }
 {

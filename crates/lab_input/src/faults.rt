@@ -18,7 +18,7 @@ use std::collections::HashSet;
 use tcp_seq::Way;
 use toml::Table;
 
-/// A segment by its peering, its side and its number.
+/// A segment, by its peering, the side that it goes to, and its number.
 #[derive(Clone, Copy, Debug, PartialEq, Eq, Hash)]
 struct SegmentKey {
     peering: PeeringId,
@@ -26,7 +26,7 @@ struct SegmentKey {
     segment: u32,
 }
 
-/// The segment of a fault.
+/// Returns the segment of a fault.
 fn segment_of(fault: &Fault) -> SegmentKey
     ensures { result ≡ record { peering = fault.now.peering; way = fault.now.way; segment = fault.now.segment } }
 {
@@ -37,7 +37,7 @@ fn segment_of(fault: &Fault) -> SegmentKey
     }
 }
 
-/// The first wrong name of a planned fault, where one before it may be of the same segment.
+/// Returns the first wrong name of a planned fault, or that an earlier fault has the same segment.
 fn fault_named(
     alloc: Global,
     peerings: &Places,
@@ -53,7 +53,7 @@ fn fault_named(
     Ok(first(name, first(segment, None)))
 }
 
-/// The first wrong name of planned faults.
+/// Returns the first wrong name of planned faults.
 pub(crate) fn faults_named(
     alloc: Global,
     peerings: &Places,

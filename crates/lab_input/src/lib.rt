@@ -1,4 +1,4 @@
-//! What a laboratory is asked to run: which bytes are an input, and why others are none.
+//! The input of a laboratory: which bytes are an input, and why others aren't.
 #![tactic(auto)]
 
 mod bad;

@@ -22,14 +22,14 @@ use toml::Table;
 
 // ---- costs
 
-/// The routers that a cost joins.
+/// The routers that a cost connects.
 #[derive(Clone, Copy, Debug, PartialEq, Eq, Hash)]
 struct Ends {
     from: RouterId,
     to: RouterId,
 }
 
-/// The routers that a cost joins, 0 where there is none of that name.
+/// Returns the routers that a cost connects, with 0 for an unknown name.
 fn ends_of(routers: &Places, table: &Table) -> Ends
     ensures { result ≡ record { from = (cost_of routers.now (table_view table.now)).from; to = (cost_of routers.now (table_view table.now)).to } }
 {
@@ -39,7 +39,7 @@ fn ends_of(routers: &Places, table: &Table) -> Ends
     }
 }
 
-/// The first wrong name of a cost, where one before it may have the same ends.
+/// Returns the first wrong name of a cost, or that an earlier cost has the same ends.
 fn cost_named(
     alloc: Global,
     routers: &Places,
@@ -56,7 +56,7 @@ fn cost_named(
     Ok(first(from, first(to, first(pair, None))))
 }
 
-/// The first wrong name of costs.
+/// Returns the first wrong name of costs.
 pub(crate) fn costs_named(
     alloc: Global,
     routers: &Places,
@@ -78,35 +78,35 @@ pub(crate) fn costs_named(
 
 // ---- peerings
 
-/// Whether a peering before this one has its name, and its remote's address.
+/// Whether an earlier peering has the name of this one, and whether one has its remote's address.
 #[derive(Clone, Copy)]
 struct Again {
     name: bool,
     remote: bool,
 }
 
-/// The remote's address.
+/// Returns the remote's address.
 fn remote_of(table: &Table) -> u32
     ensures { result ≡ remote_of_lem (table_view table.now) }
 {
     address_or(0, "remote_address", table)
 }
 
-/// Whether a router has this name.
+/// Returns whether a router has this name.
 fn is_called(name: &str, router: &RouterInput) -> bool
     ensures { result ≡ bytes_eq name.now router.now.name }
 {
     name == router.name.as_str()
 }
 
-/// The first router of this name.
+/// Returns the first router of this name.
 fn router_called<'r>(routers: &'r [RouterInput], name: &str) -> Option<&'r RouterInput>
     ensures { option_copied result ≡ find (λ r. bytes_eq name.now r.name) routers.now }
 {
     routers.iter().find(|router| is_called(name, router))
 }
 
-/// The names of policies.
+/// Returns the names of policies.
 fn policy_names(alloc: Global, policies: &[PolicyInput]) -> Result<Items<Name>, NoMemory>
     ensures { IfOk result (λ names. names ≡ map (λ p. p.name) policies.now) }
 {
@@ -117,7 +117,7 @@ fn policy_names(alloc: Global, policies: &[PolicyInput]) -> Result<Items<Name>, 
     Ok(names)
 }
 
-/// The names of the policies of a router, or none where there is no router.
+/// Returns the names of the policies of a router, or none if there is no router.
 fn names_at(alloc: Global, router: Option<&RouterInput>) -> Result<Items<Name>, NoMemory>
     ensures { IfOk result (λ names. names ≡ option_map_or (λ r. map (λ p. p.name) r.policies) (option_copied router.entry) []) }
 {
@@ -127,7 +127,7 @@ fn names_at(alloc: Global, router: Option<&RouterInput>) -> Result<Items<Name>, 
     }
 }
 
-/// The names of the policies of the router of this name.
+/// Returns the names of the policies of the router of this name.
 fn policies_at(alloc: Global, routers: &[RouterInput], name: &str) -> Result<Places, NoMemory>
     ensures { IfOk result (λ names. names ≡ policies_at_lem routers.now name.now) }
 {
@@ -136,7 +136,7 @@ fn policies_at(alloc: Global, routers: &[RouterInput], name: &str) -> Result<Pla
     Ok(places)
 }
 
-/// A name or an address of a peering that another one before it has, or a router that there isn't.
+/// Returns the fault of a peering whose name or remote's address an earlier one has, or whose router is unknown.
 fn place_named(
     alloc: Global,
     names: &Places,
@@ -153,7 +153,7 @@ fn place_named(
     Ok(first(name, first(at, first(address, None))))
 }
 
-/// A policy that a peering names and its router doesn't have.
+/// Returns the fault of a policy that a peering names and its router doesn't have.
 fn policy_named(
     alloc: Global,
     routers: &[RouterInput],
@@ -169,7 +169,7 @@ fn policy_named(
     Ok(first(import, first(export, None)))
 }
 
-/// The first wrong name of a peering, where one before it may have its name or its remote's address.
+/// Returns the first wrong name of a peering. `again` says whether earlier ones have its name or its remote's address.
 fn peering_named(
     alloc: Global,
     routers: &[RouterInput],
@@ -185,7 +185,7 @@ fn peering_named(
     Ok(first(place, policy))
 }
 
-/// The first wrong name of peerings.
+/// Returns the first wrong name of peerings.
 pub(crate) fn peerings_named(
     alloc: Global,
     routers: &[RouterInput],
@@ -215,7 +215,7 @@ pub(crate) fn peerings_named(
 
 // ---- steps
 
-/// The first wrong name of a step of this word.
+/// Returns the first wrong name of a step of this word.
 fn worded_named(
     alloc: Global,
     routers: &Places,
@@ -238,7 +238,7 @@ fn worded_named(
     }
 }
 
-/// The first wrong name of steps.
+/// Returns the first wrong name of steps.
 pub(crate) fn steps_named(
     alloc: Global,
     routers: &Places,

@@ -1,4 +1,4 @@
-//! Names that are repeated, and names of nothing.
+//! Repeated names and unknown names.
 
 ghost use Rattle.std.specs.Prelude.{◌≡◌, [], IfOk};
 ghost use Rattle.toml.specs.View.{table_view};
@@ -15,7 +15,7 @@ use std::alloc::Global;
 use std::collections::HashSet;
 use toml::Table;
 
-/// A text that is none of these names.
+/// Returns the fault of a text that is none of these names.
 pub(crate) fn unknown(
     alloc: Global,
     names: &Places,
@@ -29,7 +29,7 @@ pub(crate) fn unknown(
     Ok(Some(BadInput::Unknown(Name::from_text(alloc, text)?)))
 }
 
-/// A text at a key that is none of these names.
+/// Returns the fault of a text at a key that is none of these names.
 pub(crate) fn unknown_at(
     alloc: Global,
     names: &Places,
@@ -44,7 +44,7 @@ pub(crate) fn unknown_at(
     }
 }
 
-/// A repeated address, where a test says so.
+/// Returns the fault of a repeated address, if the test is true.
 pub(crate) fn repeated_address(
     alloc: Global,
     again: bool,
@@ -59,7 +59,7 @@ pub(crate) fn repeated_address(
     Ok(Some(BadInput::Repeated(Name::from_string(text))))
 }
 
-/// A network that stands there already.
+/// Returns the fault of a repeated network, if the test is true.
 fn network_again(alloc: Global, again: bool, network: Prefix) -> Result<Option<BadInput>, NoMemory>
     ensures { IfOk result (λ bad. bad ≡ repeated_if_lem again (prefix_text network)) }
 {
@@ -70,7 +70,7 @@ fn network_again(alloc: Global, again: bool, network: Prefix) -> Result<Option<B
     Ok(Some(BadInput::Repeated(Name::from_string(text))))
 }
 
-/// The first network of a router that stands there twice.
+/// Returns the fault of the first network of a router that is repeated.
 fn networks_again(alloc: Global, networks: &[Prefix]) -> Result<Option<BadInput>, NoMemory>
     ensures { IfOk result (λ bad. bad ≡ each_after network_again_lem [] networks.now) }
 {
@@ -86,7 +86,7 @@ fn networks_again(alloc: Global, networks: &[Prefix]) -> Result<Option<BadInput>
     Ok(None)
 }
 
-/// The first policy of a router whose name another one before it has.
+/// Returns the fault of the first policy of a router whose name an earlier one has.
 fn policies_again(alloc: Global, policies: &[PolicyInput]) -> Result<Option<BadInput>, NoMemory>
     ensures { IfOk result (λ bad. bad ≡ each_after policy_again_lem [] policies.now) }
 {
@@ -103,7 +103,8 @@ fn policies_again(alloc: Global, policies: &[PolicyInput]) -> Result<Option<BadI
     Ok(None)
 }
 
-/// The first name of a router that is repeated, where a router before it may have its name or its identifier.
+/// Returns the first repetition in a router: its name or its identifier, which an earlier router may have, or one of
+/// its own networks or policies.
 fn router_again(
     alloc: Global,
     again_name: bool,
@@ -120,7 +121,7 @@ fn router_again(
     Ok(first(name, first(id, first(network, first(policy, None)))))
 }
 
-/// The first name of routers that is repeated.
+/// Returns the first repetition in routers.
 pub(crate) fn routers_again(
     alloc: Global,
     routers: &[RouterInput],

@@ -18,7 +18,7 @@ use lab_tables::{LabInput, Places, RouterInput, peering_names, router_names};
 use std::alloc::Global;
 use toml::Table;
 
-/// The first wrong name of the costs of a document.
+/// Returns the first wrong name of the costs of a document.
 fn costs_in(alloc: Global, doc: &Table, names: &Places) -> Result<Option<BadInput>, NoMemory>
     ensures { IfOk result (λ bad. bad ≡ each_after (cost_named names.now) [] (tables_at (codes "cost") (table_view doc.now))) }
 {
@@ -27,7 +27,7 @@ fn costs_in(alloc: Global, doc: &Table, names: &Places) -> Result<Option<BadInpu
     Ok(bad)
 }
 
-/// The first wrong name of the peerings of a document.
+/// Returns the first wrong name of the peerings of a document.
 fn peerings_in(
     alloc: Global,
     doc: &Table,
@@ -42,7 +42,7 @@ fn peerings_in(
     Ok(bad)
 }
 
-/// The first wrong name of the planned faults of a document.
+/// Returns the first wrong name of the planned faults of a document.
 fn faults_in(alloc: Global, doc: &Table, remotes: &Places) -> Result<Option<BadInput>, NoMemory>
     ensures { IfOk result (λ bad. bad ≡ each_after (fault_named remotes.now) [] (tables_at (codes "fault") (table_view doc.now))) }
 {
@@ -51,7 +51,7 @@ fn faults_in(alloc: Global, doc: &Table, remotes: &Places) -> Result<Option<BadI
     Ok(bad)
 }
 
-/// The first wrong name of the steps of a document.
+/// Returns the first wrong name of the steps of a document.
 fn steps_in(
     alloc: Global,
     doc: &Table,
@@ -65,7 +65,7 @@ fn steps_in(
     Ok(bad)
 }
 
-/// The first wrong name of routers, costs and peerings.
+/// Returns the first wrong name of routers, costs and peerings.
 fn network_named(
     alloc: Global,
     doc: &Table,
@@ -83,7 +83,7 @@ fn network_named(
     Ok(first(router, first(cost, first(peering, None))))
 }
 
-/// The first wrong name of planned faults and steps.
+/// Returns the first wrong name of planned faults and steps.
 fn script_named(
     alloc: Global,
     doc: &Table,
@@ -98,7 +98,7 @@ fn script_named(
     Ok(first(fault, first(step, None)))
 }
 
-/// The first name of a document that is repeated, or that names nothing.
+/// Returns the first name of a document that is repeated or unknown.
 pub(crate) fn named(
     alloc: Global,
     doc: &Table,

@@ -14,10 +14,10 @@ use lab_tables::{LabInput, lab_of};
 use std::alloc::Global;
 use toml::Table;
 
-/// The greatest number of bytes of an input.
+/// The limit of bytes of an input.
 pub const MOST_BYTES: usize = 4_194_304;
 
-/// The first rule that the value of a document doesn't meet.
+/// Returns the first rule on names and counts that a document and its value don't meet.
 fn later_bad(alloc: Global, doc: &Table, lab: &LabInput) -> Result<Option<BadInput>, NoMemory>
     requires { lab.now ≡ lab_of_lem (table_view doc.now) }
     ensures { IfOk result (λ bad. bad ≡ option_or (named_lem (table_view doc.now)) (option_or (counted_lem lab.now) None)) }
@@ -27,7 +27,7 @@ fn later_bad(alloc: Global, doc: &Table, lab: &LabInput) -> Result<Option<BadInp
     Ok(first(name, first(count, None)))
 }
 
-/// The input that a document of right shapes is.
+/// Returns the input that a document stands for, whose shapes must be right.
 fn read_shaped(alloc: Global, doc: &Table) -> Result<LabInput, LabStop>
     ensures { Answers (unless (option_or (named_lem (table_view doc.now)) (option_or (counted_lem (lab_of_lem (table_view doc.now))) None)) (lab_of_lem (table_view doc.now))) result }
 {
@@ -39,7 +39,7 @@ fn read_shaped(alloc: Global, doc: &Table) -> Result<LabInput, LabStop>
     }
 }
 
-/// The input that a document is.
+/// Returns the input that a document stands for.
 fn read_document(alloc: Global, doc: &Table) -> Result<LabInput, LabStop>
     ensures { Answers (input_in (Some (table_view doc.now))) result }
 {
@@ -50,7 +50,7 @@ fn read_document(alloc: Global, doc: &Table) -> Result<LabInput, LabStop>
     }
 }
 
-/// The fault of more bytes than an input has.
+/// Returns the fault of more bytes than an input may have.
 pub fn too_long(alloc: Global) -> Result<BadInput, NoMemory>
     ensures { IfOk result (λ bad. bad ≡ too_long_bad) }
 {
@@ -58,8 +58,8 @@ pub fn too_long(alloc: Global) -> Result<BadInput, NoMemory>
     Ok(BadInput::Limit(name, MOST_BYTES as u64 + 1))
 }
 
-/// Reads the input that the bytes are. `Bad` tells the first rule that they don't meet: at most 4 MiB; a
-/// TOML document; shapes and limits of its keys; names; and counts over the whole.
+/// Reads the input from its bytes. `Bad` has the first rule that they don't meet: at most 4 MiB; a TOML document;
+/// shapes and limits of its keys; names; and counts over the whole.
 pub fn read_lab(alloc: Global, bytes: &[u8]) -> Result<LabInput, LabStop>
     ensures { Answers (input_of bytes.now) result }
 {

@@ -1,4 +1,4 @@
-//! The first wrong shape or limit, as it is told.
+//! The first wrong shape or limit, as it is reported.
 
 ghost use Rattle.std.specs.Prelude.{◌≡◌, IfOk, option_map};
 ghost use Rattle.toml.specs.View.{table_view};
@@ -12,7 +12,7 @@ use lab_tables::shaped;
 use std::alloc::Global;
 use toml::Table;
 
-/// A flaw as it is told.
+/// Returns a flaw as it is reported.
 fn bad_of<'a>(alloc: Global, flaw: Flaw<'a>) -> Result<BadInput, NoMemory>
     ensures { IfOk result (λ bad. bad ≡ bad_of_lem flaw.entry) }
 {
@@ -22,7 +22,7 @@ fn bad_of<'a>(alloc: Global, flaw: Flaw<'a>) -> Result<BadInput, NoMemory>
     }
 }
 
-/// The first flaw of a document, as it is told.
+/// Returns the first flaw of a document, as it is reported.
 pub(crate) fn shape_of(alloc: Global, doc: &Table) -> Result<Option<BadInput>, NoMemory>
     ensures { IfOk result (λ bad. bad ≡ option_map bad_of_lem (shaped_lem (table_view doc.now))) }
 {

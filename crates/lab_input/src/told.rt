@@ -1,4 +1,4 @@
-//! Faults that are told by a text or a number.
+//! Faults that are reported with a text or a number.
 
 ghost use Rattle.std.specs.Prelude.{◌≡◌, IfOk};
 ghost use Rattle.lab_input.specs.Names.{repeated_if as repeated_if_lem};
@@ -8,7 +8,7 @@ use crate::bad::BadInput;
 use bgp_types::{Name, NoMemory};
 use std::alloc::Global;
 
-/// A repeated text, where a test says so.
+/// Returns the fault of a repeated text, if the test is true.
 pub(crate) fn repeated_if(
     alloc: Global,
     again: bool,
@@ -22,7 +22,7 @@ pub(crate) fn repeated_if(
     Ok(Some(BadInput::Repeated(Name::from_text(alloc, text)?)))
 }
 
-/// A count above its limit.
+/// Returns the fault of a count above its limit.
 pub(crate) fn over(
     alloc: Global,
     name: &str,
@@ -37,7 +37,7 @@ pub(crate) fn over(
     Ok(Some(BadInput::Limit(Name::from_text(alloc, name)?, n)))
 }
 
-/// The first of two faults.
+/// Returns the first of two faults.
 pub(crate) fn first(fault: Option<BadInput>, later: Option<BadInput>) -> Option<BadInput>
     ensures { result ≡ option_or fault later }
 {

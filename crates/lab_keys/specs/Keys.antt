@@ -1,4 +1,4 @@
--- Keys of tables: which of them a table has to have, which it may have, and of what kind their values are.
+-- Keys of tables: which of them are required, which are optional, and the kinds of their values.
 use Rattle.std.specs.Prelude.{ℕ, ◌+◌, Bool, true, false, not, List, [], ◌∷◌, ◌++◌, map, length, Option, Some, None, if◌then◌else◌, codes}
 use Rattle.std.specs.Option.{option_or}
 use Rattle.toml.specs.Data.{Data, Members, no_members, member, get_member}
@@ -35,7 +35,7 @@ abbrev pub value_flaw : Option Counts → Kind → Place → Data → Option Fla
 value_flaw None kind at d = kind_flaw kind at d
 value_flaw (Some counts) kind at d = array_flaw at counts.low counts.high (λ i. kind_flaw kind (member_of at i)) d
 
--- what is missing is a wrong shape where it is required
+-- a missing value has a wrong shape if it is required
 abbrev pub present : Place → Bool → (Data → Option Flaw) → Option Data → Option Flaw
 present at needed flaw None = flaw_if needed (Shape at)
 present at needed flaw (Some d) = flaw d
@@ -54,7 +54,7 @@ tables_flaw at key needed low high flaw t =
 
 -- ---- keys that aren't known
 
--- the first key that isn't known; a table's keys stand in the order of their bytes
+-- the first unknown key; a table's keys are in the order of their bytes
 abbrev pub stray_in : List (List ℕ) → Members → Option (List ℕ)
 stray_in known no_members = None
 stray_in known (member key d ms) = if is_one_of known key then stray_in known ms else Some key

@@ -1,4 +1,4 @@
--- What may stand at a key: the kinds of values, and the first flaw of a value that isn't of its kind.
+-- What may be at a key: the kinds of values, and the first flaw of a value that isn't of its kind.
 use Rattle.std.specs.Prelude.{ℕ, ◌+◌, ◌/◌, ◌==◌, pos, negsuc, nat_lt, nat_le, Bool, true, false, ◌&&◌, ◌||◌, not, List, [], ◌∷◌, length, Option, Some, None, is_some, if◌then◌else◌, codes}
 use Rattle.std.specs.Option.{option_or}
 use Rattle.std.specs.List.{list_any}
@@ -19,12 +19,12 @@ abbrev pub first_of : {E : Type 0} → List (Option E) → Option E
 first_of [] = None
 first_of (flaw ∷ flaws) = option_or flaw (first_of flaws)
 
--- the first flaw of things that stand one after another, the first of them at place i
+-- the first flaw in a list whose first member has index i
 abbrev pub each_from : {A E : Type 0} → (ℕ → A → Option E) → ℕ → List A → Option E
 each_from flaw i [] = None
 each_from flaw i (x ∷ xs) = option_or (flaw i x) (each_from flaw (i + 1) xs)
 
--- a flaw where a test says so
+-- the flaw if the test is true
 abbrev pub flaw_if : Bool → Flaw → Option Flaw
 flaw_if test flaw = if test then Some flaw else None
 
@@ -43,7 +43,7 @@ words_of StepKinds = codes "announce" ∷ codes "withdraw" ∷ codes "raw" ∷ c
 abbrev pub is_one_of : List (List ℕ) → List ℕ → Bool
 is_one_of words text = list_any (λ word. bytes_eq text word) words
 
--- a number from low to high; a negative one is told as 0
+-- a number from low to high; a negative one is reported as 0
 abbrev pub number_flaw : Place → (low high : ℕ) → Data → Option Flaw
 number_flaw at low high (integer (pos n)) = beyond at low high n
 number_flaw at low high (integer (negsuc n)) = Some (Limit at 0)
@@ -55,7 +55,7 @@ hold_time_flaw at (integer (pos n)) = flaw_if (n == 1 || n == 2 || nat_lt 65535 
 hold_time_flaw at (integer (negsuc n)) = Some (Limit at 0)
 hold_time_flaw at _ = Some (Shape at)
 
--- a text of a form
+-- a text of this form
 abbrev pub text_flaw : Place → (List ℕ → Bool) → Data → Option Flaw
 text_flaw at is_formed (string text) = flaw_if (not (is_formed text)) (Shape at)
 text_flaw at is_formed _ = Some (Shape at)
@@ -93,7 +93,7 @@ abbrev pub list_of : Items → List Data
 list_of no_items = []
 list_of (item d ds) = d ∷ list_of ds
 
--- its count is tested before its members
+-- the length of an array is checked before its members
 abbrev pub counted : Place → (low high : ℕ) → (ℕ → Data → Option Flaw) → List Data → Option Flaw
 counted at low high flaw ds = option_or (beyond at low high (length ds)) (each_from flaw 0 ds)
 

@@ -1,9 +1,9 @@
--- Where a value stands in an input.
+-- Where a value is in an input.
 use Rattle.std.specs.Prelude.{ℕ, List, [], ◌++◌, Option, Some, None, codes, decimal}
 use Rattle.lab_keys.specs.declared.table_at.TableAt.{TableAt}
 use Rattle.lab_keys.specs.declared.table_at.TableAt.TheVariants.{Top, Router, Policy, Rule, Cost, Peering, Fault, Step}
 
--- a key of a table, and a place in the array at that key
+-- a key of a table and, for a member of the array at that key, its index
 pub record Place : Type 0 where
   pub table : TableAt
   pub key : List ℕ
@@ -15,7 +15,7 @@ place at key = record { table = at; key = key; member = None }
 abbrev pub member_of : Place → ℕ → Place
 member_of p i = record p { member = Some i }
 
--- ---- paths, with places from 0, as `router[0].policy[1].rule[0].ge` or `step[3].prefixes[2]`
+-- ---- paths, with indices from 0, like `router[0].policy[1].rule[0].ge` or `step[3].prefixes[2]`
 
 abbrev pub index_text : ℕ → List ℕ
 index_text i = codes "[" ++ decimal i ++ codes "]"

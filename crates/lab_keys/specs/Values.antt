@@ -1,4 +1,4 @@
--- The value at a key, or what counts where there is none.
+-- The value at a key, or its default.
 use Rattle.std.specs.Prelude.{ℕ, ◌^◌, pos, nat_lt, Bool, List, [], ◌∷◌, Option, Some, None, option_and_then, unwrap_or, is_some, if◌then◌else◌}
 use Rattle.std.specs.List.{filter_map}
 use Rattle.toml.specs.Data.{Data, string, integer, boolean, array, table, Items, Members, get_member, as_str, as_bool, as_table}
@@ -6,7 +6,7 @@ use Rattle.bgp_types.specs.Prefixes.{PrefixValue}
 use Rattle.lab_keys.specs.Kinds.{list_of}
 use Rattle.lab_keys.specs.Texts.{address_in, host_in, prefix_in, octets_in}
 
--- a number that so many bits hold
+-- a number that fits in n bits
 abbrev pub number_in : ℕ → Data → Option ℕ
 number_in bits (integer (pos n)) = if nat_lt n (2 ^ bits) then Some n else None
 number_in bits _ = None

@@ -13,7 +13,7 @@ use bgp_types::{Items, NoMemory, Prefix, PrefixList};
 use std::alloc::Global;
 use toml::{Table, Value};
 
-/// Adds a value at the end, where there is one.
+/// Adds a value at the end, if there is one.
 pub(crate) fn push_some<T: Drop>(list: &mut Items<T>, value: Option<T>) -> Result<(), NoMemory>
     ensures { OnOk result (list.new ≡ list.old ++ cons_option value []) }
 {
@@ -23,7 +23,7 @@ pub(crate) fn push_some<T: Drop>(list: &mut Items<T>, value: Option<T>) -> Resul
     Ok(())
 }
 
-/// The values of the array at a key, where there is one.
+/// Returns the values of the array at a key, if there is one.
 pub fn items_at<'a>(key: &str, table: &'a Table) -> Option<&'a [Value]>
     ensures { option_map_or (λ values. map view values.now) result [] ≡ items_at_lem key.now (table_view table.now) }
 {
@@ -37,7 +37,7 @@ fn prefix_of(value: &Value) -> Option<Prefix>
     prefix_in(value.as_str()?)
 }
 
-/// The prefixes that texts of an array write.
+/// Returns the prefixes written by texts of an array. Other values are skipped.
 fn prefixes_of(alloc: Global, values: &[Value]) -> Result<PrefixList, NoMemory>
     ensures { IfOk result (λ prefixes. prefixes ≡ filter_map prefix_of_data (map view values.now)) }
 {
@@ -48,7 +48,7 @@ fn prefixes_of(alloc: Global, values: &[Value]) -> Result<PrefixList, NoMemory>
     Ok(prefixes)
 }
 
-/// The prefixes of the array at a key.
+/// Returns the prefixes of the array at a key.
 pub fn prefixes_at(alloc: Global, key: &str, table: &Table) -> Result<PrefixList, NoMemory>
     ensures { IfOk result (λ prefixes. prefixes ≡ prefixes_at_lem key.now (table_view table.now)) }
 {
@@ -64,7 +64,7 @@ fn address_of(value: &Value) -> Option<u32>
     address_in(value.as_str()?)
 }
 
-/// The addresses that texts of an array write.
+/// Returns the addresses written by texts of an array. Other values are skipped.
 fn addresses_of(alloc: Global, values: &[Value]) -> Result<Items<u32>, NoMemory>
     ensures { IfOk result (λ addresses. addresses ≡ filter_map address_of_data (map view values.now)) }
 {
@@ -75,7 +75,7 @@ fn addresses_of(alloc: Global, values: &[Value]) -> Result<Items<u32>, NoMemory>
     Ok(addresses)
 }
 
-/// The addresses of the array at a key.
+/// Returns the addresses of the array at a key.
 pub fn addresses_at(alloc: Global, key: &str, table: &Table) -> Result<Items<u32>, NoMemory>
     ensures { IfOk result (λ addresses. addresses ≡ addresses_at_lem key.now (table_view table.now)) }
 {
@@ -85,7 +85,7 @@ pub fn addresses_at(alloc: Global, key: &str, table: &Table) -> Result<Items<u32
     }
 }
 
-/// The numbers of an array that 32 bits hold.
+/// Returns the numbers of an array that fit in 32 bits. Other values are skipped.
 fn numbers_of(alloc: Global, values: &[Value]) -> Result<Items<u32>, NoMemory>
     ensures { IfOk result (λ numbers. numbers ≡ filter_map (number_in_lem 32) (map view values.now)) }
 {
@@ -96,7 +96,7 @@ fn numbers_of(alloc: Global, values: &[Value]) -> Result<Items<u32>, NoMemory>
     Ok(numbers)
 }
 
-/// The numbers of the array at a key.
+/// Returns the numbers of the array at a key.
 pub fn numbers_at(alloc: Global, key: &str, table: &Table) -> Result<Items<u32>, NoMemory>
     ensures { IfOk result (λ numbers. numbers ≡ numbers_at_lem key.now (table_view table.now)) }
 {

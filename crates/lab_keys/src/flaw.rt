@@ -1,4 +1,4 @@
-//! What is wrong with a value.
+//! Flaws: what is wrong with a value.
 
 use crate::spot::Spot;
 

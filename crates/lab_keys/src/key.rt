@@ -2,7 +2,7 @@
 
 use std::marker::Model;
 
-/// Texts of which one stands at a key.
+/// A set of allowed words.
 #[derive(Clone, Copy, Debug, PartialEq, Eq)]
 pub enum Words {
     Origins,
@@ -23,21 +23,21 @@ pub enum Kind {
     Prefix,
     Flag,
     Word(Words),
-    /// Octets in hexadecimal, so many.
+    /// Octets in hexadecimal, from `low` to `high` of them.
     Hex { low: usize, high: usize },
-    /// The key may not be there.
+    /// The key isn't allowed here.
     Misplaced,
 }
 
-/// How many members an array may have.
+/// Limits of the number of members of an array.
 #[derive(Clone, Copy, Debug, PartialEq, Eq)]
 pub struct Counts {
     pub low: usize,
     pub high: usize,
 }
 
-/// A key of a table: whether it has to be there, and the kind of its value, or with `counts` the kind of
-/// the members of the array there.
+/// A key of a table: whether it is required, and the kind of its value or, with `counts`, of the members of the array
+/// that it holds.
 #[derive(Debug, Drop)]
 pub struct Key {
     name: &'static str,

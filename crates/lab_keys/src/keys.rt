@@ -14,14 +14,14 @@ use crate::spot::Spot;
 use crate::table_at::TableAt;
 use toml::{Table, Value};
 
-/// The value at a key.
+/// Returns the value at a key.
 pub fn value_at<'a>(table: &'a Table, key: &str) -> Option<&'a Value>
     ensures { option_map (λ v. view v.now) result ≡ get_member key.now (table_view table.now) }
 {
     table.get(key)
 }
 
-/// The first flaw of an array, whose count is tested before its members.
+/// Returns the first flaw of an array. Its length is checked before its members.
 fn array_flaw<'a>(
     counts: Counts,
     kind: Kind,
@@ -43,7 +43,7 @@ fn array_flaw<'a>(
     members_flaw(kind, at, key, values)
 }
 
-/// The first flaw of a value of a kind, or of an array of such values.
+/// Returns the first flaw of a value of a kind, or of an array of such values.
 fn value_flaw<'a>(
     counts: Option<Counts>,
     kind: Kind,
@@ -62,7 +62,7 @@ fn value_flaw<'a>(
     array_flaw(counts, kind, at, key, array.as_slice())
 }
 
-/// The first flaw at a key of a table.
+/// Returns the first flaw at a key of a table.
 fn key_flaw<'a>(at: TableAt, key: &Key, table: &Table) -> Option<Flaw<'a>>
     ensures { result ≡ key_flaw_lem at (table_view table.now) key.now }
 {
@@ -73,7 +73,7 @@ fn key_flaw<'a>(at: TableAt, key: &Key, table: &Table) -> Option<Flaw<'a>>
     value_flaw(key.counts(), key.kind(), at, name, value)
 }
 
-/// The first flaw of the keys of a table, in the order of these keys.
+/// Returns the first flaw of the values at these keys of a table, in the order of the keys.
 pub fn keys_flaw<'a>(at: TableAt, keys: &[Key], table: &Table) -> Option<Flaw<'a>>
     ensures { result ≡ keys_flaw_lem at keys.now (table_view table.now) }
 {
@@ -85,21 +85,21 @@ pub fn keys_flaw<'a>(at: TableAt, keys: &[Key], table: &Table) -> Option<Flaw<'a
     None
 }
 
-/// Whether a key is one of those that are known.
+/// Returns whether a key is one of the known ones.
 fn is_known(key: &str, known: &[&str]) -> bool
     ensures { result ≡ list_any (λ k. bytes_eq key.now k.now) known.now }
 {
     known.iter().any(|k| key == *k)
 }
 
-/// The first key of a table that isn't known, in the order of bytes.
+/// Returns the first unknown key of a table, in the order of bytes.
 fn first_stray<'a>(known: &[&str], table: &'a Table) -> Option<&'a String>
     ensures { option_map (λ k. k.now) result ≡ find (λ k. not (list_any (λ w. bytes_eq (string_bytes k) w.now) known.now)) (keys table.now) }
 {
     table.keys().find(|key| !is_known(key.as_str(), known))
 }
 
-/// The text of that key.
+/// Returns the text of the first unknown key of a table.
 fn stray_in<'a>(known: &[&str], table: &'a Table) -> Option<&'a str>
     ensures { option_map (λ key. key.now) result ≡ stray_in_lem (map (λ k. k.now) known.now) (table_view table.now) }
 {
@@ -107,7 +107,7 @@ fn stray_in<'a>(known: &[&str], table: &'a Table) -> Option<&'a str>
     Some(key.as_str())
 }
 
-/// The flaw of a key that isn't known.
+/// Returns the flaw of the first unknown key of a table, if there is one.
 pub fn stray_flaw<'a>(at: TableAt, known: &[&str], table: &'a Table) -> Option<Flaw<'a>>
     ensures { result ≡ stray_flaw_lem at (map (λ k. k.now) known.now) (table_view table.now) }
 {

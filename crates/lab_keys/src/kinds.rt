@@ -13,7 +13,7 @@ use crate::table_at::TableAt;
 use crate::texts::{address_in, host_in, is_hex, is_name, prefix_in};
 use toml::Value;
 
-/// A number or a count beyond its limits.
+/// Returns the flaw of a number or a count that is beyond its limits.
 pub fn beyond<'a>(at: Spot<'a>, low: u64, high: u64, n: u64) -> Option<Flaw<'a>>
     ensures { result ≡ beyond_lem at.entry low high n }
 {
@@ -23,14 +23,14 @@ pub fn beyond<'a>(at: Spot<'a>, low: u64, high: u64, n: u64) -> Option<Flaw<'a>>
     None
 }
 
-/// A flaw where a test says so.
+/// Returns the flaw if the test is true.
 pub fn flaw_if<'a>(test: bool, flaw: Flaw<'a>) -> Option<Flaw<'a>>
     ensures { result ≡ flaw_if_lem test flaw.entry }
 {
     if test { Some(flaw) } else { None }
 }
 
-/// Whether a text is one of the words.
+/// Returns whether a text is one of the words.
 fn is_word(words: Words, text: &str) -> bool
     ensures { result ≡ is_one_of_lem (words_of_lem words) text.now }
 {
@@ -105,7 +105,7 @@ fn hex_flaw<'a>(at: Spot<'a>, low: usize, high: usize, value: &Value) -> Option<
     beyond(at, low as u64, high as u64, (text.len() / 2) as u64)
 }
 
-/// Whether a text has the form of a kind of texts.
+/// Returns whether a text has the form of a kind of texts.
 fn is_formed(kind: Kind, text: &str) -> bool
     ensures { result ≡ is_formed_lem kind text.now }
 {
@@ -128,7 +128,7 @@ fn text_flaw<'a>(at: Spot<'a>, kind: Kind, value: &Value) -> Option<Flaw<'a>>
     flaw_if(!is_formed(kind, text), Flaw::Shape(at))
 }
 
-/// The first flaw of a value of a kind.
+/// Returns the first flaw of a value of a kind.
 pub fn kind_flaw<'a>(kind: Kind, at: Spot<'a>, value: &Value) -> Option<Flaw<'a>>
     ensures { result ≡ kind_flaw_lem kind at.entry (view value.now) }
 {
@@ -142,7 +142,7 @@ pub fn kind_flaw<'a>(kind: Kind, at: Spot<'a>, value: &Value) -> Option<Flaw<'a>
     }
 }
 
-/// The first flaw of the members of an array.
+/// Returns the first flaw of the members of an array.
 pub fn members_flaw<'a>(kind: Kind, at: TableAt, key: &'a str, values: &[Value]) -> Option<Flaw<'a>>
     ensures { result ≡ each_from (λ i. kind_flaw_lem kind (member_of (place at key.now) i)) 0 (map view values.now) }
 {

@@ -1,5 +1,5 @@
-//! The keys of an input in TOML: of what kind the value at each key is, the first flaw of a table's
-//! values, and the values themselves.
+//! The keys of an input in TOML: the kind of the value at each key, the first flaw of a table's values, and the values
+//! themselves.
 #![tactic(auto)]
 
 mod arrays;

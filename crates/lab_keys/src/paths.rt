@@ -1,4 +1,4 @@
-//! Paths as texts.
+//! Paths of values, as texts.
 
 ghost use Rattle.std.specs.Prelude.{◌≡◌, ◌++◌, OnOk, IfOk, string_bytes};
 ghost use Rattle.lab_keys.specs.Places.{index_text, table_text, member_text, path_text};
@@ -9,7 +9,7 @@ use bgp_types::{Name, NoMemory};
 use std::alloc::Global;
 use std::fmt::Write;
 
-/// Adds a place of an array.
+/// Appends an index of an array.
 fn push_index(text: &mut String, i: usize) -> Result<(), NoMemory>
     ensures { OnOk result (string_bytes text.new ≡ string_bytes text.old ++ index_text i) }
 {
@@ -19,7 +19,7 @@ fn push_index(text: &mut String, i: usize) -> Result<(), NoMemory>
     Ok(())
 }
 
-/// Adds a text and a place of the array of that name.
+/// Appends a name and an index of the array of that name.
 fn push_item(text: &mut String, name: &str, i: usize) -> Result<(), NoMemory>
     ensures { OnOk result (string_bytes text.new ≡ string_bytes text.old ++ (name.now ++ index_text i)) }
 {
@@ -27,7 +27,7 @@ fn push_item(text: &mut String, name: &str, i: usize) -> Result<(), NoMemory>
     push_index(text, i)
 }
 
-/// Adds the path of a table, with a dot behind it.
+/// Appends the path of a table and a dot.
 fn push_table(text: &mut String, table: TableAt) -> Result<(), NoMemory>
     ensures { OnOk result (string_bytes text.new ≡ string_bytes text.old ++ table_text table) }
 {
@@ -52,7 +52,7 @@ fn push_table(text: &mut String, table: TableAt) -> Result<(), NoMemory>
     Ok(())
 }
 
-/// Adds the place of a member.
+/// Appends the index of a member, if there is one.
 fn push_member(text: &mut String, member: Option<usize>) -> Result<(), NoMemory>
     ensures { OnOk result (string_bytes text.new ≡ string_bytes text.old ++ member_text member) }
 {
@@ -62,7 +62,7 @@ fn push_member(text: &mut String, member: Option<usize>) -> Result<(), NoMemory>
     }
 }
 
-/// The path of a place, as `router[0].policy[1].rule[0].ge` or `step[3].prefixes[2]`.
+/// Returns the path of a place, like `router[0].policy[1].rule[0].ge` or `step[3].prefixes[2]`.
 pub fn path_of<'a>(alloc: Global, spot: Spot<'a>) -> Result<Name, NoMemory>
     ensures { IfOk result (λ name. name ≡ path_text spot.entry) }
 {

@@ -11,17 +11,17 @@ use bgp_types::{Items, NoMemory};
 use std::alloc::Global;
 use toml::{Table, Value};
 
-/// What reads a table as a value.
+/// A reader of tables as values.
 pub trait TableReader<V: Drop> {
     /// The value of a table.
     ghost value_of: { Self → Members → V };
 
-    /// The value of a table.
+    /// Returns the value of a table.
     fn value(&self, alloc: Global, table: &Table) -> Result<V, NoMemory>
         ensures { IfOk result (λ value. value ≡ value_of self.now (table_view table.now)) };
 }
 
-/// The value of a table, where this is one.
+/// Returns the value of a table, if `item` is one.
 fn value_of<V: Drop, R: TableReader<V>>(
     reader: &R,
     alloc: Global,
@@ -35,7 +35,7 @@ fn value_of<V: Drop, R: TableReader<V>>(
     }
 }
 
-/// The values of the tables among some values.
+/// Returns the values of those items that are tables.
 fn values_of<V: Drop, R: TableReader<V>>(
     reader: &R,
     alloc: Global,
@@ -50,7 +50,7 @@ fn values_of<V: Drop, R: TableReader<V>>(
     Ok(values)
 }
 
-/// The values of the tables of the array at a key.
+/// Returns the values of the tables of the array at a key.
 pub fn values_at<V: Drop, R: TableReader<V>>(
     reader: &R,
     alloc: Global,
@@ -65,7 +65,7 @@ pub fn values_at<V: Drop, R: TableReader<V>>(
     }
 }
 
-/// The tables among some values.
+/// Returns those items that are tables.
 fn tables_of<'a>(alloc: Global, items: &'a [Value]) -> Result<Items<&'a Table>, NoMemory>
     ensures { IfOk result (λ tables. map (λ t. table_view t.now) tables ≡ filter_map as_table (map view items.now)) }
 {
@@ -76,7 +76,7 @@ fn tables_of<'a>(alloc: Global, items: &'a [Value]) -> Result<Items<&'a Table>, 
     Ok(tables)
 }
 
-/// The tables of the array at a key.
+/// Returns the tables of the array at a key.
 pub fn tables_in<'a>(
     alloc: Global,
     key: &str,

@@ -1,4 +1,4 @@
-//! Where a value stands.
+//! Where a value is in an input.
 
 ghost use Rattle.std.specs.Prelude.{◌≡◌};
 ghost use Rattle.lab_keys.specs.Places.{place as place_lem, member_of as member_of_lem};
@@ -6,7 +6,7 @@ ghost use Rattle.lab_keys.specs.Places.{place as place_lem, member_of as member_
 use crate::table_at::TableAt;
 use std::marker::Model;
 
-/// A key of a table of an input, and a place in the array at that key.
+/// A place in an input: a key of a table and, for a member of the array at that key, its index.
 #[derive(Debug, Drop)]
 pub struct Spot<'a> {
     table: TableAt,
@@ -23,7 +23,7 @@ impl<'a> Model for Spot<'a> {
 }
 
 impl<'a> Spot<'a> {
-    /// The place of a key of a table.
+    /// Returns the place of a key of a table.
     pub fn of(table: TableAt, key: &'a str) -> Spot<'a>
         ensures { result ≡ place_lem table key.now }
     {
@@ -34,7 +34,7 @@ impl<'a> Spot<'a> {
         }
     }
 
-    /// The place of a member of the array there.
+    /// Returns the place of member `i` of the array there.
     pub fn member(self, i: usize) -> Spot<'a>
         ensures { result ≡ member_of_lem self.entry i }
     {
@@ -45,7 +45,7 @@ impl<'a> Spot<'a> {
         }
     }
 
-    /// The table, the key, and the place in the array.
+    /// Returns the table, the key, and the index in the array.
     pub fn into_parts(self) -> (TableAt, &'a str, Option<usize>)
         ensures table { result.0 ≡ self.entry.table }
         ensures key { result.1.now ≡ self.entry.key }

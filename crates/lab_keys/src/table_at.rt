@@ -1,7 +1,7 @@
 //! The tables of an input.
 
-/// A table of an input, by its place in the array that holds it, and by the places of the tables
-/// around it. Places count from 0.
+/// A table of an input, by its index in the array that holds it, and by the indices of the tables around it. Indices
+/// count from 0.
 #[derive(Clone, Copy, Debug, PartialEq, Eq)]
 pub enum TableAt {
     Top,

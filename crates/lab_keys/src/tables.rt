@@ -15,17 +15,17 @@ use crate::spot::Spot;
 use crate::table_at::TableAt;
 use toml::{Table, Value};
 
-/// A kind of tables that stand in an array.
+/// A kind of tables that are members of an array.
 pub trait TableKind {
-    /// The first flaw of the table at a place of the array.
+    /// The first flaw of the table at an index of the array.
     ghost flaw_of: { Self → ℕ → Members → Option FlawOf };
 
-    /// The first flaw of the table at place `i` of the array.
+    /// Returns the first flaw of the table at index `i` of the array.
     fn flaw<'a>(&self, i: usize, table: &'a Table) -> Option<Flaw<'a>>
         ensures { result ≡ flaw_of self.now i (table_view table.now) };
 }
 
-/// Where an array of tables stands, whether it has to be there, and how many tables it may have.
+/// Where an array of tables is, whether it is required, and how many tables it may have.
 #[derive(Clone, Copy, Debug)]
 pub struct ArrayAt {
     pub table: TableAt,
@@ -34,7 +34,7 @@ pub struct ArrayAt {
     pub high: usize,
 }
 
-/// The first flaw of the value at place `i` of an array of tables.
+/// Returns the first flaw of the value at index `i` of an array of tables.
 fn item_flaw<'a, K: TableKind>(
     kind: &K,
     at: TableAt,
@@ -50,7 +50,7 @@ fn item_flaw<'a, K: TableKind>(
     kind.flaw(i, table)
 }
 
-/// The first flaw of the values of an array of tables.
+/// Returns the first flaw of the values of an array of tables.
 fn items_flaw<'a, K: TableKind>(
     kind: &K,
     at: TableAt,
@@ -67,7 +67,7 @@ fn items_flaw<'a, K: TableKind>(
     None
 }
 
-/// The first flaw of the array of tables at a key.
+/// Returns the first flaw of the array of tables at a key.
 pub fn tables_flaw<'a, K: TableKind>(
     kind: &K,
     at: ArrayAt,

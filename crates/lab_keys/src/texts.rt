@@ -19,7 +19,7 @@ fn are_name_chars(bytes: &[u8]) -> bool
     bytes.iter().all(|c| is_name_char(*c))
 }
 
-/// Whether a text is a name: 1 to 16 characters, a to z first, and then a to z, 0 to 9 or a dash.
+/// Returns whether a text is a name: 1 to 16 characters, the first one a to z, the others a to z, 0 to 9 or a dash.
 pub fn is_name(text: &str) -> bool
     ensures { result ≡ is_name_lem text.now }
 {
@@ -30,14 +30,14 @@ pub fn is_name(text: &str) -> bool
     bytes[0].is_ascii_lowercase() && are_name_chars(bytes)
 }
 
-/// The address that a text writes.
+/// Returns the address written by a text.
 pub fn address_in(text: &str) -> Option<u32>
     ensures { result ≡ address_in_lem text.now }
 {
     read_address(text)
 }
 
-/// The address of a host that a text writes.
+/// Returns the address written by a text, if it is that of a host.
 pub fn host_in(text: &str) -> Option<u32>
     ensures { result ≡ host_in_lem text.now }
 {
@@ -49,7 +49,7 @@ pub fn host_in(text: &str) -> Option<u32>
     }
 }
 
-/// The prefix that a text writes.
+/// Returns the prefix written by a text.
 pub fn prefix_in(text: &str) -> Option<Prefix>
     ensures { result ≡ prefix_in_lem text.now }
 {
@@ -62,7 +62,7 @@ fn are_hex_digits(bytes: &[u8]) -> bool
     bytes.iter().all(|c| c.is_ascii_hexdigit())
 }
 
-/// Whether a text is an even number of hexadecimal digits.
+/// Returns whether a text is an even number of hexadecimal digits.
 pub fn is_hex(text: &str) -> bool
     ensures { result ≡ is_hex_lem text.now }
 {

@@ -1,4 +1,4 @@
-//! The values at keys, and what counts where there is none.
+//! The values at keys, and defaults.
 
 ghost use Rattle.std.specs.Prelude.{◌≡◌, IfOk, Some, None, map, option_map, option_copied};
 ghost use Rattle.toml.specs.Data.{as_str};
@@ -12,14 +12,14 @@ use bgp_types::{Items, NoMemory, Octets, Prefix, PrefixList};
 use std::alloc::Global;
 use toml::{Table, Value};
 
-/// Whether there is a value at a key.
+/// Returns whether there is a value at a key.
 pub fn has(key: &str, table: &Table) -> bool
     ensures { result ≡ has_lem key.now (table_view table.now) }
 {
     value_at(table, key).is_some()
 }
 
-/// The number that a value is, where 32 bits hold it.
+/// Returns the number that a value is, if it fits in 32 bits.
 pub fn number_in(value: &Value) -> Option<u32>
     ensures { result ≡ number_in_lem 32 (view value.now) }
 {
@@ -29,14 +29,14 @@ pub fn number_in(value: &Value) -> Option<u32>
     }
 }
 
-/// The number at a key, where 32 bits hold it.
+/// Returns the number at a key, if it fits in 32 bits.
 pub fn maybe_number(key: &str, table: &Table) -> Option<u32>
     ensures { result ≡ maybe_number_lem 32 key.now (table_view table.now) }
 {
     number_in(value_at(table, key)?)
 }
 
-/// The number at a key, or else the default.
+/// Returns the number at a key, or else the default.
 pub fn number_or(default: u32, key: &str, table: &Table) -> u32
     ensures { result ≡ number_or_lem 32 default key.now (table_view table.now) }
 {
@@ -58,7 +58,7 @@ fn maybe_short(key: &str, table: &Table) -> Option<u16>
     short_in(value_at(table, key)?)
 }
 
-/// The number at a key, or else the default.
+/// Returns the 16-bit number at a key, or else the default.
 pub fn short_or(default: u16, key: &str, table: &Table) -> u16
     ensures { result ≡ number_or_lem 16 default key.now (table_view table.now) }
 {
@@ -80,21 +80,21 @@ fn maybe_small(key: &str, table: &Table) -> Option<u8>
     small_in(value_at(table, key)?)
 }
 
-/// The number at a key, or else the default.
+/// Returns the 8-bit number at a key, or else the default.
 pub fn small_or(default: u8, key: &str, table: &Table) -> u8
     ensures { result ≡ number_or_lem 8 default key.now (table_view table.now) }
 {
     maybe_small(key, table).unwrap_or(default)
 }
 
-/// The text at a key.
+/// Returns the text at a key.
 pub fn maybe_text<'a>(key: &str, table: &'a Table) -> Option<&'a str>
     ensures { option_copied result ≡ maybe_text_lem key.now (table_view table.now) }
 {
     value_at(table, key)?.as_str()
 }
 
-/// The text at a key, or else the empty one.
+/// Returns the text at a key, or else the empty text.
 pub fn text_at<'a>(key: &str, table: &'a Table) -> &'a str
     ensures { result.now ≡ text_at_lem key.now (table_view table.now) }
 {
@@ -110,7 +110,7 @@ fn flag_at(key: &str, table: &Table) -> Option<bool>
     value_at(table, key)?.as_bool()
 }
 
-/// The flag at a key, or else the default.
+/// Returns the flag at a key, or else the default.
 pub fn flag_or(default: bool, key: &str, table: &Table) -> bool
     ensures { result ≡ flag_or_lem default key.now (table_view table.now) }
 {
@@ -123,21 +123,21 @@ fn address_at(key: &str, table: &Table) -> Option<u32>
     address_in(maybe_text(key, table)?)
 }
 
-/// The address at a key, or else the default.
+/// Returns the address at a key, or else the default.
 pub fn address_or(default: u32, key: &str, table: &Table) -> u32
     ensures { result ≡ address_or_lem default key.now (table_view table.now) }
 {
     address_at(key, table).unwrap_or(default)
 }
 
-/// The prefix at a key.
+/// Returns the prefix at a key.
 pub fn maybe_prefix(key: &str, table: &Table) -> Option<Prefix>
     ensures { result ≡ maybe_prefix_lem key.now (table_view table.now) }
 {
     prefix_in(maybe_text(key, table)?)
 }
 
-/// The octets that a text writes in hexadecimal, or none where it isn't so.
+/// Returns the octets written by a text in hexadecimal; none if the text isn't hexadecimal.
 fn octets_in(alloc: Global, text: &str) -> Result<Octets, NoMemory>
     ensures { IfOk result (λ octets. octets ≡ octets_in_lem text.now) }
 {
@@ -148,7 +148,7 @@ fn octets_in(alloc: Global, text: &str) -> Result<Octets, NoMemory>
     }
 }
 
-/// The octets that the text at a key writes in hexadecimal.
+/// Returns the octets written in hexadecimal by the text at a key.
 pub fn octets_at(alloc: Global, key: &str, table: &Table) -> Result<Octets, NoMemory>
     ensures { IfOk result (λ octets. octets ≡ octets_at_lem key.now (table_view table.now)) }
 {

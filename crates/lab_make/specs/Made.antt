@@ -2,7 +2,7 @@
 use Rattle.std.specs.Prelude.{ℕ, ◌+◌, ◌*◌, ◌/◌, ◌%◌, ◌==◌, nat_lt, if◌then◌else◌, List, [], ◌++◌, filter, count_by, codes, decimal}
 use Rattle.std.specs.List.{flat_map, join_by, range_with_len}
 
--- the texts of 0 to n - 1, one behind the other
+-- the texts of 0 to n - 1, one after another
 unfoldable pub each_below : (ℕ → List ℕ) → ℕ → List ℕ
 each_below text n = flat_map text (range_with_len 0 n)
 
@@ -15,7 +15,7 @@ numbered before n after = before ++ decimal n ++ after
 abbrev pub router_table : ℕ → List ℕ
 router_table r = numbered (codes "[[router]]\nname = \"r") r (codes "\"\n") ++ numbered (codes "id = \"10.255.0.") (r + 1) (codes "\"\nsessions = 12\n\n")
 
--- a peering begins at the routers in turn, and its streams a little below 2^32
+-- a peering begins at the routers in turn, and its sequence numbers a little below 2^32
 abbrev pub peering_head : ℕ → List ℕ
 peering_head j = numbered (codes "[[peering]]\nname = \"p") j (codes "\"\n") ++ numbered (codes "at = \"r") (j % 4) (codes "\"\n") ++ numbered (codes "remote_as = ") (64601 + j) (codes "\n")
 
@@ -56,7 +56,7 @@ announce_head j = numbered (codes "[[step]]\ndo = \"announce\"\npeering = \"p") 
 abbrev pub announce_path : List ℕ → ℕ → List ℕ
 announce_path further j = numbered (codes "]\npath = [") (64601 + j) further ++ codes "]\n\n"
 
--- peering j announces its prefixes, with a path of its AS and what is added
+-- peering j announces its prefixes, with a path of its AS followed by these
 abbrev pub announce_step : ℕ → List ℕ → ℕ → List ℕ
 announce_step shift further j = announce_head j ++ join_by prefix_text (codes ", ") (prefixes_of shift j) ++ announce_path further j
 
@@ -77,14 +77,14 @@ moved_by seed g = (5 * g + seed) % 12
 unfoldable pub moves_before : (seed peering g : ℕ) → ℕ
 moves_before seed peering g = count_by (λ h. moved_by seed h == peering) (range_with_len 0 g)
 
--- the router to which graft g moves its peering: the one after that where it is, which every graft before it has moved by one
+-- the router to which graft g moves its peering: the one after the current one; every graft before has moved it by one
 abbrev pub target_of : (seed g : ℕ) → ℕ
 target_of seed g = (moved_by seed g + moves_before seed (moved_by seed g) g + 1) % 4
 
 abbrev pub graft_step : (seed g : ℕ) → List ℕ
 graft_step seed g = numbered (codes "[[step]]\ndo = \"graft\"\npeering = \"p") (moved_by seed g) (codes "\"\n") ++ numbered (codes "to = \"r") (target_of seed g) (codes "\"\n\n")
 
--- behind each of the first twelve grafts the peering of its number announces with a longer path
+-- after each of the first twelve grafts the peering of its number announces with a longer path
 abbrev pub later_step : (seed g : ℕ) → List ℕ
 later_step seed g = if nat_lt g 12 then second_step seed g else []
 

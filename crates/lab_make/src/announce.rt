@@ -8,8 +8,8 @@ use crate::numbered::push_numbered;
 use graft_edge::{Items, NoMemory};
 use std::alloc::Global;
 
-/// Adds the number of a prefix, if the prefix is one of peering `j`: every twelfth is, from a place that the
-/// shift moves.
+/// Adds the number of a prefix if the prefix is one of peering `j`. Every twelfth is, from a place that depends on the
+/// shift.
 fn push_own(prefixes: &mut Items<u32>, i: u32, shift: u32, j: u32) -> Result<(), NoMemory>
     requires prefix { i < 2000 }
     requires shift { shift ≤ 10004 }
@@ -21,7 +21,7 @@ fn push_own(prefixes: &mut Items<u32>, i: u32, shift: u32, j: u32) -> Result<(),
     Ok(())
 }
 
-/// The numbers of the prefixes of peering `j`.
+/// Returns the numbers of the prefixes of peering `j`.
 fn prefixes_of(alloc: Global, shift: u32, j: u32) -> Result<Items<u32>, NoMemory>
     requires { shift ≤ 10004 }
     ensures { IfOk result (λ prefixes. prefixes ≡ prefixes_of shift j) }
@@ -33,7 +33,7 @@ fn prefixes_of(alloc: Global, shift: u32, j: u32) -> Result<Items<u32>, NoMemory
     Ok(prefixes)
 }
 
-/// A prefix in quotes.
+/// Appends a prefix in quotes.
 fn push_prefix(text: &mut String, i: u32) -> Result<(), NoMemory>
     ensures { OnOk result (string_bytes text.new ≡ string_bytes text.old ++ prefix_text i) }
 {
@@ -41,7 +41,7 @@ fn push_prefix(text: &mut String, i: u32) -> Result<(), NoMemory>
     push_numbered(text, "", i % 256, ".0/24\"")
 }
 
-/// Further prefixes, each behind a comma.
+/// Appends further prefixes, each after a comma.
 fn push_further(text: &mut String, prefixes: &[u32]) -> Result<(), NoMemory>
     ensures { OnOk result (string_bytes text.new ≡ string_bytes text.old ++ flat_map (λ i. codes ", " ++ prefix_text i) prefixes.now) }
 {
@@ -52,7 +52,7 @@ fn push_further(text: &mut String, prefixes: &[u32]) -> Result<(), NoMemory>
     Ok(())
 }
 
-/// Prefixes with commas between them.
+/// Appends prefixes with commas between them.
 fn push_prefixes(text: &mut String, prefixes: &Items<u32>) -> Result<(), NoMemory>
     ensures { OnOk result (string_bytes text.new ≡ string_bytes text.old ++ join_by prefix_text (codes ", ") prefixes.now) }
 {
@@ -83,7 +83,7 @@ fn push_path(text: &mut String, further: &str, j: u32) -> Result<(), NoMemory>
     Ok(())
 }
 
-/// A step that announces the prefixes of peering `j` with a path of its AS and what `further` adds.
+/// Appends a step that announces the prefixes of peering `j` with a path of its AS followed by `further`.
 pub(crate) fn push_announce(
     text: &mut String,
     alloc: Global,

@@ -8,7 +8,7 @@ use crate::tables::{push_faults, push_peerings, push_routers};
 use graft_edge::{Items, NoMemory, Octets};
 use std::alloc::Global;
 
-/// The AS of the home network, and all tables but the steps.
+/// Appends the AS of the home network, and all tables but the steps.
 fn push_tables(text: &mut String) -> Result<(), NoMemory>
     ensures { OnOk result (string_bytes text.new ≡ string_bytes text.old ++ tables_text) }
 {
@@ -18,7 +18,7 @@ fn push_tables(text: &mut String) -> Result<(), NoMemory>
     push_faults(text)
 }
 
-/// The laboratory of a seed of 1 to 9,999, as the text of an input.
+/// Returns the laboratory of a seed from 1 to 9,999, as the text of an input.
 #[tactic(auto, unfolding(crate::specs::Made::made))]
 pub fn make_lab(alloc: Global, seed: u32) -> Result<Octets, NoMemory>
     requires lowest { 1 ≤ seed }

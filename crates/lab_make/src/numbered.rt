@@ -1,4 +1,4 @@
-//! A number within a text.
+//! Numbers within a text.
 
 ghost use Rattle.std.specs.Prelude.{◌≡◌, ◌++◌, OnOk, string_bytes};
 ghost use Rattle.lab_make.specs.Made.{numbered};
@@ -6,7 +6,7 @@ ghost use Rattle.lab_make.specs.Made.{numbered};
 use graft_edge::NoMemory;
 use std::fmt::Write;
 
-/// A number between two texts.
+/// Appends a number between two texts.
 #[tactic(auto, unfolding(crate::specs::Made::numbered))]
 pub(crate) fn push_numbered(
     text: &mut String,

@@ -8,7 +8,7 @@ use crate::numbered::push_numbered;
 use graft_edge::NoMemory;
 use std::alloc::Global;
 
-/// Each peering announces its prefixes.
+/// Appends the steps in which each peering announces its prefixes.
 fn push_announcements(text: &mut String, alloc: Global, seed: u32) -> Result<(), NoMemory>
     requires { seed ≤ 9999 }
     ensures { OnOk result (string_bytes text.new ≡ string_bytes text.old ++ each_below (first_step seed) 12) }
@@ -19,7 +19,7 @@ fn push_announcements(text: &mut String, alloc: Global, seed: u32) -> Result<(),
     Ok(())
 }
 
-/// The peering that a graft moves.
+/// Returns the peering that a graft moves.
 fn moved_by(seed: u32, g: u32) -> u32
     requires seed { seed ≤ 9999 }
     requires graft { g < 20 }
@@ -28,7 +28,7 @@ fn moved_by(seed: u32, g: u32) -> u32
     (5 * g + seed) % 12
 }
 
-/// 1 where a graft moves this peering, else 0.
+/// Returns 1 if a graft moves this peering, and 0 otherwise.
 fn moves_by(seed: u32, g: u32, peering: u32) -> u32
     requires seed { seed ≤ 9999 }
     requires graft { g < 20 }
@@ -38,7 +38,7 @@ fn moves_by(seed: u32, g: u32, peering: u32) -> u32
     if moved_by(seed, g) == peering { 1 } else { 0 }
 }
 
-/// How often the grafts before graft `g` move a peering.
+/// Returns how often the grafts before graft `g` move a peering.
 fn moves_before(seed: u32, g: u32, peering: u32) -> u32
     requires seed { seed ≤ 9999 }
     requires graft { g < 20 }
@@ -52,7 +52,7 @@ fn moves_before(seed: u32, g: u32, peering: u32) -> u32
     moves
 }
 
-/// The router to which a graft moves its peering: the one after that where it is.
+/// Returns the router to which a graft moves its peering: the one after the current one.
 fn target_of(seed: u32, g: u32) -> u32
     requires seed { seed ≤ 9999 }
     requires graft { g < 20 }
@@ -78,7 +78,7 @@ fn push_graft(text: &mut String, seed: u32, g: u32) -> Result<(), NoMemory>
     push_numbered(text, "to = \"r", target, "\"\n\n")
 }
 
-/// The first twelve grafts are each followed by an announcement with a longer path.
+/// Appends the announcement with a longer path that follows each of the first twelve grafts.
 fn push_later(text: &mut String, alloc: Global, seed: u32, g: u32) -> Result<(), NoMemory>
     requires { seed ≤ 9999 }
     ensures { OnOk result (string_bytes text.new ≡ string_bytes text.old ++ later_step seed g) }
@@ -115,7 +115,7 @@ fn push_settle(text: &mut String) -> Result<(), NoMemory>
     Ok(())
 }
 
-/// All steps.
+/// Appends all steps.
 pub(crate) fn push_script(text: &mut String, alloc: Global, seed: u32) -> Result<(), NoMemory>
     requires { seed ≤ 9999 }
     ensures { OnOk result (string_bytes text.new ≡ string_bytes text.old ++ script_text seed) }

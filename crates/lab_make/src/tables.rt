@@ -23,7 +23,7 @@ pub(crate) fn push_routers(text: &mut String) -> Result<(), NoMemory>
     Ok(())
 }
 
-/// The name of a peering, where it is at first, and its AS.
+/// Appends the name of a peering, its first router, and its AS.
 fn push_peering_head(text: &mut String, j: u32) -> Result<(), NoMemory>
     requires { j < 12 }
     ensures { OnOk result (string_bytes text.new ≡ string_bytes text.old ++ peering_head j) }
@@ -41,7 +41,7 @@ fn push_addresses(text: &mut String, j: u32) -> Result<(), NoMemory>
     push_numbered(text, "local_address = \"192.0.2.", 2 * j + 2, "\"\n")
 }
 
-/// The first numbers of the two streams of a peering, which are so high that they wrap around.
+/// Appends the initial sequence numbers of a peering, which are so high that the numbers wrap around.
 fn push_streams(text: &mut String, j: u32) -> Result<(), NoMemory>
     requires { j < 12 }
     ensures { OnOk result (string_bytes text.new ≡ string_bytes text.old ++ peering_streams j) }
@@ -69,7 +69,7 @@ pub(crate) fn push_peerings(text: &mut String) -> Result<(), NoMemory>
     Ok(())
 }
 
-/// The second segment to home is lost.
+/// Appends the fault that loses the second segment to home.
 fn push_lose(text: &mut String, j: u32) -> Result<(), NoMemory>
     ensures { OnOk result (string_bytes text.new ≡ string_bytes text.old ++ lose_table j) }
 {
@@ -81,7 +81,7 @@ fn push_lose(text: &mut String, j: u32) -> Result<(), NoMemory>
     )
 }
 
-/// The third segment to the remote comes a second time, two later.
+/// Appends the fault that repeats the third segment to the remote, two turns later.
 fn push_repeat(text: &mut String, j: u32) -> Result<(), NoMemory>
     ensures { OnOk result (string_bytes text.new ≡ string_bytes text.old ++ repeat_table j) }
 {

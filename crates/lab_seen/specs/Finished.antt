@@ -1,4 +1,4 @@
--- What a laboratory's net finishes with.
+-- The end of a laboratory's net.
 use Rattle.std.specs.Prelude.{ℕ, ◌≡◌, List, length}
 use Rattle.ring_net.specs.declared.parts.Left.{Left}
 use Rattle.ring_net.specs.Left.{left_of}
@@ -11,7 +11,8 @@ use Rattle.world_nodes.specs.Looks.{IsWorldAt}
 use Rattle.world_nodes.specs.Nodes.{Mail}
 use Rattle.world_nodes.specs.Ways.{Stand}
 
--- The net stands at this world of a run, with the channels of the laboratory. These are all its actors, and this is left on its way along each edge.
+-- The net is seen as this world of a run, with the channels of the laboratory. These are all its actors, and these items are left on their way along
+-- each edge.
 pub record IsFinished (setup : Setup) (w : World) (actors : List Node) (left : List (Left Mail)) : Type 0 where
   pub stand : Stand
   pub world : IsWorldAt setup stand w

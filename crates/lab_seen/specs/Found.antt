@@ -1,4 +1,4 @@
--- What is found of sessions, and of the actors by their numbers.
+-- How sessions are found, and the actors by their numbers.
 use Rattle.std.specs.Prelude.{ℕ, ◌==◌, List, [], ◌∷◌, map, Option, Some, None}
 use Rattle.std.specs.List.{flat_map, find}
 use Rattle.ring_net.specs.declared.parts.Left.{Left}
@@ -27,7 +27,7 @@ use Rattle.lab_seen.specs.declared.found.Found.{Found}
 
 -- ---- actors
 
--- the actor, where it is of this kind
+-- the actor, if it is a router
 abbrev pub router_in : Option Node → Option router_types.Router.Router
 router_in (Some (Router router)) = Some router
 router_in _ = None
@@ -78,7 +78,7 @@ carried_in channel = flat_map carried_by channel.items
 
 -- ---- by peering
 
--- the first session that was found of a peering
+-- the first session of a peering that was found
 abbrev pub first_on : List Found → ℕ → Option Found
 first_on found p = find (λ one. one.peering.0 == p) found
 

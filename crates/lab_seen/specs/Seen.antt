@@ -1,4 +1,4 @@
--- What a lab says of the world that its run ended in.
+-- What a `Lab` says of the world in which its run ended.
 use Rattle.std.specs.Prelude.{ℕ, ◌≡◌, ◌≢◌, ◌<◌, [], ◌∷◌, map, length, Some, slice_get}
 use Rattle.std.specs.List.{flat_map}
 use Rattle.std.specs.FinMap as table
@@ -31,7 +31,7 @@ abbrev pub IsPlace : World → ℕ → Place → Type 0
 IsPlace w p (Held router) = sessions_at ((w.router router.0).places p) ≢ []
 IsPlace w p Moving = (r : ℕ) → sessions_at ((w.router r).places p) ≡ []
 
--- A peering's session is where the lab says, and as it says.
+-- A peering's session is where the `Lab` says, and has the view that it says.
 pub record SeesSession (setup : Setup) (w : World) (lab : Lab) (p : ℕ) : Type 0 where
   pub session : SessionValue
   pub one : sessions_of setup w p ≡ session ∷ []
@@ -51,7 +51,7 @@ best_entry e = record { prefix = e.0; from = e.1.from; route = e.1.route }
 abbrev pub told_entry : ℕ → PrefixValue × Route → ToldEntry
 told_entry q e = record { router = record { 0 = q }; prefix = e.0; route = e.1 }
 
--- the best routes by rising prefix, and what the other routers told by rising router and prefix
+-- the best routes in ascending order of prefix, and what the other routers told in ascending order of router and prefix
 abbrev pub table_of : Setup → RouterPart → RouterTable
 table_of setup part = record {
   best = map best_entry (table.entries part.best);

@@ -15,7 +15,7 @@ use ring_net::{Actors, Lefts};
 use std::alloc::Global;
 use world_nodes::Node;
 
-/// A session that was found: of which peering it is, where it is, and what is seen of it.
+/// A session that was found: its peering, where it is, and its view.
 #[derive(Drop)]
 pub(crate) struct Found {
     peering: PeeringId,
@@ -23,7 +23,7 @@ pub(crate) struct Found {
     view: SessionView,
 }
 
-/// A session at its place, as it is seen.
+/// Returns a session at its place, as it is seen.
 fn found_at(place: Place, session: Session) -> Found
     ensures { result ≡ found_at_lem place session }
 {
@@ -34,7 +34,7 @@ fn found_at(place: Place, session: Session) -> Found
     }
 }
 
-/// The sessions that an actor holds, if it is a router.
+/// Returns the sessions that an actor holds, if it is a router.
 fn sessions_at(alloc: Global, node: Option<Node>) -> Result<Items<Session>, NoMemory>
     ensures { IfOk result (λ sessions. sessions ≡ sessions_of_lem (router_in node)) }
 {
@@ -58,7 +58,7 @@ fn add_held(
     Ok(())
 }
 
-/// The sessions that routers hold, which are the first actors, by rising router and peering.
+/// Returns the sessions that routers hold, in ascending order of router and peering. The routers are the first actors.
 fn held(alloc: Global, actors: Actors<Node>, routers: usize) -> Result<Items<Found>, NoMemory>
     requires { routers ≤ 256 }
     ensures { IfOk result (λ found. found ≡ flat_map (λ r. held_by r (slice_get actors r)) (range_with_len 0 routers)) }
@@ -93,7 +93,7 @@ fn add_moving(found: &mut Items<Found>, items: Items<Item<Capsule>>) -> Result<(
     Ok(())
 }
 
-/// All sessions: those that routers hold, and then those that are on their way.
+/// Returns all sessions: those that routers hold, and then those that are on their way.
 pub(crate) fn sessions_of(
     alloc: Global,
     actors: Actors<Node>,
@@ -110,7 +110,7 @@ pub(crate) fn sessions_of(
     Ok(found)
 }
 
-/// So many slots, with nothing in them.
+/// Returns `count` empty slots.
 fn no_slots(alloc: Global, count: usize) -> Result<Vec<Option<Found>>, NoMemory>
     ensures { IfOk result (λ slots. slots.items ≡ map (first_on []) (range_with_len 0 count)) }
 {
@@ -121,7 +121,7 @@ fn no_slots(alloc: Global, count: usize) -> Result<Vec<Option<Found>>, NoMemory>
     Ok(slots)
 }
 
-/// Puts a session into the slot of its peering, if that is empty.
+/// Puts a session into the slot of its peering, if the slot is empty.
 fn put(slots: &mut [Option<Found>], one: Found)
     ensures { (found : List Found) → slots.old ≡ map (first_on found) (range_with_len 0 (length slots.old)) → slots.new ≡ map (first_on (found ++ one ∷ [])) (range_with_len 0 (length slots.old)) }
 {
@@ -131,7 +131,7 @@ fn put(slots: &mut [Option<Found>], one: Found)
     }
 }
 
-/// The first session that was found of each peering.
+/// Returns, for each peering, the first session that was found, if any.
 fn slots_of(
     alloc: Global,
     found: Items<Found>,
@@ -146,7 +146,7 @@ fn slots_of(
     Ok(slots)
 }
 
-/// The places and the views in slots.
+/// Returns the places and the views of the sessions in slots.
 fn split(
     alloc: Global,
     slots: Vec<Option<Found>>,
@@ -165,7 +165,7 @@ fn split(
     Ok((placement, sessions))
 }
 
-/// Where the sessions of the peerings are, and what is seen of them, by rising peering.
+/// Returns where the sessions are, and their views, in ascending order of peering.
 pub(crate) fn by_peering(
     alloc: Global,
     found: Items<Found>,

@@ -1,4 +1,4 @@
-//! What is seen of the actors of a laboratory at the end of a run, and the lab that it makes.
+//! What is seen of the actors of a laboratory at the end of a run, and the `Lab` that is made of it.
 #![tactic(auto)]
 
 mod found;

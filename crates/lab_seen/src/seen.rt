@@ -25,7 +25,7 @@ use router_core::Router;
 use std::alloc::Global;
 use world_nodes::Node;
 
-/// The router of this number, if the actor is one.
+/// Returns the router of this number, if the actor is one.
 fn router_at(actors: &[Node], number: usize) -> Option<&Router>
     ensures { option_copied result ≡ router_in (slice_get actors.now number) }
 {
@@ -35,7 +35,7 @@ fn router_at(actors: &[Node], number: usize) -> Option<&Router>
     }
 }
 
-/// The far side of this number, if the actor is one.
+/// Returns the far side of this number, if the actor is one.
 fn far_at(actors: &[Node], number: usize) -> Option<&Far>
     ensures { option_copied result ≡ far_in (slice_get actors.now number) }
 {
@@ -45,7 +45,7 @@ fn far_at(actors: &[Node], number: usize) -> Option<&Far>
     }
 }
 
-/// The tables of the routers, which are the first actors.
+/// Returns the tables of the routers, which are the first actors.
 fn tables_of(alloc: Global, actors: &[Node], routers: usize) -> Result<Items<RouterTable>, NoMemory>
     requires { routers ≤ 256 }
     ensures { IfOk result (λ tables. (setup : Setup) → routers_in setup ≡ routers → tables ≡ flat_map (λ r. tables_of_lem setup (router_in (slice_get actors.now r))) (range_with_len 0 routers)) }
@@ -59,7 +59,7 @@ fn tables_of(alloc: Global, actors: &[Node], routers: usize) -> Result<Items<Rou
     Ok(tables)
 }
 
-/// What is seen of the remotes, whose far sides are the actors behind the routers.
+/// Returns what is seen of the remotes. Their far sides are the actors after the routers.
 fn fars_of(
     alloc: Global,
     actors: &[Node],
@@ -78,7 +78,7 @@ fn fars_of(
     Ok(fars)
 }
 
-/// The log of the operator, which is the actor of this number.
+/// Returns the log of the operator, which must be the actor of this number.
 fn log_at(alloc: Global, actors: &[Node], number: usize) -> Result<GraftLog, NoMemory>
     ensures { IfOk result (λ log. log ≡ log_in (operator_in (slice_get actors.now number))) }
 {
@@ -88,8 +88,9 @@ fn log_at(alloc: Global, actors: &[Node], number: usize) -> Result<GraftLog, NoM
     }
 }
 
-/// The laboratory of an input whose net has finished, as it is seen: how its run ended, the log of grafts, where each session is and what is seen of it, what is
-/// seen of each remote, the tables of each router, and the merged journal, with the marks and the rounds of its run. The input is one that was accepted.
+/// Returns what is seen of an input's laboratory whose net has finished: how its run ended, the log of grafts, where
+/// each session is and its view, what is seen of each remote, the tables of each router, and the merged journal, with
+/// the marks and the rounds of its run. The input must be one that was accepted.
 pub fn lab_of(
     alloc: Global,
     input: LabInput,

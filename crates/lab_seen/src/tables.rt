@@ -13,7 +13,7 @@ use rib_stages::Rib;
 use route_policy::Best;
 use std::alloc::Global;
 
-/// The best route to a prefix, as it is seen.
+/// Returns the best route to a prefix, as it is seen.
 fn best_seen(prefix: Prefix, best: &Best) -> Result<BestEntry, NoMemory>
     ensures { IfOk result (λ entry. entry ≡ best_entry (prefix, best.now)) }
 {
@@ -24,7 +24,7 @@ fn best_seen(prefix: Prefix, best: &Best) -> Result<BestEntry, NoMemory>
     })
 }
 
-/// The best routes of a router, in rising prefix.
+/// Returns the best routes of a router, in ascending order of prefix.
 fn best_of(alloc: Global, rib: &Rib) -> Result<Items<BestEntry>, NoMemory>
     ensures { IfOk result (λ best. best ≡ map best_entry (table.entries rib.now.best)) }
 {
@@ -37,7 +37,7 @@ fn best_of(alloc: Global, rib: &Rib) -> Result<Items<BestEntry>, NoMemory>
     Ok(best)
 }
 
-/// What a router told of a prefix, as it is seen.
+/// Returns what a router told about a prefix, as it is seen.
 fn told_seen(router: RouterId, prefix: Prefix, route: &Route) -> Result<ToldEntry, NoMemory>
     ensures { IfOk result (λ entry. entry ≡ told_entry router.0 (prefix, route.now)) }
 {
@@ -48,7 +48,7 @@ fn told_seen(router: RouterId, prefix: Prefix, route: &Route) -> Result<ToldEntr
     })
 }
 
-/// Adds what one other router told, in rising prefix.
+/// Adds what one other router told, in ascending order of prefix.
 fn push_told_by(told: &mut Items<ToldEntry>, rib: &Rib, router: RouterId) -> Result<(), NoMemory>
     ensures { OnOk result (told.new ≡ told.old ++ map (told_entry router.0) (table.entries ((rib_of rib.now).tellings router.0))) }
 {
@@ -60,7 +60,7 @@ fn push_told_by(told: &mut Items<ToldEntry>, rib: &Rib, router: RouterId) -> Res
     Ok(())
 }
 
-/// What the other routers told, in rising router and prefix.
+/// Returns what the other routers told, in ascending order of router and prefix.
 fn told_of(alloc: Global, rib: &Rib, routers: usize) -> Result<Items<ToldEntry>, NoMemory>
     requires { routers ≤ 256 }
     ensures { IfOk result (λ told. told ≡ flat_map (λ q. map (told_entry q) (table.entries ((rib_of rib.now).tellings q))) (range_with_len 0 routers)) }
@@ -72,7 +72,7 @@ fn told_of(alloc: Global, rib: &Rib, routers: usize) -> Result<Items<ToldEntry>,
     Ok(told)
 }
 
-/// The tables of a router in a laboratory of at most 256 routers.
+/// Returns the tables of a router. The laboratory must have at most 256 routers.
 pub fn table_of(alloc: Global, rib: &Rib, routers: usize) -> Result<RouterTable, NoMemory>
     requires { routers ≤ 256 }
     ensures best { IfOk result (λ seen. seen.best ≡ map best_entry (table.entries rib.now.best)) }

@@ -10,7 +10,7 @@ use graft_edge::{NoMemory, Octets};
 use lab_report::{FarView, SessionView};
 use std::alloc::Global;
 
-/// A session's story, and how many routes were heard and told on it.
+/// Returns a session's story, and how many routes were heard and told on it.
 pub fn view_of(session: Session) -> SessionView
     ensures { result ≡ view_of_lem session.session }
 {
@@ -23,7 +23,7 @@ pub fn view_of(session: Session) -> SessionView
     }
 }
 
-/// What a remote said and received, and the router that its link points at.
+/// Returns what a remote said and received, and the router that its link points at.
 pub fn far_view(alloc: Global, far: &Far) -> Result<FarView, NoMemory>
     ensures { IfOk result (λ view. view ≡ far_view_lem (part_in far.now)) }
 {

@@ -1,4 +1,4 @@
--- Words of an input, and what they stand for.
+-- Words of an input, and their meanings.
 use Rattle.std.specs.Prelude.{ℕ, Bool, List, [], ◌∷◌, Option, Some, None, option_and_then, unwrap_or, codes, if◌then◌else◌}
 use Rattle.std.specs.List.{position}
 use Rattle.std.specs.Str.{bytes_eq}
@@ -46,6 +46,6 @@ step_word_of text =
     else if bytes_eq text (codes "evacuate") then Evacuates
     else Other
 
--- the place of a name among others
+-- the index of a name among others
 abbrev pub number_of : List (List ℕ) → List ℕ → ℕ
 number_of names text = unwrap_or (position (bytes_eq text) names) 0

@@ -76,7 +76,7 @@ abbrev pub is_raw_of : List ℕ → Data → Bool
 is_raw_of name (table t) = bytes_eq (text_at (codes "do") t) (codes "raw") && bytes_eq (text_at (codes "peering") t) name
 is_raw_of name _ = false
 
--- A remote can beat where both sides' hold times are above 0 and all that it says is said by its steps and the default opening.
+-- A remote can send KEEPALIVEs of its own if both sides' hold times are above 0 and all that it says is said by its steps and the default opening.
 abbrev pub may_beat : Members → Members → Bool
 may_beat doc t =
     nat_lt 0 (number_or 16 0 (codes "home_hold") t) && nat_lt 0 (number_or 16 180 (codes "hold") t)

@@ -20,7 +20,7 @@ use Rattle.lab_tables.specs.Meanings.{origin_at}
 
 -- ---- rules
 
--- lengths may be given where a prefix is
+-- lengths are allowed only beside a prefix
 abbrev pub length_kind : Bool → Kind
 length_kind ranged = if ranged then Number 0 32 else Misplaced
 
@@ -45,7 +45,8 @@ rule_flaw i j k t =
     ∷ stray_flaw (tables.Rule i j k) (names_of keys) t
     ∷ [])
 
--- from its own length, or the one that is given, to its own length, or to 32 where a least one is given
+-- the range of lengths: from the prefix's own length, or the given least one; to the given greatest one, or else to the prefix's own length, or to 32
+-- if a least one is given
 abbrev pub range_of : Members → PrefixValue → PrefixRange
 range_of t p = record {
   prefix = p;

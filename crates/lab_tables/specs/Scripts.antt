@@ -29,7 +29,7 @@ use Rattle.lab_tables.specs.Meanings.{number_of, origin_at, step_word_of}
 abbrev pub word_at : Members → StepWord
 word_at t = step_word_of (text_at (codes "do") t)
 
--- what stands in the array of steps, by its word
+-- the test on the word of a value in the array of steps
 abbrev pub is_word : (StepWord → Bool) → Data → Bool
 is_word test (table t) = test (word_at t)
 is_word test _ = false
@@ -42,7 +42,7 @@ abbrev pub is_evacuate : StepWord → Bool
 is_evacuate Evacuates = true
 is_evacuate _ = false
 
--- Each step belongs to one group. Those of the group of step i: from it on up to the next settle, and going back from it up to the last one.
+-- Each step belongs to one group. The steps of the group of step i: from i on up to the next settle, and backwards from i up to the previous one.
 abbrev pub group_from : List Data → ℕ → List Data
 group_from steps i = before_first (is_word is_settle) (drop i steps)
 
@@ -52,7 +52,7 @@ group_before steps i = before_first (is_word is_settle) (reverse (take i steps))
 abbrev pub evacuates : List Data → Bool
 evacuates steps = list_any (is_word is_evacuate) steps
 
--- beside an evacuate step, a group has neither a graft nor a second one
+-- beside an evacuate step, a group has neither a graft nor a second evacuate step
 abbrev pub is_crowded : (before whole : Bool) → StepWord → Bool
 is_crowded before whole Grafts = whole
 is_crowded before whole Evacuates = before
@@ -96,7 +96,7 @@ keys_of _ = evacuate_keys
 abbrev pub do_keys : List KeyRow
 do_keys = required (codes "do") (Word StepKinds) ∷ []
 
--- The least number of rounds is no more than the greatest, where this is given.
+-- The least number of rounds is at most the greatest, if that is given.
 abbrev pub least_flaw : StepWord → ℕ → Members → Option Flaw
 least_flaw Settles i t =
     let least = number_or 32 0 (codes "least") t in
@@ -110,7 +110,7 @@ worded_flaw word i t = first_of (
     ∷ stray_flaw (tables.Step i) (codes "do" ∷ names_of (keys_of word)) t
     ∷ [])
 
--- where a step evacuates before this one in its group, and anywhere in it
+-- given whether a step evacuates before this one in its group, and anywhere in it
 abbrev pub grouped_flaw : (before whole : Bool) → ℕ → Members → Option Flaw
 grouped_flaw before whole i t = first_of (
     keys_flaw (tables.Step i) do_keys t
@@ -133,8 +133,7 @@ path_of (as_number ∷ ases) = Sequence (as_number ∷ ases) ∷ []
 abbrev pub ases_of : ℕ → Members → List ℕ
 ases_of remote_as t = if has (codes "path") t then numbers_at (codes "path") t else remote_as ∷ []
 
--- What is left out is as a remote says it by itself: its own AS as path, ORIGIN IGP, no MULTI_EXIT_DISC, and its own address
--- as next hop.
+-- Defaults of what is left out: its own AS as path, ORIGIN IGP, no MULTI_EXIT_DISC, and its own address as next hop.
 abbrev pub attrs_of : (remote_as remote_address : ℕ) → Members → Attrs
 attrs_of remote_as remote_address t = record {
   origin = unwrap_or (origin_at (codes "origin") t) Igp;
@@ -146,14 +145,14 @@ attrs_of remote_as remote_address t = record {
   unknown = [];
 }
 
--- a prefix that stands more than once is said once, at its first place
+-- a prefix that occurs more than once is said once, at its first place
 abbrev pub said_prefixes : Members → List PrefixValue
 said_prefixes t = once_after [] (prefixes_at (codes "prefixes") t)
 
 abbrev pub peering_number : List PeeringInput → Members → ℕ
 peering_number peerings t = number_of (map (λ p. p.name) peerings) (text_at (codes "peering") t)
 
--- the attributes that a remote announces with
+-- the attributes that a remote announces
 abbrev pub said_attrs : Option PeeringInput → Members → Attrs
 said_attrs None t = attrs_of 0 0 t
 said_attrs (Some remote) t = attrs_of remote.remote_as remote.remote_address t

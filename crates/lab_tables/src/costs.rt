@@ -17,7 +17,7 @@ use link_bag::Fault;
 use std::alloc::Global;
 use toml::Table;
 
-/// The first flaw of the cost at a place.
+/// Returns the first flaw of the cost at index `i`.
 fn cost_flaw<'a>(i: usize, table: &'a Table) -> Option<Flaw<'a>>
     ensures { result ≡ cost_flaw_lem i (table_view table.now) }
 {
@@ -45,7 +45,7 @@ fn cost_flaw<'a>(i: usize, table: &'a Table) -> Option<Flaw<'a>>
     stray_flaw(at, &["from", "to", "cost"], table)
 }
 
-/// The costs of an input.
+/// The array of costs of an input.
 #[derive(Drop)]
 pub(crate) struct CostTables;
 
@@ -57,7 +57,7 @@ impl TableKind for CostTables {
     }
 }
 
-/// Tables that are costs between these routers.
+/// Cost reader, for these routers.
 #[derive(Drop)]
 pub(crate) struct CostReader<'p> {
     pub routers: &'p Places,
@@ -75,7 +75,7 @@ impl<'p> TableReader<CostInput> for CostReader<'p> {
     }
 }
 
-/// The first flaw of the keys of a planned fault up to its kind.
+/// Returns the first flaw of the keys of a planned fault up to its kind.
 fn fault_keys_flaw<'a>(at: TableAt, table: &Table) -> Option<Flaw<'a>>
     ensures { result ≡ keys_flaw_lem at fault_keys_lem (table_view table.now) }
 {
@@ -94,7 +94,7 @@ fn fault_keys_flaw<'a>(at: TableAt, table: &Table) -> Option<Flaw<'a>>
     keys_flaw(at, &keys, table)
 }
 
-/// The key `after`: a lost segment has no later time.
+/// Returns the key `after`. A lost segment has no later time.
 fn after_key(is_lost: bool) -> Key
     ensures { result ∷ [] ≡ after_keys_lem is_lost }
 {
@@ -105,7 +105,7 @@ fn after_key(is_lost: bool) -> Key
     }
 }
 
-/// The first flaw of the planned fault at a place.
+/// Returns the first flaw of the planned fault at index `i`.
 fn fault_flaw<'a>(i: usize, table: &'a Table) -> Option<Flaw<'a>>
     ensures { result ≡ fault_flaw_lem i (table_view table.now) }
 {
@@ -123,7 +123,7 @@ fn fault_flaw<'a>(i: usize, table: &'a Table) -> Option<Flaw<'a>>
     stray_flaw(at, &["peering", "way", "segment", "kind", "after"], table)
 }
 
-/// The planned faults of an input.
+/// The array of planned faults of an input.
 #[derive(Drop)]
 pub(crate) struct FaultTables;
 
@@ -135,7 +135,7 @@ impl TableKind for FaultTables {
     }
 }
 
-/// The planned fault that a table is.
+/// Returns the planned fault that a table stands for.
 pub fn fault_of(peerings: &Places, table: &Table) -> Fault
     ensures { result ≡ fault_of_lem peerings.now (table_view table.now) }
 {
@@ -148,7 +148,7 @@ pub fn fault_of(peerings: &Places, table: &Table) -> Fault
     }
 }
 
-/// Tables that are planned faults of these peerings.
+/// Reader of planned faults, for these peerings.
 #[derive(Drop)]
 pub(crate) struct FaultReader<'p> {
     pub peerings: &'p Places,

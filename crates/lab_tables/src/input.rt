@@ -14,14 +14,14 @@ pub struct LabInput {
     pub costs: CostInputs,
     pub peerings: PeeringInputs,
     pub faults: Faults,
-    /// A settle that is added at the end isn't among them.
+    /// The steps of the script, without a settle that is added at the end.
     pub steps: Steps,
     /// The addresses to which packets are followed.
     pub trace: Numbers,
 }
 
-/// A home router: its BGP Identifier, for how many sessions it has room (0 to 32), whether capsules
-/// that are sent to it go as bytes, the networks of its own, and its policies.
+/// A home router: its BGP Identifier, the number of sessions for which it has room (0 to 32), whether capsules that are
+/// sent to it go as bytes, its own networks, and its policies.
 #[derive(Debug, Drop)]
 pub struct RouterInput {
     pub name: Name,
@@ -39,7 +39,7 @@ pub struct PolicyInput {
     pub rules: Rules,
 }
 
-/// The cost of the way from one router to another. One that isn't given is 1.
+/// The interior cost from one router to another. A cost that isn't given is 1.
 #[derive(Clone, Copy, Debug, PartialEq, Eq)]
 pub struct CostInput {
     pub from: RouterId,
@@ -47,11 +47,11 @@ pub struct CostInput {
     pub cost: u32,
 }
 
-/// A peering: the router at which it starts, the remote's AS number, which isn't that of the home
-/// network, addresses and identifier, the policies of routes in and out, the sequence numbers of the
-/// first bytes that each side sends, the remote's hold time in seconds, all that it says at first, whether
-/// each side supports four-octet AS numbers, the home side's hold time, whether the remote sends
-/// KEEPALIVEs of its own, and whether the home side's OPEN has the capability of IPv4 unicast.
+/// A peering: the router at which it starts, the remote's AS number, which isn't that of the home network, addresses
+/// and identifier, the import and export policies, the initial sequence numbers of the two sides, the remote's hold
+/// time in seconds, all that it says at first, whether each side supports four-octet AS numbers, the home side's hold
+/// time, whether the remote sends KEEPALIVEs of its own, and whether the home side's OPEN has the capability of IPv4
+/// unicast.
 #[derive(Debug, Drop)]
 pub struct PeeringInput {
     pub name: Name,
@@ -97,13 +97,13 @@ pub enum Step {
         peering: PeeringId,
         target: RouterId,
     },
-    /// Nothing further begins until the world is quiet and at least `least` rounds were made, or until
-    /// `rounds` rounds were made, where they are given.
+    /// No further step begins until the world is quiet and at least `least` rounds were made, or until `rounds` rounds
+    /// were made, if that is given.
     Settle {
         rounds: Option<u32>,
         least: u32,
     },
-    /// The sessions at the router move to other ones.
+    /// The sessions at the router move to other routers.
     Evacuate {
         router: RouterId,
     },

@@ -15,7 +15,7 @@ use lab_keys::{addresses_at, number_or, values_at};
 use std::alloc::Global;
 use toml::Table;
 
-/// The names of routers.
+/// Returns the names of routers.
 pub fn router_names(alloc: Global, routers: &[RouterInput]) -> Result<Places, NoMemory>
     ensures { IfOk result (λ names. names ≡ map (λ r. r.name) routers.now) }
 {
@@ -26,7 +26,7 @@ pub fn router_names(alloc: Global, routers: &[RouterInput]) -> Result<Places, No
     Places::of(names)
 }
 
-/// The names of peerings.
+/// Returns the names of peerings.
 pub fn peering_names(alloc: Global, peerings: &[PeeringInput]) -> Result<Places, NoMemory>
     ensures { IfOk result (λ names. names ≡ map (λ p. p.name) peerings.now) }
 {
@@ -37,7 +37,7 @@ pub fn peering_names(alloc: Global, peerings: &[PeeringInput]) -> Result<Places,
     Places::of(names)
 }
 
-/// The costs between these routers.
+/// Returns the costs between these routers.
 fn costs_of(alloc: Global, names: &Places, doc: &Table) -> Result<CostInputs, NoMemory>
     ensures { IfOk result (λ costs. costs ≡ map (cost_of names.now) (tables_at (codes "cost") (table_view doc.now))) }
 {
@@ -45,7 +45,7 @@ fn costs_of(alloc: Global, names: &Places, doc: &Table) -> Result<CostInputs, No
     values_at(&reader, alloc, "cost", doc)
 }
 
-/// The peerings at these routers.
+/// Returns the peerings at these routers.
 fn peerings_of(alloc: Global, names: &Places, doc: &Table) -> Result<PeeringInputs, NoMemory>
     ensures { IfOk result (λ peerings. peerings ≡ map (peering_of (table_view doc.now) names.now) (tables_at (codes "peering") (table_view doc.now))) }
 {
@@ -56,7 +56,7 @@ fn peerings_of(alloc: Global, names: &Places, doc: &Table) -> Result<PeeringInpu
     values_at(&reader, alloc, "peering", doc)
 }
 
-/// The planned faults of these peerings.
+/// Returns the planned faults of these peerings.
 fn faults_of(alloc: Global, remotes: &Places, doc: &Table) -> Result<Faults, NoMemory>
     ensures { IfOk result (λ faults. faults ≡ map (fault_of remotes.now) (tables_at (codes "fault") (table_view doc.now))) }
 {
@@ -64,7 +64,7 @@ fn faults_of(alloc: Global, remotes: &Places, doc: &Table) -> Result<Faults, NoM
     values_at(&reader, alloc, "fault", doc)
 }
 
-/// The steps of these routers and peerings.
+/// Returns the steps of these routers and peerings.
 fn steps_of(
     alloc: Global,
     names: &Places,
@@ -83,7 +83,7 @@ fn steps_of(
     values_at(&reader, alloc, "step", doc)
 }
 
-/// The value of a document: defaults are filled in, and names are resolved.
+/// Returns the value of a document, with defaults filled in and names resolved.
 pub fn lab_of(alloc: Global, doc: &Table) -> Result<LabInput, NoMemory>
     ensures { IfOk result (λ lab. lab ≡ lab_of_lem (table_view doc.now)) }
 {

@@ -1,4 +1,4 @@
-//! Prefixes, each once.
+//! Lists of prefixes, each once.
 
 ghost use Rattle.std.specs.Prelude.{◌≡◌, ◌++◌, ◌∷◌, [], IfOk, OnOk, if◌then◌else◌};
 ghost use Rattle.bgp_types.specs.Prefixes.{once_after};
@@ -7,7 +7,7 @@ use bgp_types::{Items, NoMemory, Prefix, PrefixList};
 use std::alloc::Global;
 use std::collections::HashSet;
 
-/// Adds a prefix at the end, where a test says so.
+/// Adds a prefix at the end, if the test is true.
 fn push_if(list: &mut PrefixList, test: bool, prefix: Prefix) -> Result<(), NoMemory>
     ensures { OnOk result (list.new ≡ (if test then list.old ++ prefix ∷ [] else list.old)) }
 {
@@ -17,7 +17,7 @@ fn push_if(list: &mut PrefixList, test: bool, prefix: Prefix) -> Result<(), NoMe
     Ok(())
 }
 
-/// The prefixes of a list, each once, at its first place.
+/// Returns the prefixes of a list without repetitions, each at its first place.
 pub fn each_once(alloc: Global, prefixes: &[Prefix]) -> Result<PrefixList, NoMemory>
     ensures { IfOk result (λ once. once ≡ once_after [] prefixes.now) }
 {

@@ -1,4 +1,4 @@
-//! What a remote says at first.
+//! The opening of a remote: what it says at first.
 
 ghost use Rattle.std.specs.Prelude.{◌≡◌, ◌++◌, true, false, IfOk};
 ghost use Rattle.bgp_types.specs.PathOctets.{narrow_as as narrow_as_lem};
@@ -7,14 +7,14 @@ ghost use Rattle.lab_tables.specs.Peerings.{default_opening as default_opening_l
 use bgp_types::{NoMemory, Octets, narrow_as};
 use std::alloc::Global;
 
-/// The AS number of an OPEN in its two octets.
+/// Returns an AS number as the two-octet field of an OPEN (RFC 6793, section 4.1).
 fn as_field(as_number: u32) -> u16
     ensures { result ≡ narrow_as_lem as_number }
 {
     narrow_as(as_number) as u16
 }
 
-/// Octets with further ones behind them.
+/// Returns octets with further ones appended.
 fn extended(octets: Octets, further: &[u8]) -> Result<Octets, NoMemory>
     ensures { IfOk result (λ whole. whole ≡ octets ++ further.now) }
 {
@@ -23,7 +23,7 @@ fn extended(octets: Octets, further: &[u8]) -> Result<Octets, NoMemory>
     Ok(octets)
 }
 
-/// An OPEN without capabilities (RFC 4271, section 4.2), and a KEEPALIVE (section 4.4).
+/// Returns an OPEN without capabilities (RFC 4271, section 4.2), and a KEEPALIVE (section 4.4).
 fn plain_opening(
     alloc: Global,
     remote_as: u32,
@@ -46,7 +46,7 @@ fn plain_opening(
     Ok(octets)
 }
 
-/// An OPEN with the capability of four-octet AS numbers (RFC 6793, section 3), and a KEEPALIVE.
+/// Returns an OPEN with the capability of four-octet AS numbers (RFC 6793, section 3), and a KEEPALIVE.
 fn wide_opening(
     alloc: Global,
     remote_as: u32,
@@ -71,7 +71,7 @@ fn wide_opening(
     Ok(octets)
 }
 
-/// An OPEN of these values, with or without the capability of four-octet AS numbers, and a KEEPALIVE.
+/// Returns an OPEN of these values, with or without the capability of four-octet AS numbers, and a KEEPALIVE.
 pub fn default_opening(
     alloc: Global,
     remote_as: u32,

@@ -18,7 +18,7 @@ use lab_keys::{
 use std::alloc::Global;
 use toml::{Table, Value};
 
-/// The first flaw of the keys of a peering up to its AS number.
+/// Returns the first flaw of the keys of a peering up to its AS number.
 fn ends_flaw<'a>(at: TableAt, table: &Table) -> Option<Flaw<'a>>
     ensures { result ≡ keys_flaw_lem at peering_ends_lem (table_view table.now) }
 {
@@ -36,7 +36,7 @@ fn ends_flaw<'a>(at: TableAt, table: &Table) -> Option<Flaw<'a>>
     keys_flaw(at, &keys, table)
 }
 
-/// The first flaw of the further keys of a peering, up to `beats`.
+/// Returns the first flaw of the further keys of a peering, up to `beats`.
 fn rest_flaw<'a>(at: TableAt, table: &Table) -> Option<Flaw<'a>>
     ensures { result ≡ keys_flaw_lem at peering_rest_lem (table_view table.now) }
 {
@@ -62,7 +62,7 @@ fn rest_flaw<'a>(at: TableAt, table: &Table) -> Option<Flaw<'a>>
     keys_flaw(at, &keys, table)
 }
 
-/// Whether a step says raw octets on the peering of this name.
+/// Returns whether a step says raw octets on the peering of this name.
 fn is_raw_of(name: &str, step: &Value) -> bool
     ensures { result ≡ is_raw_of_lem name.now (view step.now) }
 {
@@ -72,14 +72,14 @@ fn is_raw_of(name: &str, step: &Value) -> bool
     }
 }
 
-/// Whether one of these steps says raw octets on the peering of this name.
+/// Returns whether one of these steps says raw octets on the peering of this name.
 fn any_raw(name: &str, steps: &[Value]) -> bool
     ensures { result ≡ list_any (λ step. is_raw_of_lem name.now (view step)) steps.now }
 {
     steps.iter().any(|step| is_raw_of(name, step))
 }
 
-/// Whether some step says raw octets on the peering of this name.
+/// Returns whether some step says raw octets on the peering of this name.
 fn has_raw(name: &str, doc: &Table) -> bool
     ensures { result ≡ list_any (is_raw_of_lem name.now) (items_at_lem (codes "step") (table_view doc.now)) }
 {
@@ -89,43 +89,43 @@ fn has_raw(name: &str, doc: &Table) -> bool
     }
 }
 
-/// Whether some step says raw octets on this peering.
+/// Returns whether some step says raw octets on the peering of this table.
 fn says_raw(doc: &Table, table: &Table) -> bool
     ensures { result ≡ list_any (is_raw_of_lem (text_at_lem (codes "name") (table_view table.now))) (items_at_lem (codes "step") (table_view doc.now)) }
 {
     has_raw(text_at("name", table), doc)
 }
 
-/// Whether the hold times of both sides are above 0.
+/// Returns whether the hold times of both sides are above 0.
 fn both_hold(table: &Table) -> bool
     ensures { result ≡ (nat_lt 0 (number_or_lem 16 0 (codes "home_hold") (table_view table.now)) && nat_lt 0 (number_or_lem 16 180 (codes "hold") (table_view table.now))) }
 {
     short_or(0, "home_hold", table) > 0 && short_or(180, "hold", table) > 0
 }
 
-/// Whether the remote of a peering can send KEEPALIVEs of its own: both sides' hold times are above 0, and
-/// all that it says is said by its steps and the default opening.
+/// Returns whether the remote of a peering can send KEEPALIVEs of its own: both sides' hold times are above 0, and all
+/// that it says is said by its steps and the default opening.
 fn may_beat(doc: &Table, table: &Table) -> bool
     ensures { result ≡ may_beat_lem (table_view doc.now) (table_view table.now) }
 {
     both_hold(table) && !has("opening", table) && !says_raw(doc, table)
 }
 
-/// Whether `beats` is given as true where the remote can't beat.
+/// Returns whether `beats` is given as true though the remote can't send KEEPALIVEs of its own.
 fn beats_wrongly(doc: &Table, table: &Table) -> bool
     ensures { result ≡ (flag_or_lem false (codes "beats") (table_view table.now) && not (may_beat_lem (table_view doc.now) (table_view table.now))) }
 {
     flag_or(false, "beats", table) && !may_beat(doc, table)
 }
 
-/// The flaw of the last key of a peering.
+/// Returns the flaw of the last key of a peering.
 fn last_flaw<'a>(at: TableAt, table: &Table) -> Option<Flaw<'a>>
     ensures { result ≡ keys_flaw_lem at peering_last_lem (table_view table.now) }
 {
     keys_flaw(at, &[Key::optional("unicast", Kind::Flag)], table)
 }
 
-/// The flaw of a key that isn't a peering's.
+/// Returns the flaw of the first key that isn't a peering's, if there is one.
 fn stray_of_peering<'a>(at: TableAt, table: &'a Table) -> Option<Flaw<'a>>
     ensures { result ≡ stray_flaw_lem at (names_of (peering_ends_lem ++ peering_rest_lem ++ peering_last_lem)) (table_view table.now) }
 {
@@ -151,7 +151,7 @@ fn stray_of_peering<'a>(at: TableAt, table: &'a Table) -> Option<Flaw<'a>>
     stray_flaw(at, &known, table)
 }
 
-/// The first flaw of the peering at a place.
+/// Returns the first flaw of the peering at index `i`.
 fn peering_flaw<'a>(doc: &Table, i: usize, table: &'a Table) -> Option<Flaw<'a>>
     ensures { result ≡ peering_flaw_lem (table_view doc.now) i (table_view table.now) }
 {
@@ -174,7 +174,7 @@ fn peering_flaw<'a>(doc: &Table, i: usize, table: &'a Table) -> Option<Flaw<'a>>
     stray_of_peering(at, table)
 }
 
-/// The peerings of an input.
+/// The array of peerings of an input.
 #[derive(Drop)]
 pub(crate) struct PeeringTables<'d> {
     pub doc: &'d Table,
@@ -188,21 +188,21 @@ impl<'d> TableKind for PeeringTables<'d> {
     }
 }
 
-/// The remote's BGP Identifier: its address, where none is given.
+/// Returns the remote's BGP Identifier, which is its address if none is given.
 fn remote_id_of(table: &Table) -> u32
     ensures { result ≡ remote_id_of_lem (table_view table.now) }
 {
     address_or(address_or(0, "remote_address", table), "remote_id", table)
 }
 
-/// Whether the remote supports four-octet AS numbers: where nothing is said, as the home side does.
+/// Returns whether the remote supports four-octet AS numbers. If this isn't given, it is as on the home side.
 fn remote_as4_of(table: &Table) -> bool
     ensures { result ≡ remote_as4_of_lem (table_view table.now) }
 {
     flag_or(flag_or(false, "as4", table), "remote_as4", table)
 }
 
-/// What the remote says at first.
+/// Returns what the remote says at first.
 fn opening_of(alloc: Global, table: &Table) -> Result<Octets, NoMemory>
     ensures { IfOk result (λ octets. octets ≡ opening_of_lem (table_view table.now)) }
 {
@@ -220,7 +220,7 @@ fn opening_of(alloc: Global, table: &Table) -> Result<Octets, NoMemory>
     )
 }
 
-/// The name at a key.
+/// Returns the name at a key.
 fn name_at(alloc: Global, key: &str, table: &Table) -> Result<Option<Name>, NoMemory>
     ensures { IfOk result (λ name. name ≡ maybe_text_lem key.now (table_view table.now)) }
 {
@@ -230,7 +230,7 @@ fn name_at(alloc: Global, key: &str, table: &Table) -> Result<Option<Name>, NoMe
     }
 }
 
-/// The peering that a table is.
+/// Returns the peering that a table stands for.
 fn peering_of(
     alloc: Global,
     doc: &Table,
@@ -260,7 +260,7 @@ fn peering_of(
     })
 }
 
-/// Tables that are peerings at these routers.
+/// Peering reader, for these routers.
 #[derive(Drop)]
 pub(crate) struct PeeringReader<'d> {
     pub doc: &'d Table,

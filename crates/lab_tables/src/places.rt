@@ -1,4 +1,4 @@
-//! Names by their places in a list.
+//! Names by index in a list.
 
 ghost use Rattle.std.specs.Prelude.{◌≡◌, IfOk};
 ghost use Rattle.std.specs.List.{list_any, position};
@@ -8,7 +8,7 @@ ghost use Rattle.lab_tables.specs.Meanings.{number_of as number_of_lem};
 use bgp_types::{Items, Name, NoMemory};
 use std::marker::Model;
 
-/// Names, which stand for their places in the list.
+/// A list of names, each of which stands for its index.
 #[derive(Drop)]
 pub struct Places {
     names: Items<Name>,
@@ -24,14 +24,14 @@ impl Model for Places {
     ghost invariant = { λ p. length p.names < 256 };
 }
 
-/// Whether a text is this name.
+/// Returns whether a text is this name.
 fn is_name_of(text: &str, name: &Name) -> bool
     ensures { result ≡ bytes_eq text.now name.now }
 {
     text == name.as_str()
 }
 
-/// The place of the first of these names that is a text.
+/// Returns the index of the first of these names that equals a text.
 fn place_in(text: &str, names: &[Name]) -> Option<usize>
     ensures { result ≡ position (bytes_eq text.now) names.now }
 {
@@ -39,8 +39,8 @@ fn place_in(text: &str, names: &[Name]) -> Option<usize>
 }
 
 impl Places {
-    /// The places of these names. More than 255 of them, which no input has that meets the rules, are
-    /// refused as if memory ran out.
+    /// Returns a list of these names. More than 255 of them are refused with `NoMemory`; no input that meets the rules
+    /// has so many.
     pub fn of(names: Items<Name>) -> Result<Places, NoMemory>
         ensures { IfOk result (λ places. places ≡ names) }
     {
@@ -50,14 +50,14 @@ impl Places {
         Ok(Places { names })
     }
 
-    /// Whether there is this name.
+    /// Returns whether the list has this name.
     pub fn has(&self, text: &str) -> bool
         ensures { result ≡ list_any (bytes_eq text.now) self.now }
     {
         self.names.iter().any(|name| is_name_of(text, name))
     }
 
-    /// The place of a name, or 0 where there is no such name.
+    /// Returns the index of a name, or 0 if there is no such name.
     pub fn number_of(&self, text: &str) -> u8
         ensures { result ≡ number_of_lem self.now text.now }
     {

@@ -15,7 +15,7 @@ use lab_keys::{
 use std::alloc::Global;
 use toml::Table;
 
-/// The first flaw of the keys of a router.
+/// Returns the first flaw of the keys of a router.
 fn router_keys_flaw<'a>(at: TableAt, table: &Table) -> Option<Flaw<'a>>
     ensures { result ≡ keys_flaw_lem at router_keys_lem (table_view table.now) }
 {
@@ -29,7 +29,7 @@ fn router_keys_flaw<'a>(at: TableAt, table: &Table) -> Option<Flaw<'a>>
     keys_flaw(at, &keys, table)
 }
 
-/// The first flaw of the router at a place.
+/// Returns the first flaw of the router at index `i`.
 fn router_flaw<'a>(i: usize, table: &'a Table) -> Option<Flaw<'a>>
     ensures { result ≡ router_flaw_lem i (table_view table.now) }
 {
@@ -50,7 +50,7 @@ fn router_flaw<'a>(i: usize, table: &'a Table) -> Option<Flaw<'a>>
     stray_flaw(at, &known, table)
 }
 
-/// The router that a table is.
+/// Returns the router that a table stands for.
 fn router_of(alloc: Global, table: &Table) -> Result<RouterInput, NoMemory>
     ensures { IfOk result (λ router. router ≡ router_of_lem (table_view table.now)) }
 {
@@ -64,7 +64,7 @@ fn router_of(alloc: Global, table: &Table) -> Result<RouterInput, NoMemory>
     })
 }
 
-/// The routers of an input.
+/// The array of routers of an input.
 #[derive(Drop)]
 pub(crate) struct RouterTables;
 

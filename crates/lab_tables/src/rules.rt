@@ -17,7 +17,7 @@ use route_policy::{PrefixRange, Rule};
 use std::alloc::Global;
 use toml::Table;
 
-/// The kind of a rule's lengths: they may be given where a prefix is.
+/// Returns the kind of a rule's lengths. They are allowed only beside a prefix.
 fn length_kind(ranged: bool) -> Kind
     ensures { result ≡ length_kind_lem ranged }
 {
@@ -28,7 +28,7 @@ fn length_kind(ranged: bool) -> Kind
     }
 }
 
-/// The first flaw of the keys of a rule.
+/// Returns the first flaw of the keys of a rule.
 fn rule_keys_flaw<'a>(at: TableAt, table: &Table) -> Option<Flaw<'a>>
     ensures { result ≡ keys_flaw_lem at (rule_keys_lem (has_lem (codes "prefix") (table_view table.now))) (table_view table.now) }
 {
@@ -57,7 +57,7 @@ fn rule_keys_flaw<'a>(at: TableAt, table: &Table) -> Option<Flaw<'a>>
     keys_flaw(at, &keys, table)
 }
 
-/// The first flaw of the rule at these places.
+/// Returns the first flaw of the rule at these indices of router, policy and rule.
 fn rule_flaw<'a>(i: usize, j: usize, k: usize, table: &'a Table) -> Option<Flaw<'a>>
     ensures { result ≡ rule_flaw_lem i j k (table_view table.now) }
 {
@@ -71,7 +71,7 @@ fn rule_flaw<'a>(i: usize, j: usize, k: usize, table: &'a Table) -> Option<Flaw<
     stray_flaw(at, &known, table)
 }
 
-/// The range of a rule that has a prefix.
+/// Returns the range of a rule that has a prefix.
 fn range_of(prefix: Prefix, table: &Table) -> PrefixRange
     ensures { result ≡ range_of_lem (table_view table.now) prefix }
 {
@@ -83,7 +83,7 @@ fn range_of(prefix: Prefix, table: &Table) -> PrefixRange
     }
 }
 
-/// The rule that a table is.
+/// Returns the rule that a table stands for.
 fn rule_of(table: &Table) -> Rule
     ensures { result ≡ rule_of_lem (table_view table.now) }
 {
@@ -98,7 +98,7 @@ fn rule_of(table: &Table) -> Rule
     }
 }
 
-/// The rules of a policy of a router, by their places.
+/// The array of rules of a policy, by the indices of its router and the policy.
 #[derive(Drop)]
 struct RuleTables {
     router: usize,
@@ -113,7 +113,7 @@ impl TableKind for RuleTables {
     }
 }
 
-/// Tables that are rules.
+/// Rule reader.
 #[derive(Drop)]
 struct RuleReader;
 
@@ -125,7 +125,7 @@ impl TableReader<Rule> for RuleReader {
     }
 }
 
-/// The first flaw of the policy at these places.
+/// Returns the first flaw of the policy at these indices of router and policy.
 fn policy_flaw<'a>(i: usize, j: usize, table: &'a Table) -> Option<Flaw<'a>>
     ensures { result ≡ policy_flaw_lem i j (table_view table.now) }
 {
@@ -150,7 +150,7 @@ fn policy_flaw<'a>(i: usize, j: usize, table: &'a Table) -> Option<Flaw<'a>>
     stray_flaw(at, &["name", "rule"], table)
 }
 
-/// The policy that a table is.
+/// Returns the policy that a table stands for.
 fn policy_of(alloc: Global, table: &Table) -> Result<PolicyInput, NoMemory>
     ensures { IfOk result (λ policy. policy ≡ policy_of_lem (table_view table.now)) }
 {
@@ -160,7 +160,7 @@ fn policy_of(alloc: Global, table: &Table) -> Result<PolicyInput, NoMemory>
     })
 }
 
-/// The policies of a router, by its place.
+/// The array of policies of a router, by its index.
 #[derive(Drop)]
 pub(crate) struct PolicyTables {
     pub router: usize,
@@ -174,7 +174,7 @@ impl TableKind for PolicyTables {
     }
 }
 
-/// Tables that are policies.
+/// Policy reader.
 #[derive(Drop)]
 pub(crate) struct PolicyReader;
 

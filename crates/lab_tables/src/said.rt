@@ -1,4 +1,4 @@
-//! What steps say.
+//! What the steps of remotes say.
 
 ghost use Rattle.std.specs.Prelude.{◌≡◌, IfOk, Option, option_map, option_copied};
 ghost use Rattle.bgp_types.specs.Prefixes.{once_after};
@@ -13,7 +13,7 @@ use lab_keys::{address_or, has, maybe_number, numbers_at, prefixes_at};
 use std::alloc::Global;
 use toml::Table;
 
-/// The path of one sequence, or of none where there is no AS number.
+/// Returns the path of one sequence, or the empty path if there is no AS number.
 fn path_of(alloc: Global, ases: AsList) -> Result<AsPath, NoMemory>
     ensures { IfOk result (λ path. path ≡ path_of_lem ases) }
 {
@@ -23,7 +23,7 @@ fn path_of(alloc: Global, ases: AsList) -> Result<AsPath, NoMemory>
     Items::one(alloc, PathPart::Sequence(ases))
 }
 
-/// The AS numbers of the path, or the remote's alone where none are given.
+/// Returns the AS numbers of the path, or only the remote's if none are given.
 fn ases_of(alloc: Global, remote_as: u32, table: &Table) -> Result<AsList, NoMemory>
     ensures { IfOk result (λ ases. ases ≡ ases_of_lem remote_as (table_view table.now)) }
 {
@@ -33,7 +33,7 @@ fn ases_of(alloc: Global, remote_as: u32, table: &Table) -> Result<AsList, NoMem
     AsList::one(alloc, remote_as)
 }
 
-/// The attributes that a remote of this AS number and address announces with.
+/// Returns the attributes that a remote of this AS number and address announces.
 fn attrs_of(
     alloc: Global,
     remote_as: u32,
@@ -54,7 +54,7 @@ fn attrs_of(
     })
 }
 
-/// The attributes that the remote of a peering announces with.
+/// Returns the attributes that the remote of a peering announces.
 pub(crate) fn said_attrs(
     alloc: Global,
     remote: Option<&PeeringInput>,
@@ -68,7 +68,7 @@ pub(crate) fn said_attrs(
     }
 }
 
-/// The prefixes of a step, each once, at its first place.
+/// Returns the prefixes of a step without repetitions, each at its first place.
 pub(crate) fn said_prefixes(alloc: Global, table: &Table) -> Result<PrefixList, NoMemory>
     ensures { IfOk result (λ prefixes. prefixes ≡ said_prefixes_lem (table_view table.now)) }
 {

@@ -17,14 +17,14 @@ use lab_keys::{
 };
 use toml::{Table, Value};
 
-/// What a step does.
+/// Returns what a step does.
 pub fn word_at(table: &Table) -> StepWord
     ensures { result ≡ word_at_lem (table_view table.now) }
 {
     step_word_of(text_at("do", table))
 }
 
-/// Whether what stands in the array of steps ends a group.
+/// Returns whether a value in the array of steps ends a group.
 fn ends_group(step: &Value) -> bool
     ensures { result ≡ is_word is_settle (view step.now) }
 {
@@ -37,7 +37,7 @@ fn ends_group(step: &Value) -> bool
     }
 }
 
-/// Whether what stands in the array of steps evacuates a router.
+/// Returns whether a value in the array of steps evacuates a router.
 fn evacuates(step: &Value) -> bool
     ensures { result ≡ is_word is_evacuate (view step.now) }
 {
@@ -50,7 +50,7 @@ fn evacuates(step: &Value) -> bool
     }
 }
 
-/// Whether some step evacuates a router, up to the next one that ends a group.
+/// Returns whether some step evacuates a router, up to the next one that ends a group.
 fn evacuates_in(steps: &[Value]) -> bool
     ensures { result ≡ list_any (λ v. is_word is_evacuate (view v)) (take_while (λ v. not (is_word is_settle (view v))) steps.now) }
 {
@@ -60,7 +60,8 @@ fn evacuates_in(steps: &[Value]) -> bool
         .any(|step| evacuates(step))
 }
 
-/// Whether a step may not stand in its group, where a step evacuates before it, or anywhere in the group.
+/// Returns whether a step isn't allowed in its group, given whether a step evacuates before it, and anywhere in the
+/// group.
 fn is_crowded(before: bool, whole: bool, word: StepWord) -> bool
     ensures { result ≡ is_crowded_lem before whole word }
 {
@@ -147,7 +148,7 @@ fn evacuate_flaw<'a>(at: TableAt, table: &Table) -> Option<Flaw<'a>>
     keys_flaw(at, &[Key::required("router", Kind::Name)], table)
 }
 
-/// The first flaw of the keys of a step, by its word.
+/// Returns the first flaw of the keys of a step, by its word.
 fn word_keys_flaw<'a>(word: StepWord, at: TableAt, table: &Table) -> Option<Flaw<'a>>
     ensures { result ≡ keys_flaw_lem at (keys_of_lem word) (table_view table.now) }
 {
@@ -161,7 +162,7 @@ fn word_keys_flaw<'a>(word: StepWord, at: TableAt, table: &Table) -> Option<Flaw
     }
 }
 
-/// A least number of rounds above the greatest one.
+/// Returns the flaw of a least number of rounds above the greatest one.
 fn least_flaw<'a>(word: StepWord, i: usize, table: &Table) -> Option<Flaw<'a>>
     ensures { result ≡ least_flaw_lem word i (table_view table.now) }
 {
@@ -176,7 +177,7 @@ fn least_flaw<'a>(word: StepWord, i: usize, table: &Table) -> Option<Flaw<'a>>
     )
 }
 
-/// The flaw of a key that isn't known for a step of this word.
+/// Returns the flaw of the first key that is unknown for a step of this word, if there is one.
 fn word_stray<'a>(word: StepWord, at: TableAt, table: &'a Table) -> Option<Flaw<'a>>
     ensures { result ≡ stray_flaw_lem at (codes "do" ∷ names_of (keys_of_lem word)) (table_view table.now) }
 {
@@ -195,7 +196,7 @@ fn word_stray<'a>(word: StepWord, at: TableAt, table: &'a Table) -> Option<Flaw<
     }
 }
 
-/// The first flaw of a step behind its word.
+/// Returns the first flaw of a step after its word.
 fn worded_flaw<'a>(word: StepWord, i: usize, table: &'a Table) -> Option<Flaw<'a>>
     ensures { result ≡ worded_flaw_lem word i (table_view table.now) }
 {
@@ -209,7 +210,8 @@ fn worded_flaw<'a>(word: StepWord, i: usize, table: &'a Table) -> Option<Flaw<'a
     word_stray(word, at, table)
 }
 
-/// The first flaw of the step at a place, where a step evacuates before it in its group, or anywhere in it.
+/// Returns the first flaw of the step at index `i`, given whether a step evacuates before it in its group, and anywhere
+/// in it.
 fn grouped_flaw<'a>(before: bool, whole: bool, i: usize, table: &'a Table) -> Option<Flaw<'a>>
     ensures { result ≡ grouped_flaw_lem before whole i (table_view table.now) }
 {
@@ -225,7 +227,7 @@ fn grouped_flaw<'a>(before: bool, whole: bool, i: usize, table: &'a Table) -> Op
     worded_flaw(word, i, table)
 }
 
-/// The first flaw of what stands in the array of steps.
+/// Returns the first flaw of a value in the array of steps.
 fn item_flaw<'a>(before: bool, whole: bool, i: usize, step: &'a Value) -> Option<Flaw<'a>>
     ensures { result ≡ table_flaw (member_of (place Top (codes "step")) i) (grouped_flaw_lem before whole i) (view step.now) }
 {
@@ -235,7 +237,7 @@ fn item_flaw<'a>(before: bool, whole: bool, i: usize, step: &'a Value) -> Option
     grouped_flaw(before, whole, i, table)
 }
 
-/// Whether a step evacuates before the next one in its group, where one does before this one.
+/// Returns whether a step evacuates before the next one in its group, given whether one does before this one.
 fn before_next(before: bool, step: &Value) -> bool
     ensures { result ≡ (if is_word is_settle (view step.now) then false else (is_word is_evacuate (view step.now) || before)) }
 {
@@ -245,7 +247,7 @@ fn before_next(before: bool, step: &Value) -> bool
     evacuates(step) || before
 }
 
-/// Whether a step evacuates in the group of the next one, where one does in the group of this one.
+/// Returns whether a step evacuates in the group of the next one, given whether one does in the group of this one.
 fn whole_next(whole: bool, step: &Value, further: &[Value]) -> bool
     ensures { result ≡ (if is_word is_settle (view step.now) then list_any (λ v. is_word is_evacuate (view v)) (take_while (λ v. not (is_word is_settle (view v))) further.now) else whole) }
 {
@@ -255,7 +257,7 @@ fn whole_next(whole: bool, step: &Value, further: &[Value]) -> bool
     whole
 }
 
-/// The first flaw of the values of the array of steps.
+/// Returns the first flaw of the values of the array of steps.
 fn items_flaw<'a>(steps: &'a [Value]) -> Option<Flaw<'a>>
     ensures { result ≡ each_from (λ i. table_flaw (member_of (place Top (codes "step")) i) (step_flaw_lem (map view steps.now) i)) 0 (map view steps.now) }
 {
@@ -271,7 +273,7 @@ fn items_flaw<'a>(steps: &'a [Value]) -> Option<Flaw<'a>>
     None
 }
 
-/// The first flaw of the steps of an input.
+/// Returns the first flaw of the steps of an input.
 pub(crate) fn steps_flaw<'a>(doc: &'a Table) -> Option<Flaw<'a>>
     ensures { result ≡ tables_flaw_lem Top (codes "step") false 0 4096 (step_flaw_lem (items_at_lem (codes "step") (table_view doc.now))) (table_view doc.now) }
 {

@@ -13,7 +13,7 @@ use crate::scripts::steps_flaw;
 use lab_keys::{ArrayAt, Flaw, Key, Kind, TableAt, keys_flaw, stray_flaw, tables_flaw};
 use toml::Table;
 
-/// An array of tables at the top, which need not be there.
+/// Returns the position of an optional array of tables at the top, of at most `high` tables.
 fn at_top(high: usize) -> ArrayAt
     ensures { result ≡ record { table = Top; needed = false; low = 0; high = high } }
 {
@@ -25,7 +25,7 @@ fn at_top(high: usize) -> ArrayAt
     }
 }
 
-/// The first flaw of what stands before the routers: the home AS number, and keys that aren't known.
+/// Returns the first flaw of what comes before the routers: the home AS number, and unknown keys.
 fn head_flaw<'a>(doc: &'a Table) -> Option<Flaw<'a>>
     ensures { result ≡ option_or (keys_flaw_lem Top home_keys (table_view doc.now)) (stray_flaw_lem Top top_names (table_view doc.now)) }
 {
@@ -45,7 +45,7 @@ fn head_flaw<'a>(doc: &'a Table) -> Option<Flaw<'a>>
     stray_flaw(TableAt::Top, &known, doc)
 }
 
-/// The flaw of the addresses to which packets are followed.
+/// Returns the flaw of the addresses to which packets are followed.
 fn trace_flaw<'a>(doc: &Table) -> Option<Flaw<'a>>
     ensures { result ≡ keys_flaw_lem Top trace_keys (table_view doc.now) }
 {
@@ -53,7 +53,7 @@ fn trace_flaw<'a>(doc: &Table) -> Option<Flaw<'a>>
     keys_flaw(TableAt::Top, &keys, doc)
 }
 
-/// The first flaw of what stands behind the peerings.
+/// Returns the first flaw of what comes after the peerings.
 fn script_flaw<'a>(doc: &'a Table) -> Option<Flaw<'a>>
     ensures { result ≡ option_or (tables_flaw_lem Top (codes "fault") false 0 1024 fault_flaw (table_view doc.now))
         (option_or (tables_flaw_lem Top (codes "step") false 0 4096 (step_flaw (items_at (codes "step") (table_view doc.now))) (table_view doc.now))
@@ -68,7 +68,7 @@ fn script_flaw<'a>(doc: &'a Table) -> Option<Flaw<'a>>
     trace_flaw(doc)
 }
 
-/// The first flaw of what stands behind the routers.
+/// Returns the first flaw of what comes after the routers.
 fn further_flaw<'a>(doc: &'a Table) -> Option<Flaw<'a>>
     ensures { result ≡ option_or (tables_flaw_lem Top (codes "cost") false 0 56 cost_flaw (table_view doc.now))
         (option_or (tables_flaw_lem Top (codes "peering") false 0 32 (peering_flaw (table_view doc.now)) (table_view doc.now))
@@ -85,7 +85,7 @@ fn further_flaw<'a>(doc: &'a Table) -> Option<Flaw<'a>>
     script_flaw(doc)
 }
 
-/// The first flaw of a document. It takes no memory.
+/// Returns the first flaw of a document. It takes no memory.
 pub fn shaped<'a>(doc: &'a Table) -> Option<Flaw<'a>>
     ensures { result ≡ shaped_lem (table_view doc.now) }
 {

@@ -14,7 +14,7 @@ use lab_keys::{TableReader, maybe_number, number_or, octets_at, text_at};
 use std::alloc::Global;
 use toml::Table;
 
-/// Tables that are steps of these routers and peerings.
+/// Step reader, for these routers and peerings.
 #[derive(Drop)]
 pub(crate) struct StepReader<'p> {
     pub routers: &'p Places,
@@ -24,14 +24,14 @@ pub(crate) struct StepReader<'p> {
 }
 
 impl<'p> StepReader<'p> {
-    /// The place of the peering that a step names.
+    /// Returns the index of the peering that a step names.
     fn peering(&self, table: &Table) -> u8
         ensures { result ≡ peering_number_lem self.now.peerings.now (table_view table.now) }
     {
         self.names.number_of(text_at("peering", table))
     }
 
-    /// The step that announces.
+    /// Returns the announce step that a table stands for.
     fn announce(&self, alloc: Global, table: &Table) -> Result<Step, NoMemory>
         ensures { IfOk result (λ step. step ≡ worded_step_lem words.Announces self.now.routers.now self.now.peerings.now (table_view table.now)) }
     {
@@ -44,7 +44,7 @@ impl<'p> StepReader<'p> {
         })
     }
 
-    /// The step of this word.
+    /// Returns the step of this word that a table stands for.
     fn worded(&self, alloc: Global, word: StepWord, table: &Table) -> Result<Step, NoMemory>
         ensures { IfOk result (λ step. step ≡ worded_step_lem word self.now.routers.now self.now.peerings.now (table_view table.now)) }
     {

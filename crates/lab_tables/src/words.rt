@@ -1,4 +1,4 @@
-//! Words of an input, and what they stand for.
+//! Words of an input, and their meanings.
 
 ghost use Rattle.std.specs.Prelude.{◌≡◌, map};
 ghost use Rattle.toml.specs.View.{table_view};
@@ -19,11 +19,11 @@ pub enum StepWord {
     Grafts,
     Settles,
     Evacuates,
-    /// Nothing that a step may do.
+    /// No known word.
     Other,
 }
 
-/// The origin of this name (RFC 4271, section 4.3).
+/// Returns the origin of this name (RFC 4271, section 4.3).
 fn origin_of(text: &str) -> Option<Origin>
     ensures { result ≡ origin_of_lem text.now }
 {
@@ -35,14 +35,14 @@ fn origin_of(text: &str) -> Option<Origin>
     }
 }
 
-/// The origin at a key.
+/// Returns the origin at a key.
 pub(crate) fn origin_at(key: &str, table: &Table) -> Option<Origin>
     ensures { result ≡ origin_at_lem key.now (table_view table.now) }
 {
     origin_of(maybe_text(key, table)?)
 }
 
-/// The side that a segment goes to.
+/// Returns the side that a segment goes to.
 pub(crate) fn way_of(text: &str) -> Way
     ensures { result ≡ way_of_lem text.now }
 {
@@ -53,7 +53,7 @@ pub(crate) fn way_of(text: &str) -> Way
     }
 }
 
-/// What a planned fault does.
+/// Returns what a planned fault does.
 pub(crate) fn fault_kind_of(text: &str) -> FaultKind
     ensures { result ≡ fault_kind_of_lem text.now }
 {
@@ -65,7 +65,7 @@ pub(crate) fn fault_kind_of(text: &str) -> FaultKind
     }
 }
 
-/// What a step does, by its word.
+/// Returns what a step does, by its word.
 pub(crate) fn step_word_of(text: &str) -> StepWord
     ensures { result ≡ step_word_of_lem text.now }
 {

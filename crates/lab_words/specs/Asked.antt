@@ -5,7 +5,7 @@ use Rattle.clap.specs.Words.{App, Row, Rule, Text, first_of, matches_of, new_app
 use Rattle.lab_words.specs.declared.job.Job.{Job}
 use Rattle.lab_words.specs.declared.job.Job.TheVariants.{Run, Check, Make, Drill, Journal}
 
--- the line that tells how the program is called
+-- the usage line of the program
 abbrev pub usage_text : List ℕ
 usage_text = codes "usage: graftlab run|check|make N|drill N|journal [--workers W]" ++ 10 ∷ []
 
@@ -23,15 +23,15 @@ workers_rule = record (new_rule (codes "workers")) { long = Some (codes "workers
 abbrev pub graft_command : App
 graft_command = with_rule (with_rule (with_rule (new_app (codes "graftlab")) job_rule) number_rule) workers_rule
 
--- the words of a command behind the name of the program
+-- the words of a command after the name of the program
 abbrev pub line_of : List Text → List Text
 line_of words = codes "graftlab" ∷ words
 
--- the kinds of fault that `clap` finds in a line: none where it takes the line
+-- the kinds of fault that `clap` finds in a line: none if it accepts the line
 unfoldable pub faults_of : List Text → Kinds
 faults_of line = fault_of graft_command line
 
--- what `clap` reads of a line that it takes
+-- what `clap` reads from a line that it accepts
 unfoldable pub rows_read : List Text → List Row
 rows_read line = matches_of graft_command line
 
@@ -57,13 +57,12 @@ abbrev pub IsSeed : Option Text → ℕ → Type 0
 IsSeed None seed = ⊥
 IsSeed (Some text) seed = IsSeedText text seed
 
--- There are so many workers: as many as one digit from 1 to 8 says, or 2 where none is given.
+-- The number of workers: one digit from 1 to 8, or 2 if none is given.
 abbrev pub AreWorkers : Option Text → ℕ → Type 0
 AreWorkers None workers = workers ≡ 2
 AreWorkers (Some text) workers = (1 ≤ workers) × (workers ≤ 8) × (text ≡ (48 + workers) ∷ [])
 
--- `run` and `journal` may stand with `--workers`, `check` stands alone, `make` stands with a number, and `drill` with a number and maybe
--- with `--workers`.
+-- `run` and `journal` may have `--workers`, `check` has nothing else, `make` has a number, and `drill` has a number and may have `--workers`.
 abbrev pub IsJob : Given → Job → Type 0
 IsJob given (Run workers) = (given.job ≡ Some (codes "run")) × (given.number ≡ None) × AreWorkers given.workers workers
 IsJob given Check = (given.job ≡ Some (codes "check")) × (given.number ≡ None) × (given.workers ≡ None)
@@ -71,6 +70,6 @@ IsJob given (Make seed) = (given.job ≡ Some (codes "make")) × IsSeed given.nu
 IsJob given (Drill seed workers) = (given.job ≡ Some (codes "drill")) × IsSeed given.number seed × AreWorkers given.workers workers
 IsJob given (Journal workers) = (given.job ≡ Some (codes "journal")) × (given.number ≡ None) × AreWorkers given.workers workers
 
--- The words ask for the job: `clap` takes them, and what it reads is this job.
+-- The words ask for the job: `clap` accepts them, and what it reads is this job.
 abbrev pub Asks : List Text → Job → Type 0
 Asks words job = (faults_of (line_of words) ≡ []) × IsJob (given_in (rows_read (line_of words))) job

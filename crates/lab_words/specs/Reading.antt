@@ -1,4 +1,4 @@
--- How a line is read, case by case. `Asked` says which words ask for a job; that this finds it is a lemma.
+-- How a line is read, case by case. `Asked` defines which words ask for a job; that this agrees with it is a lemma.
 use Rattle.std.specs.Prelude.{ℕ, ◌&&◌, ◌==◌, ◌+◌, ◌*◌, ◌-◌, nat_le, if◌then◌else◌, is_some, List, [], ◌∷◌, length, Option, Some, None, Result, Ok, Err, codes}
 use Rattle.std.specs.Str.{bytes_eq}
 use Rattle.clap.specs.Words.{Row, Text, Kinds, first_of}
@@ -8,7 +8,7 @@ use Rattle.lab_words.specs.declared.job.WordStop.{WordStop}
 use Rattle.lab_words.specs.declared.job.WordStop.TheVariants.{Usage}
 use Rattle.lab_words.specs.Asked.{faults_of, rows_read}
 
--- decimal digits behind those of n
+-- the number of n's decimal digits followed by these
 abbrev pub digits_after : ℕ → List ℕ → Option ℕ
 digits_after n [] = Some n
 digits_after n (d ∷ ds) = if nat_le 48 d && nat_le d 57 then digits_after (n * 10 + (d - 48)) ds else None
@@ -84,6 +84,6 @@ abbrev pub job_by : Kinds → List Row → Result Job WordStop
 job_by [] rows = job_in_rows rows
 job_by (k ∷ ks) rows = Err Usage
 
--- the answer to a line, but for memory
+-- the answer to a line, unless memory runs out
 abbrev pub answer_of : List Text → Result Job WordStop
 answer_of line = job_by (faults_of line) (rows_read line)

@@ -12,7 +12,7 @@ use clap::{Arg, ArgMatches, Command};
 use graft_edge::{NoMemory, Words};
 use std::alloc::{AllocError, Global};
 
-/// The command whose words are read.
+/// Returns the definition of the command line for `clap`.
 fn make_command<'a>(alloc: Global) -> Result<Command<'a>, AllocError>
     ensures { IfOk result (λ c. app_of c ≡ graft_command) }
 {
@@ -25,7 +25,7 @@ fn make_command<'a>(alloc: Global) -> Result<Command<'a>, AllocError>
         .arg(workers)
 }
 
-/// The words behind the program's name, as `clap` takes them.
+/// Returns the words after the program's name, in the form that `clap` takes.
 fn line_of<'a>(alloc: Global, words: &'a Words) -> Result<Vec<&'a str>, NoMemory>
     ensures { IfOk result (λ line. map (λ word. word.now) line.items ≡ line_of words.now) }
 {
@@ -37,7 +37,7 @@ fn line_of<'a>(alloc: Global, words: &'a Words) -> Result<Vec<&'a str>, NoMemory
     Ok(line)
 }
 
-/// The job of the words that `clap` has found.
+/// Returns the job of the words that `clap` has found.
 fn job_of_matches(matches: &ArgMatches) -> Result<Job, WordStop>
     ensures { result ≡ job_in_rows (rows_of (found_of matches.now)) }
 {
@@ -48,7 +48,7 @@ fn job_of_matches(matches: &ArgMatches) -> Result<Job, WordStop>
     )
 }
 
-/// The job that a line asks for, which begins with the program's name.
+/// Returns the job that a line asks for. The line begins with the program's name.
 fn read_line(alloc: Global, line: &[&str]) -> Result<Job, WordStop>
     ensures { (result ≡ Err WordStop.NoMemory) ⊎ (result ≡ answer_of (map (λ word. word.now) line.now)) }
 {
@@ -65,7 +65,7 @@ fn read_line(alloc: Global, line: &[&str]) -> Result<Job, WordStop>
     }
 }
 
-/// The job that the words of a command ask for, which stand behind the program's name.
+/// Returns the job that the words of a command ask for, which follow the program's name.
 pub fn read_words(alloc: Global, words: &Words) -> Result<Job, WordStop>
     ensures asked { IfOk result (Asks words.now) }
     ensures refused { result ≡ Err WordStop.Usage → (job : Job) → ¬ (Asks words.now job) }

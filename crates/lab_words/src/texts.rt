@@ -1,11 +1,11 @@
-//! What single words say, and the job that the words of a command name.
+//! The meaning of single words, and the job that the words of a command name.
 
 ghost use Rattle.std.specs.Prelude.{◌≡◌, ◌≤◌, length, option_map};
 ghost use Rattle.lab_words.specs.Reading.{digits_after, seed_of, seed_in, workers_of, workers_in, run_with, check_with, make_with, drill_with, journal_with, job_named, job_of};
 
 use crate::job::{Job, WordStop};
 
-/// The number that up to four decimal digits write.
+/// Returns the number written by up to four decimal digits.
 fn digits(text: &[u8]) -> Option<u32>
     requires { length text.now ≤ 4 }
     ensures { result ≡ digits_after 0 text.now }
@@ -21,7 +21,7 @@ fn digits(text: &[u8]) -> Option<u32>
     Some(n)
 }
 
-/// A seed: 1 to 4 decimal digits of a value above 0.
+/// Returns the seed in a text: 1 to 4 decimal digits of a value above 0.
 fn seed_of(text: &str) -> Option<u32>
     ensures { result ≡ seed_of text.now }
 {
@@ -35,7 +35,7 @@ fn seed_of(text: &str) -> Option<u32>
     }
 }
 
-/// A count of workers: one digit from 1 to 8.
+/// Returns the number of workers in a text: one digit from 1 to 8.
 fn workers_of(text: &str) -> Option<usize>
     ensures { result ≡ workers_of text.now }
 {
@@ -49,7 +49,7 @@ fn workers_of(text: &str) -> Option<usize>
     }
 }
 
-/// How many workers run: those that are asked for, or 2.
+/// Returns the number of workers: the one that is given, or 2 if none is.
 fn workers_in(text: Option<&str>) -> Option<usize>
     ensures { result ≡ workers_in (option_map (λ s. s.now) text.entry) }
 {
@@ -59,7 +59,7 @@ fn workers_in(text: Option<&str>) -> Option<usize>
     }
 }
 
-/// The seed that is given, if one is.
+/// Returns the seed that is given, if there is one.
 fn seed_in(text: Option<&str>) -> Option<u32>
     ensures { result ≡ seed_in (option_map (λ s. s.now) text.entry) }
 {
@@ -69,7 +69,7 @@ fn seed_in(text: Option<&str>) -> Option<u32>
     }
 }
 
-/// The job `run`, which takes no number.
+/// Returns the job `run`, which takes no number.
 fn run_with(number: Option<&str>, workers: Option<&str>) -> Result<Job, WordStop>
     ensures { result ≡ run_with (option_map (λ s. s.now) number.entry) (option_map (λ s. s.now) workers.entry) }
 {
@@ -82,7 +82,7 @@ fn run_with(number: Option<&str>, workers: Option<&str>) -> Result<Job, WordStop
     }
 }
 
-/// The job `check`, which stands alone.
+/// Returns the job `check`, which takes no other words.
 fn check_with(number: Option<&str>, workers: Option<&str>) -> Result<Job, WordStop>
     ensures { result ≡ check_with (option_map (λ s. s.now) number.entry) (option_map (λ s. s.now) workers.entry) }
 {
@@ -95,7 +95,7 @@ fn check_with(number: Option<&str>, workers: Option<&str>) -> Result<Job, WordSt
     Ok(Job::Check)
 }
 
-/// The job `make`, which takes a number alone.
+/// Returns the job `make`, which takes a number and nothing else.
 fn make_with(number: Option<&str>, workers: Option<&str>) -> Result<Job, WordStop>
     ensures { result ≡ make_with (option_map (λ s. s.now) number.entry) (option_map (λ s. s.now) workers.entry) }
 {
@@ -108,7 +108,7 @@ fn make_with(number: Option<&str>, workers: Option<&str>) -> Result<Job, WordSto
     }
 }
 
-/// The job `drill`, which takes a number.
+/// Returns the job `drill`, which takes a number.
 fn drill_with(number: Option<&str>, workers: Option<&str>) -> Result<Job, WordStop>
     ensures { result ≡ drill_with (option_map (λ s. s.now) number.entry) (option_map (λ s. s.now) workers.entry) }
 {
@@ -121,7 +121,7 @@ fn drill_with(number: Option<&str>, workers: Option<&str>) -> Result<Job, WordSt
     }
 }
 
-/// The job `journal`, which takes no number.
+/// Returns the job `journal`, which takes no number.
 fn journal_with(number: Option<&str>, workers: Option<&str>) -> Result<Job, WordStop>
     ensures { result ≡ journal_with (option_map (λ s. s.now) number.entry) (option_map (λ s. s.now) workers.entry) }
 {
@@ -134,7 +134,7 @@ fn journal_with(number: Option<&str>, workers: Option<&str>) -> Result<Job, Word
     }
 }
 
-/// The job of this name, where the other words are those that it takes.
+/// Returns the job of this name, if the other words are those that it takes.
 fn job_named(job: &str, number: Option<&str>, workers: Option<&str>) -> Result<Job, WordStop>
     ensures { result ≡ job_named job.now (option_map (λ s. s.now) number.entry) (option_map (λ s. s.now) workers.entry) }
 {
@@ -156,7 +156,7 @@ fn job_named(job: &str, number: Option<&str>, workers: Option<&str>) -> Result<J
     Err(WordStop::Usage)
 }
 
-/// The job that the words name.
+/// Returns the job that the words name.
 pub(crate) fn job_of(
     job: Option<&str>,
     number: Option<&str>,

@@ -24,7 +24,7 @@ impl Model for Bag {
 }
 
 impl Bag {
-    /// No segments.
+    /// Returns a bag of no segments.
     pub fn new(alloc: Global) -> Bag
         ensures { result ≡ [] }
     {
@@ -33,22 +33,22 @@ impl Bag {
         }
     }
 
-    /// How many segments there are.
+    /// Returns the number of segments.
     pub fn len(&self) -> usize
         ensures { result ≡ length self.now }
     {
         self.segments.len()
     }
 
-    /// Whether there are none.
+    /// Whether there are no segments.
     pub fn is_empty(&self) -> bool
         ensures { IsTrue result ↔ (self.now ≡ []) }
     {
         self.segments.is_empty()
     }
 
-    /// Puts a segment behind the others. If memory runs out, and only then, the segment comes back and the
-    /// bag is as before.
+    /// Adds a segment at the end. If memory runs out, the segment is returned and nothing changes;
+    /// there is no other failure.
     pub fn put(&mut self, segment: Segment) -> Result<(), Segment>
         ensures ok { OnOk result (self.new ≡ self.old ++ segment ∷ []) }
         ensures back { IfErr result (λ refused. refused ≡ segment) }
@@ -60,7 +60,8 @@ impl Bag {
         }
     }
 
-    /// A copy of the segment at a place, counted from 0 and below the bag's length. The bag keeps its own.
+    /// Returns a copy of the segment at a place, counted from 0 and below the bag's length. The bag
+    /// stays as it is.
     pub fn deliver(&mut self, place: usize) -> Result<Segment, NoMemory>
         requires { place < length self.old }
         ensures copy { IfOk result (λ segment. slice_get self.old place ≡ Some segment) }
@@ -69,8 +70,8 @@ impl Bag {
         self.segments[place].copy()
     }
 
-    /// Takes out the segment at a place, counted from 0 and below the bag's length. The others keep their
-    /// order.
+    /// Removes and returns the segment at a place, counted from 0 and below the bag's length. The
+    /// others keep their order.
     pub fn remove(&mut self, place: usize) -> Segment
         requires { place < length self.old }
         ensures segment { slice_get self.old place ≡ Some result }

@@ -1,5 +1,5 @@
-//! A link between two sides of a connection: the segments that it holds, and the plan of what happens
-//! to which segment.
+//! A link between two sides of a connection: the segments that it holds, and the plan of faults, which
+//! says what happens to each segment.
 #![tactic(auto)]
 
 mod bag;

@@ -1,4 +1,4 @@
-//! What is planned to happen to which segment.
+//! The plan of what happens to each segment.
 
 ghost use Rattle.std.specs.Prelude.{◌≡◌, ℕ, IfOk};
 ghost use Rattle.graft_edge.specs.declared.ids.PeeringId.{PeeringId};
@@ -19,9 +19,9 @@ pub enum FaultKind {
     Stray,
 }
 
-/// A planned fault of one segment. The segments of a peering that go to one side are counted from 1,
-/// in the order in which they are put into the bag of that peering and side. `after` counts turns of
-/// the far side; a lost segment has no use for it.
+/// A planned fault of one segment. The segments of a peering that go to one side are counted from 1, in
+/// the order in which they are put into the bag of that peering and side. `after` counts turns of the
+/// far side; it isn't used for a lost segment.
 #[derive(Clone, Copy, Debug, PartialEq, Eq, Hash)]
 pub struct Fault {
     pub peering: PeeringId,
@@ -49,7 +49,7 @@ pub enum Fate {
 }
 
 impl Fault {
-    /// What it does to its segment.
+    /// Returns what it does to its segment.
     fn fate(&self) -> Fate
         ensures { result ≡ fate_by self.now }
     {
@@ -70,7 +70,7 @@ struct SegmentId {
     segment: u32,
 }
 
-/// The fates of all segments. A look-up takes the same time however many faults there are.
+/// The fates of all segments. A look-up takes the same time for any number of faults.
 #[derive(Drop)]
 pub struct Plan {
     fates: HashMap<SegmentId, Fate>,
@@ -79,7 +79,7 @@ pub struct Plan {
 impl Plan {
     ghost use Rattle.link_bag.specs.Planned.{fate_of, fate_in};
 
-    /// The plan of these faults. Where two are of one segment, the first counts.
+    /// Returns the plan of these faults. If two are for the same segment, the first counts.
     pub fn new(alloc: Global, faults: &[Fault]) -> Result<Plan, NoMemory>
         ensures { IfOk result (λ plan. (peering : PeeringId) (way : Way) (segment : ℕ)
             → fate_in plan peering way segment ≡ fate_of faults.now peering way segment) }
@@ -99,7 +99,7 @@ impl Plan {
         Ok(Plan { fates })
     }
 
-    /// What happens to the segment of this number, counted from 1, that goes to this side.
+    /// Returns what happens to the segment of this number, counted from 1, that goes to this side.
     pub fn fate(&self, peering: PeeringId, way: Way, segment: u32) -> Fate
         ensures { result ≡ fate_in self.now peering way segment }
     {

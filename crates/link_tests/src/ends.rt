@@ -7,12 +7,12 @@ use std::test::Fail;
 use tcp_end::{Arrival, End, SendStop};
 use tcp_seq::{Segment, Seq, Way};
 
-/// The byte of a stream at a place.
+/// Returns the byte of a stream at a place.
 fn byte_at(place: u32, salt: u32) -> u8 {
     (place % 251) as u8 ^ (salt % 256) as u8
 }
 
-/// The bytes of a stream from one place up to another.
+/// Returns the bytes of a stream from one place up to another.
 pub(crate) fn stream(alloc: Global, from: u32, to: u32, salt: u32) -> Result<Octets, NoMemory> {
     let mut bytes = Octets::new(alloc);
     for place in from..to {
@@ -21,7 +21,7 @@ pub(crate) fn stream(alloc: Global, from: u32, to: u32, salt: u32) -> Result<Oct
     Ok(bytes)
 }
 
-/// The two ends of a connection: the first sends home, and the second to the remote.
+/// Returns the two ends of a connection: the first sends home, and the second to the remote.
 pub(crate) fn two_ends(
     alloc: Global,
     remote_first: u32,
@@ -44,7 +44,7 @@ pub(crate) fn two_ends(
     Ok((remote, home))
 }
 
-/// A segment arrives at the end that it was sent to.
+/// Lets a segment arrive at the end to which it was sent.
 pub(crate) fn take(rt: &impl Abort, end: &mut End, segment: &Segment) -> Result<Arrival, NoMemory> {
     assert!(rt; segment.peering == end.peering());
     assert!(rt; segment.way != end.way());
@@ -52,26 +52,26 @@ pub(crate) fn take(rt: &impl Abort, end: &mut End, segment: &Segment) -> Result<
     end.arrive(segment)
 }
 
-/// The same end, after it was handed over.
+/// Returns the same end after a hand-off.
 pub(crate) fn moved(rt: &impl Abort, end: End) -> End {
     let state = end.export();
     assert!(rt; state.taken as usize + state.ready.len() <= 1 << 20);
     End::import(state)
 }
 
-/// An end as it is, or after it was handed over.
+/// Returns an end unchanged, or after a hand-off.
 fn moved_if(rt: &impl Abort, end: End, moves: bool) -> End {
     if moves { moved(rt, end) } else { end }
 }
 
-/// The next slice of an end, which has so many bytes.
+/// Returns the next slice of an end, which must have `len` bytes.
 fn slice(rt: &impl Abort, end: &mut End, len: usize) -> Result<Segment, Fail> {
     let segment = end.next_segment()?.ok_or("a slice")?;
     assert_eq!(rt; segment.bytes.len(), len);
     Ok(segment)
 }
 
-/// A segment arrives, after which so many bytes are ready.
+/// Lets a segment arrive, and checks how many bytes are ready after it.
 fn arrives(
     rt: &impl Abort,
     end: &mut End,
@@ -85,7 +85,7 @@ fn arrives(
     Ok(())
 }
 
-/// The acknowledgement that is owed, which has no bytes.
+/// Returns the acknowledgement that is owed, which has no bytes.
 fn answer(rt: &impl Abort, end: &mut End, seq: Seq, ack: Seq) -> Result<Segment, Fail> {
     let segment = end.answer().ok_or("an answer")?;
     assert_eq!(rt; (segment.seq, segment.ack), (seq, ack));
@@ -94,14 +94,14 @@ fn answer(rt: &impl Abort, end: &mut End, seq: Seq, ack: Seq) -> Result<Segment,
     Ok(segment)
 }
 
-/// How much of its stream an end emitted, and how much of that was acknowledged.
+/// Checks how much of its stream an end emitted, and how much of that was acknowledged.
 fn lengths(rt: &impl Abort, end: &End, emitted: u32, acked: u32) {
     assert_eq!(rt; end.emitted(), emitted);
     assert_eq!(rt; end.acked(), acked);
 }
 
-/// Three slices of 3,000 bytes arrive out of order, after the first of which both ends are handed over
-/// or not. Answers the ends.
+/// Three slices of 3,000 bytes arrive out of order. After the first one both ends are handed off if `moves`. Returns
+/// the ends.
 fn out_of_order(rt: &impl Abort, far: End, near: End, moves: bool) -> Result<(End, End), Fail> {
     let mut far = far;
     let mut near = near;
@@ -116,7 +116,8 @@ fn out_of_order(rt: &impl Abort, far: End, near: End, moves: bool) -> Result<(En
     Ok((far, near))
 }
 
-/// What comes after: the third slice again is outside, and the acknowledgement comes once and again.
+/// Checks what follows: the third slice is outside the window when it arrives again, and the acknowledgement arrives
+/// twice.
 fn afterwards(
     rt: &(impl Abort + AllocGlobal),
     far: &mut End,
@@ -142,7 +143,7 @@ fn afterwards(
     Ok(())
 }
 
-/// The whole of it, with the number of the first byte.
+/// Runs the whole exchange, from an initial sequence number.
 fn three_slices(rt: &(impl Abort + AllocGlobal), first: u32, moves: bool) -> Result<(), Fail> {
     let bytes = stream(rt.alloc(), 0, 3_000, 0)?;
     let (far, near) = two_ends(rt.alloc(), 5_000, first)?;
@@ -163,7 +164,7 @@ fn three_slices_out_of_order_give_the_stream(rt: HostRuntime) -> Result<(), Fail
     Ok(())
 }
 
-/// So many whole slices are emitted, and then the flight is full.
+/// Checks that `slices` whole slices are emitted, and then the flight is full.
 fn fill_the_flight(rt: &impl Abort, end: &mut End, slices: u32) -> Result<(), Fail> {
     for _ in 0..slices {
         slice(rt, end, 1_024)?;

@@ -11,7 +11,7 @@ use tcp_seq::Segment;
 /// The length of each stream.
 const LENGTH: u32 = 100_000;
 
-/// Numbers that look random: a linear congruence modulo 2^64.
+/// A linear congruential generator modulo 2^64.
 #[derive(Drop)]
 struct Random(u64);
 
@@ -25,8 +25,8 @@ impl Random {
     }
 }
 
-/// One side: its end, how much of the other side's stream it read, and the segments that it sent and
-/// that didn't arrive.
+/// One side: its end, how much of the other side's stream it read, and the segments that it sent and that are still on
+/// the link.
 #[derive(Drop)]
 struct Side {
     end: End,
@@ -34,7 +34,7 @@ struct Side {
     link: Vec<Segment>,
 }
 
-/// Puts a segment on the link: it is lost, put twice, or put. A full link loses all.
+/// Puts a segment on the link: it is lost, put twice, or put once. A full link loses everything.
 fn put(link: &mut Vec<Segment>, segment: Segment, random: &mut Random) -> Result<(), NoMemory> {
     match random.below(8) {
         _ if link.len() > 40 => {}
@@ -60,25 +60,25 @@ fn put_any(
     }
 }
 
-/// The first outstanding bytes again.
+/// Sends the first outstanding bytes again.
 fn emit_again(side: &mut Side, random: &mut Random) -> Result<(), NoMemory> {
     let again = side.end.turn()?;
     put_any(&mut side.link, again, random)
 }
 
-/// The next slice.
+/// Sends the next slice.
 fn emit_next(side: &mut Side, random: &mut Random) -> Result<(), NoMemory> {
     let next = side.end.next_segment()?;
     put_any(&mut side.link, next, random)
 }
 
-/// The answer that is owed.
+/// Sends the acknowledgement that is owed.
 fn emit_answer(side: &mut Side, random: &mut Random) -> Result<(), NoMemory> {
     let answer = side.end.answer();
     put_any(&mut side.link, answer, random)
 }
 
-/// One thing that a side may send.
+/// Sends one of the segments that a side may send.
 fn emit_one(side: &mut Side, random: &mut Random) -> Result<(), NoMemory> {
     match random.below(8) {
         0 => emit_again(side, random),
@@ -87,7 +87,7 @@ fn emit_one(side: &mut Side, random: &mut Random) -> Result<(), NoMemory> {
     }
 }
 
-/// What a side sends in a turn.
+/// Sends what a side sends in a turn.
 fn emit(side: &mut Side, random: &mut Random) -> Result<(), NoMemory> {
     for _ in 0..6 {
         emit_one(side, random)?;
@@ -95,14 +95,14 @@ fn emit(side: &mut Side, random: &mut Random) -> Result<(), NoMemory> {
     Ok(())
 }
 
-/// Drops a segment that arrived. One in sixteen stays on the link.
+/// Removes a segment that arrived from the link. One in sixteen stays.
 fn remove(link: &mut Vec<Segment>, place: usize, random: &mut Random) {
     if random.below(16) > 0 && place < link.len() {
         link.remove(place);
     }
 }
 
-/// One of the first segments on a link arrives.
+/// Lets one of the first segments on a link arrive.
 fn deliver_one(
     rt: &impl Abort,
     link: &mut Vec<Segment>,
@@ -120,7 +120,7 @@ fn deliver_one(
     Ok(())
 }
 
-/// Some of the segments on a link arrive, in whatever order.
+/// Lets some of the segments on a link arrive, in any order.
 fn deliver(
     rt: &impl Abort,
     link: &mut Vec<Segment>,
@@ -133,7 +133,7 @@ fn deliver(
     Ok(())
 }
 
-/// Reads what is ready, which is what comes next in the stream that the other side sends.
+/// Reads what is ready, and checks that it comes next in the other side's stream.
 fn read(rt: &impl Abort, side: &mut Side, theirs: &[u8]) {
     let count = side.end.ready().len();
     let from = side.read as usize;
@@ -153,7 +153,7 @@ fn sending(alloc: Global, end: End, bytes: &[u8]) -> Result<Side, Fail> {
     })
 }
 
-/// A side as it is, or with its end handed over.
+/// Returns a side unchanged, or with its end handed off.
 fn handed_over(rt: &impl Abort, side: Side, moves: bool) -> Side {
     if !moves {
         return side;
@@ -166,7 +166,7 @@ fn handed_over(rt: &impl Abort, side: Side, moves: bool) -> Side {
     }
 }
 
-/// Whether a side's stream was acknowledged whole, and the other one read whole.
+/// Returns whether all of a side's stream was acknowledged, and all of the other one was read.
 fn is_through(side: &Side) -> bool {
     side.end.acked() == LENGTH && side.read == LENGTH
 }
@@ -184,7 +184,7 @@ fn step(
     deliver(rt, &mut near.link, &mut far.end, random)
 }
 
-/// Both streams go through. The numbers of one of them go round on the way.
+/// Both streams get through. The sequence numbers of one of them wrap around on the way.
 fn go_through(
     rt: &(impl Abort + AllocGlobal),
     seed: u32,

@@ -6,12 +6,12 @@ use std::test::Fail;
 use tcp_reasm::Reasm;
 use tcp_seq::{AckKind, Segment, Seq, Way, acceptable, ack_kind};
 
-/// Five numbers before 0.
+/// The sequence number five before 0.
 const BEFORE_END: u32 = 4_294_967_291;
 
 const LAST: u32 = 4_294_967_295;
 
-/// Rows of a number, how much further on the other one is, and that one (RFC 9293, section 3.4).
+/// Rows of a number, a distance, and the number at that distance (RFC 9293, section 3.4).
 #[test]
 fn numbers_wrap_around(rt: HostRuntime) {
     for (first, n, then) in [
@@ -41,7 +41,7 @@ fn segments_are_acceptable_in_the_window(rt: HostRuntime) {
         (100, 16_384, LAST, 102, true),
         (100, 16_384, 16_483, 1_024, true),
         (100, 16_384, 16_484, 1_024, false),
-        // it covers the whole window, and neither its first nor its last byte stands there
+        // it covers the whole window, and neither its first nor its last byte is in it
         (100, 16_384, 99, 16_386, false),
         // a closed window
         (100, 0, 100, 0, true),
@@ -76,7 +76,7 @@ fn acknowledgements_are_new_old_or_beyond(rt: HostRuntime) {
         (100, 200, 101, New),
         (100, 200, 200, New),
         (100, 200, 201, Beyond),
-        // 2^31 numbers further on begin those behind
+        // the older numbers begin 2^31 further on
         (100, 200, 2_147_483_747, Beyond),
         (100, 200, 2_147_483_748, Old),
         (100, 100, 101, Beyond),
@@ -92,7 +92,7 @@ fn acknowledgements_are_new_old_or_beyond(rt: HostRuntime) {
     }
 }
 
-/// Puts bytes from a number on, after which so many are ready.
+/// Puts bytes from a number on, and checks how many are ready after that.
 fn put(
     rt: &impl Abort,
     reasm: &mut Reasm,
@@ -107,8 +107,8 @@ fn put(
     Ok(())
 }
 
-/// A place keeps its first byte: the last put brings A to I for 4,294,967,294 to 6, and "cd" and "gh" were
-/// there. The window ends with 16,381.
+/// A place keeps its first byte: the last put brings A to I for 4,294,967,294 to 6, where "cd" and "gh" were already
+/// present. The window ends with 16,381.
 #[test]
 fn reassembly_keeps_the_first_byte_of_a_place(rt: HostRuntime) -> Result<(), Fail> {
     let mut reasm = Reasm::new(rt.alloc(), Seq(4_294_967_294));
@@ -123,7 +123,7 @@ fn reassembly_keeps_the_first_byte_of_a_place(rt: HostRuntime) -> Result<(), Fai
     Ok(())
 }
 
-/// The pieces that stand ahead, counted from the number expected next, make the same reassembly again.
+/// The pieces ahead of a hole, counted from the number expected next, make the same reassembly again.
 #[test]
 fn pieces_are_taken_out_and_put_back(rt: HostRuntime) -> Result<(), Fail> {
     let mut reasm = Reasm::new(rt.alloc(), Seq(100));
@@ -140,7 +140,7 @@ fn pieces_are_taken_out_and_put_back(rt: HostRuntime) -> Result<(), Fail> {
     Ok(())
 }
 
-/// A segment that is told apart by its number.
+/// Returns a segment that is identified by its number.
 fn numbered(alloc: Global, number: u32) -> Result<Segment, NoMemory> {
     Ok(Segment {
         peering: PeeringId(3),

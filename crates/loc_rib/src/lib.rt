@@ -1,5 +1,5 @@
-//! The routes that a router decided on, and the prefixes that it is to decide again: a Loc-RIB (RFC 4271,
-//! section 3.2).
+//! The routes that a router selected, and the prefixes that it has to decide again: a Loc-RIB (RFC
+//! 4271, section 3.2).
 #![tactic(auto)]
 
 mod rib;

@@ -30,7 +30,7 @@ impl Model for LocRib {
     ghost view = { λ rib. record { best = rib.best.contents; dirty = rib.dirty } };
 }
 
-/// Whether the two aren't the same.
+/// Whether the two differ.
 #[tactic(auto, using(bgp_types::proofs::Equality::route_equal))]
 fn are_apart(a: Option<&Best>, b: Option<&Best>) -> bool
     ensures { AreApart (option_copied a.entry) (option_copied b.entry) result }
@@ -54,7 +54,7 @@ fn is_this(best: Option<&Best>, from: From, route: &Route) -> bool
 }
 
 impl LocRib {
-    /// No route, and no dirty prefix.
+    /// Returns a table of no route and no dirty prefix.
     pub fn new(alloc: Global) -> LocRib
         ensures { result ≡ record { best = map.empty; dirty = map.empty } }
     {
@@ -64,20 +64,20 @@ impl LocRib {
         }
     }
 
-    /// The best route to a prefix.
+    /// Returns the best route to a prefix.
     pub fn get(&self, prefix: Prefix) -> Option<&Best>
         ensures { option_copied result ≡ map.get self.now.best prefix }
     {
         self.best.get(prefix)
     }
 
-    /// Gives a prefix this best route or none, and answers whether that is another than it had. For
-    /// want of memory nothing has changed.
+    /// Sets the best route to a prefix, or removes it for `None`, and returns whether it changed. If
+    /// memory runs out, nothing changes.
     pub fn set(&mut self, prefix: Prefix, best: Option<Best>) -> Result<bool, NoMemory>
         ensures changed { IfOk result (λ changed. AreApart best (map.get self.old.best prefix) changed) }
         ensures ok { OnOk result (self.new ≡ record self.old { best = with_best self.old.best prefix best }) }
         ensures err { OnErr result (self.new ≡ self.old) }
-        // Neither taking a route away nor replacing one wants memory.
+        // Neither removing a route nor replacing one needs memory.
         ensures gone { best ≡ None → IsOk result }
         ensures present { IsSome (map.get self.old.best prefix) → IsOk result }
     {
@@ -94,8 +94,8 @@ impl LocRib {
         }
     }
 
-    /// Gives a prefix a copy of this route for its best, unless it has it already, and answers whether that is
-    /// another than it had. If memory runs out, nothing changes.
+    /// Sets a copy of this route as the best route to a prefix, unless it is that already, and returns
+    /// whether it changed. If memory runs out, nothing changes.
     #[tactic(auto, using(due_set::proofs::Sets::inserted_again))]
     pub fn set_copy(&mut self, prefix: Prefix, from: From, route: &Route) -> Result<bool, NoMemory>
         ensures changed { IfOk result (λ changed. AreApart (Some (record { from = from; route = route.now })) (map.get self.old.best prefix) changed) }
@@ -115,7 +115,7 @@ impl LocRib {
         }
     }
 
-    /// Makes a prefix dirty. For want of memory nothing has changed.
+    /// Marks a prefix as dirty. If memory runs out, nothing changes.
     pub fn mark(&mut self, prefix: Prefix) -> Result<(), NoMemory>
         ensures ok { OnOk result (self.new ≡ record self.old { dirty = map.insert self.old.dirty prefix tt }) }
         ensures err { OnErr result (self.new ≡ self.old) }
@@ -131,28 +131,30 @@ impl LocRib {
         self.dirty.contains(prefix)
     }
 
-    /// The least dirty prefix.
+    /// Returns the least dirty prefix.
     pub fn next_dirty(&self) -> Option<Prefix>
         ensures { result ≡ first_above None (map.keys self.now.dirty) }
     {
         self.dirty.first()
     }
 
-    /// Ends that a prefix is dirty.
+    /// Clears a prefix's dirty mark.
     pub fn settle(&mut self, prefix: Prefix)
         ensures { self.new ≡ record self.old { dirty = map.remove self.old.dirty prefix } }
     {
         self.dirty.remove(prefix);
     }
 
-    /// The least prefix with a best route that is above another, or the least of all.
+    /// Returns the least prefix with a best route that is above another, or the least of all for
+    /// `None`.
     pub fn next_after(&self, prefix: Option<Prefix>) -> Option<Prefix>
         ensures { result ≡ first_above prefix (map.keys self.now.best) }
     {
         self.best.next_after(prefix)
     }
 
-    /// The prefixes with a best route, in rising order. It visits each of them once, and asks for memory once.
+    /// Returns the prefixes with a best route, in ascending order. It visits each of them once, and
+    /// allocates once.
     pub fn prefixes(&self) -> Result<PrefixList, NoMemory>
         ensures { IfOk result (λ prefixes. prefixes ≡ map.keys self.now.best) }
     {

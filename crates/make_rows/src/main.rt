@@ -1,5 +1,5 @@
-//! Reads seeds, one a line, and prints the length and the SHA-256 of the laboratory of each one. The text
-//! is proved to be that of its definition; these digests are of a text that was written apart from it.
+//! Reads seeds, one a line, and prints the length and the SHA-256 of the laboratory of each one. The text is proved to
+//! be that of its definition; these digests are of a text that was made independently.
 #![tactic(auto)]
 
 use anyhow::Result;

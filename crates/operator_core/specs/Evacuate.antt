@@ -12,7 +12,7 @@ use Rattle.operator_core.specs.declared.script.ScriptStep.{ScriptStep}
 use Rattle.operator_core.specs.declared.script.ScriptStep.TheVariants.{Evacuate}
 use Rattle.operator_core.specs.Slots.{waiting_entry}
 
--- how many sessions belong at a router
+-- the number of sessions that belong at a router
 abbrev pub load_of : List Seat → ℕ → ℕ
 load_of seats r = count_by (λ seat. seat.place.0 == r) seats
 
@@ -24,19 +24,19 @@ abbrev pub seated_from : ℕ → RouterId → List Seat → List PeeringId
 seated_from p router [] = []
 seated_from p router (seat ∷ seats) = if seat.place.0 == router.0 then record { 0 = p } ∷ seated_from (p + 1) router seats else seated_from (p + 1) router seats
 
--- what a session of the router is given, where the first graft of the step has this number
+-- what a session of the router is given, if the first graft of the step has this number
 abbrev pub gift_for : ℕ → RouterId → PeeringId × Option RouterId → Gift
 gift_for first router entry = record { graft = first + entry.0.0; peering = entry.0; router = router; target = entry.1 }
 
 abbrev pub gifts_to : ℕ → RouterId → List Seat → List ℕ → List ℕ → List Gift
 gifts_to first router seats loads rooms = map (gift_for first router) (zip (seated_from 0 router seats) (plan_for rooms router.0 loads (length (seated_from 0 router seats))))
 
--- what a step gives, whose first graft has this number
+-- what a step gives, if its first graft has this number
 abbrev pub gifts_by : List Seat → List ℕ → List ℕ → ℕ → ScriptStep → List Gift
 gifts_by seats loads rooms number (Evacuate router) = gifts_to number router seats loads rooms
 gifts_by seats loads rooms number step = []
 
--- the slot of what is given
+-- the slot for what is given
 abbrev pub slot_to : ℕ → PeeringId → RouterId → Option RouterId → Slot
 slot_to k p router None = Stays k p router
 slot_to k p router (Some target) = Made (waiting_entry k (record { peering = p; target = target }))
@@ -44,7 +44,7 @@ slot_to k p router (Some target) = Made (waiting_entry k (record { peering = p; 
 abbrev pub given_slot : Gift → Slot
 given_slot gift = slot_to gift.graft gift.peering gift.router gift.target
 
--- the slots with what is given
+-- the slots, with what is given put into them
 abbrev pub give : List Gift → List Slot → List Slot
 give [] xs = xs
 give (gift ∷ gifts) xs = give gifts (slice_set xs (gift.graft - 1) (given_slot gift))

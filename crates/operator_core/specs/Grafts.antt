@@ -1,4 +1,4 @@
--- The log of grafts, and what it says of sources and outcomes.
+-- The log of grafts, and what it says about sources and outcomes.
 use Rattle.std.specs.Prelude.{ℕ, List, [], ◌∷◌, flat_map, Bool, true, false, Option, Some, None, slice_get}
 use Rattle.std.specs.Option.{option_map}
 use Rattle.graft_edge.specs.declared.ids.RouterId.{RouterId}
@@ -14,13 +14,13 @@ use Rattle.operator_core.specs.declared.grafts.Seat.{Seat}
 
 -- ---- the log, as the operator's part of the world has it
 
--- how far a graft is: it waits until it has a source, and it ends with its outcome
+-- the stage of a graft: it waits until it has a source, and it ends with its outcome
 abbrev pub stage_of : Option ℕ → Option Outcome → GraftStage
 stage_of source (Some outcome) = Ended outcome
 stage_of None None = Waiting
 stage_of (Some r) None = Issued
 
--- a graft that is made, with its target
+-- the entry of a graft with a target
 abbrev pub entry_of : OperatorPart → ScriptGraft → ℕ → GraftEntry
 entry_of part g target = record {
   graft = g.graft;

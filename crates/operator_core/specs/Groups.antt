@@ -13,19 +13,19 @@ use Rattle.operator_core.specs.Tasks.{tasks_by}
 
 -- ---- numbers
 
--- how many grafts a step has, in a laboratory of so many peerings
+-- the number of grafts of a step, by the number of peerings
 abbrev pub grafts_by : ℕ → ScriptStep → ℕ
 grafts_by peerings (Say p) = 0
 grafts_by peerings (Graft p target) = 1
 grafts_by peerings (Evacuate router) = peerings
 grafts_by peerings Settle = 0
 
--- at each place one more than grafts stand before it
+-- the number at each place is one above the number of grafts before it
 pub record AreNumbers (peerings : ℕ) (steps : List ScriptStep) (numbers : List ℕ) : Type 0 where
   pub all : length numbers ≡ length steps
   pub each : (n : ℕ) → n < length steps → slice_index_or numbers n 0 ≡ sum_by (grafts_by peerings) (take n steps) + 1
 
--- each place has a number, which is far from the greatest one
+-- each place has a number, and 256 numbers after it still fit in 32 bits
 pub record NumbersFit (steps : List ScriptStep) (numbers : List ℕ) : Type 0 where
   pub all : length numbers ≡ length steps
   pub each : (n : ℕ) → n < length steps → slice_index_or numbers n 0 + 256 < 2 ^ 32
@@ -54,7 +54,8 @@ module _ (script : Script) (numbers : List ℕ) (seats : List Seat) where
   abbrev pub tasks_at : ℕ → List Task
   tasks_at n = tasks_of_step n (slice_get script.steps n)
 
-  -- The group that begins at this place: the tasks of its steps in their order, and what they give. The next group begins behind the step that ends it.
+  -- The group that begins at this place: the tasks of its steps in their order, and what they give. The next group begins after the step that ends
+  -- it.
   pub record IsGroupFrom (from : ℕ) (group : Group) : Type 0 where
     pub len : ℕ
     pub ends : EndsAfter script.steps from (from + len)

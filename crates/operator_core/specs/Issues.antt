@@ -9,7 +9,7 @@ use Rattle.operator_core.specs.declared.groups.Task.{Task}
 use Rattle.operator_core.specs.Slots.{slot_at}
 use Rattle.operator_core.specs.States.{State}
 
--- A graft whose peering has an open one waits for that.
+-- The graft of a task is held up: another graft of its peering is outstanding.
 pub record IsHeld (s : State) (task : Task) : Type 0 where
   pub entry : GraftEntry
   pub is : slot_at s.slots task.graft ≡ Some (Made entry)
@@ -17,7 +17,7 @@ pub record IsHeld (s : State) (task : Task) : Type 0 where
   pub seated : slice_get s.seats entry.peering.0 ≡ Some seat
   pub moving : seat.moving ≡ true
 
--- the state with other tasks that wait
+-- the state with these pending tasks
 abbrev pub waiting_are : State → List Task → State
 waiting_are s waiting = record s { waiting = waiting }
 
@@ -28,6 +28,6 @@ issued_entry entry router = record entry { source = Some router; stage = Issued 
 abbrev pub moving_seat : Seat → Seat
 moving_seat seat = record seat { moving = true }
 
--- The graft at a place, whose peering has this seat, is ordered.
+-- The state after the graft at a place is ordered; its peering has this seat.
 abbrev pub graft_issued : State → ℕ → GraftEntry → Seat → State
 graft_issued s place entry seat = record s { slots = slice_set s.slots place (Made (issued_entry entry seat.place)); seats = slice_set s.seats entry.peering.0 (moving_seat seat) }

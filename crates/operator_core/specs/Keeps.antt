@@ -1,4 +1,4 @@
--- What the operator keeps true of how far it is.
+-- The invariant of the operator's progress.
 use Rattle.std.specs.Prelude.{ℕ, ◌≡◌, ◌≢◌, ◌≤◌, ◌<◌, ◌+◌, ◌↔◌, List, [], ◌∷◌, length, Bool, true, false, Option, Some, None, slice_get}
 use Rattle.std.specs.List.{AllByRecursion, AllByRecursion-prop}
 use Rattle.std.specs.Option.{option_map}
@@ -21,12 +21,12 @@ use Rattle.operator_core.specs.States.{State}
 
 -- ---- tasks
 
--- A task stands before another one: its step does, or they are of one step, and its graft has the lower number.
+-- A task comes before another one: its step does, or they are of the same step and its graft has the lower number.
 pub record Precedes (one other : Task) : Type 0 where
   pub step : one.step ≤ other.step
   pub graft : one.step ≡ other.step → one.graft < other.graft
 
--- each task stands before all after it
+-- the tasks are in order: each comes before all after it
 abbrev pub Rises : List Task → Type 0
 Rises [] = Unit {0}
 Rises (task ∷ tasks) = AllByRecursion (Precedes task) tasks × Rises tasks
@@ -42,7 +42,7 @@ Rises-prop (task ∷ tasks) = ×_prop (AllByRecursion-prop (Precedes task) (Prec
 abbrev pub IsGraftTask : Setup → Task → Type 0
 IsGraftTask setup task = option_map (λ g. g.step) (graft_at setup task.graft) ≡ Some task.step
 
--- a task of the group at work, which ends before the step next: what it is for is by its step
+-- a task of the current group, which ends before the step `next`; what the task orders agrees with its step
 pub record Waits (setup : Setup) (group next : ℕ) (task : Task) : Type 0 where
   pub group_is : group_of setup task.step ≡ group
   pub before : task.step < next
@@ -51,7 +51,7 @@ pub record Waits (setup : Setup) (group next : ℕ) (task : Task) : Type 0 where
   pub evacuates : (router : ℕ) → slice_get setup.steps task.step ≡ Some (EvacuateStep router) → IsGraftTask setup task
   pub issuable : slice_get setup.steps task.step ≢ Some SettleStep
 
--- the peerings and routers that steps name are there
+-- the peerings and routers that steps name exist
 pub record StepsAreSound (setup : Setup) : Type 0 where
   pub says : (n p : ℕ) (bytes : List ℕ) → slice_get setup.steps n ≡ Some (SayStep p bytes) → p < peerings_in setup
   pub moves : (n p target : ℕ) → slice_get setup.steps n ≡ Some (MoveStep p target) → (p < peerings_in setup) × (target < routers_in setup)
@@ -64,7 +64,7 @@ abbrev pub emptied_by : Option ScriptStep → Option ℕ
 emptied_by (Some (EvacuateStep router)) = Some router
 emptied_by _ = None
 
--- An entry is that of a graft which was made: its step has the entry's target, or may give it.
+-- An entry is that of an existing graft: its step has the entry's target, or may give it.
 pub record IsMade (setup : Setup) (g : ScriptGraft) (entry : GraftEntry) : Type 0 where
   pub graft : entry.graft ≡ g.graft
   pub peering : entry.peering.0 ≡ g.peering
@@ -78,13 +78,13 @@ pub record IsStaying (setup : Setup) (g : ScriptGraft) (k : ℕ) (peering : Peer
   pub peering_is : peering.0 ≡ g.peering
   pub emptied : emptied_by (slice_get setup.steps g.step) ≡ Some router.0
 
--- A slot is one that a graft may have.
+-- The slot is one that this graft may have.
 pub record IsSlotOf (setup : Setup) (g : ScriptGraft) (slot : Slot) : Type 0 where
   pub unmade : slot ≡ Unmade → emptied_by (slice_get setup.steps g.step) ≢ None
   pub stays : (k : ℕ) (peering : PeeringId) (router : RouterId) → slot ≡ Stays k peering router → IsStaying setup g k peering router
   pub made : (entry : GraftEntry) → slot ≡ Made entry → IsMade setup g entry
 
--- whether a graft is made and wasn't ordered
+-- whether a graft exists and wasn't ordered
 abbrev pub slot_waits : Slot → Bool
 slot_waits Unmade = false
 slot_waits (Stays k p router) = false
@@ -95,24 +95,25 @@ is_unmade Unmade = true
 is_unmade (Stays k p router) = false
 is_unmade (Made entry) = false
 
--- whether a slot is that of a step whose group hasn't begun
+-- whether a slot is as it was before the group of its step began
 abbrev pub is_first : Option ScriptStep → Slot → Bool
 is_first (Some (MoveStep p target)) slot = slot_waits slot
 is_first (Some (EvacuateStep router)) slot = is_unmade slot
 is_first _ slot = false
 
--- a graft has ended, if it was made
+-- a graft has ended, if it exists
 abbrev pub IsOver : Slot → Type 0
 IsOver slot = (entry : GraftEntry) → slot ≡ Made entry → outcome_at entry.stage ≢ None
 
--- A graft of an earlier group is over; one of the group at work waits exactly where it has a task; and a later one is as it was at first.
+-- A graft of an earlier group has ended; one of the current group waits exactly where it has a pending task; and the slot of a later one is as it was
+-- at first.
 pub record IsSlot (setup : Setup) (group : ℕ) (tasks : List Task) (g : ScriptGraft) (slot : Slot) : Type 0 where
   pub fits : IsSlotOf setup g slot
   pub past : group_of setup g.step < group → IsOver slot
   pub now : group_of setup g.step ≡ group → slot_waits slot ≡ has_task tasks g.step g.graft
   pub later : group < group_of setup g.step → is_first (slice_get setup.steps g.step) slot ≡ true
 
--- A graft that was ordered found those before it of its peering ended.
+-- When a graft was ordered, the earlier grafts of its peering had ended.
 abbrev pub InTurn : List Slot → Type 0
 InTurn slots = (i j : ℕ) (one other : GraftEntry) → i < j → slice_get slots i ≡ Some (Made one) → slice_get slots j ≡ Some (Made other) → one.peering.0 ≡ other.peering.0
     → is_waiting other.stage ≡ false → outcome_at one.stage ≢ None
@@ -129,11 +130,11 @@ pub record SlotsStand (setup : Setup) (group : ℕ) (tasks : List Task) (slots :
 abbrev pub with_slots : Setup → List Slot → OperatorPart
 with_slots setup slots = record { group = 0; issued = λ n. false; given = given_in setup slots; source = source_in slots; outcome = outcome_in slots }
 
--- no graft of the peering is open
+-- no graft of the peering is outstanding
 abbrev pub NoneIsOpen : List Slot → ℕ → Type 0
 NoneIsOpen slots p = (i : ℕ) (entry : GraftEntry) → slice_get slots i ≡ Some (Made entry) → entry.peering.0 ≡ p → is_open entry.stage ≡ false
 
--- the place by the log, and whether a graft of the peering is open
+-- the place by the log, and whether a graft of the peering is outstanding
 pub record IsSeat (setup : Setup) (slots : List Slot) (p : ℕ) (seat : Seat) : Type 0 where
   pub place : seat.place.0 ≡ placement setup (with_slots setup slots) p
   pub there : seat.place.0 < routers_in setup
@@ -145,7 +146,7 @@ pub record SeatsStand (setup : Setup) (slots : List Slot) (seats : List Seat) : 
 
 -- ---- the whole
 
--- where the group at work ends
+-- where the current group ends
 pub record EndsAt (setup : Setup) (group next : ℕ) : Type 0 where
   pub within : next ≤ length setup.steps
   pub begins : group_of setup next ≡ group + 1

@@ -10,7 +10,7 @@ use Rattle.operator_core.specs.States.{part_of}
 use Rattle.operator_core.specs.Progresses.{state, own_part_of}
 use Rattle.operator_core.specs.Turns.{BeginNoGroup, NothingToOrder, IsHeldUp}
 
--- the laboratory that the operator is of, which only proofs know
+-- the operator's laboratory, which is only for proofs
 abbrev pub setup_of : Operator → Setup
 setup_of op = op.progress.known.setup
 
@@ -23,16 +23,16 @@ abbrev pub own_part : Operator → OwnPart
 own_part op = own_part_of (state op.progress)
 
 module _ {C : Type 0} where
-  -- of a take: it is one event
+  -- what a take promises: it is one event
   abbrev pub took : Operator → ℕ → Item C → List (Deed (Item C)) → Operator → Type 0
   took old from item deeds new = length deeds ≡ 1
 
-  -- Of a turn: it begins no group, and at its end no step of the group may be issued.
+  -- What a turn promises: it begins no group, and at its end no further task of the group may be issued.
   pub record Turned (old : Operator) (deeds : List (Deed (Item C))) (new : Operator) : Type 0 where
     pub no_go : BeginNoGroup deeds
     pub done : NothingToOrder (setup_of old) (operator_part new)
 
-  -- Of what is done at a mark: nothing exactly where the next group may not begin, else one event.
+  -- What a call at a mark promises: there is no event exactly if the next group may not begin, and one event otherwise.
   pub record Paused (old : Operator) (deeds : List (Deed (Item C))) (new : Operator) : Type 0 where
     pub held : (deeds ≡ []) ↔ IsHeldUp (setup_of old) (operator_part old)
     pub few : length deeds ≤ 1

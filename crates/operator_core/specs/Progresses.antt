@@ -1,4 +1,4 @@
--- How far the operator is, as the program has it.
+-- The operator's progress, as the program keeps it.
 use Rattle.std.specs.Prelude.{ℕ, ◌≡◌, ◌≤◌, ◌<◌, ◌+◌, ◌-◌, ◌↔◌, Bool, true, false, List, [], ◌∷◌, length, take, Option, Some, None, slice_get}
 use Rattle.std.specs.List.{AllByRecursion}
 use Rattle.session_value.specs.Sessions.{SessionValue}
@@ -63,20 +63,20 @@ pub record Begins (known : Known) (p : Progress) : Type 0 where
   pub sound : IsSound p
   pub part : part_of (state p) ≡ (first_world known.setup).operator
 
--- the peerings of grafts that are made have seats
+-- the peerings of existing grafts have seats
 abbrev pub HaveSeats : Progress → Type 0
 HaveSeats p = (place : ℕ) (entry : GraftEntry) → slice_get p.slots.items place ≡ Some (Made entry) → entry.peering.0 < length p.seats.items
 
--- a graft is made at this place
+-- the slot at this place has a graft
 abbrev pub IsMadeAt : Progress → ℕ → Type 0
 IsMadeAt p place = (entry : GraftEntry) × (slice_get p.slots.items place ≡ Some (Made entry))
 
--- the place of a graft of this number that is open
+-- the place of the outstanding graft of this number, if there is one
 abbrev pub IsOpenPlace : List Slot → ℕ → Option ℕ → Type 0
 IsOpenPlace slots graft None = (place : ℕ) (entry : GraftEntry) → slice_get slots place ≡ Some (Made entry) → place + 1 ≡ graft → is_open entry.stage ≡ false
 IsOpenPlace slots graft (Some place) = (entry : GraftEntry) × (slice_get slots place ≡ Some (Made entry)) × (place + 1 ≡ graft) × (is_open entry.stage ≡ true)
 
--- the number with which the order of a step's graft is noted
+-- the graft number with which the order of a task is journaled
 abbrev pub IsNumberOf : Option ScriptStep → Task → ℕ → Type 0
 IsNumberOf (Some (Graft peering target)) task number = number ≡ 0
 IsNumberOf (Some (Evacuate router)) task number = number ≡ task.graft
@@ -85,7 +85,7 @@ IsNumberOf _ task number = ⊥
 abbrev pub IsOrderOf : Progress → Task → ℕ → Type 0
 IsOrderOf p task number = IsNumberOf (slice_get p.script.steps task.step) task number
 
--- what the script gives stays
+-- what comes from the script stays the same
 pub record SameScript (old new : Progress) : Type 0 where
   pub known : new.known ≡ old.known
   pub script : new.script ≡ old.script
@@ -111,13 +111,13 @@ pub record IsUnchanged (old new : Progress) : Type 0 where
   pub same : SameScript old new
   pub state_is : state new ≡ state old
 
--- the group that begins has given the sessions of the routers that it empties to others, by where they belonged before
+-- the group that begins has given the sessions of the routers that it empties to others, by the seats before it
 abbrev pub AreEmptied : Setup → OperatorPart → OperatorPart → Type 0
 AreEmptied setup before after = (g : ScriptGraft) (router : ℕ) → graft_at setup g.graft ≡ Some g → slice_get setup.steps g.step ≡ Some (EvacuateStep router) → group_of setup g.step ≡ after.group
     → after.given g.graft ≡ gift_to setup (placement setup before) router g.peering
 
 module _ {C : Type 0} where
-  -- The order of a task's graft goes to the place of its peering's seat, and the graft's slot has it.
+  -- The order of a task's graft goes to the router of its peering's seat, and is recorded in the graft's slot.
   pub record IssuesGraft (old : Progress) (task : Task) (moves : Move) (number : ℕ) (before : Post (Item C)) (new : Progress) (after : Post (Item C)) : Type 0 where
     pub place : ℕ
     pub is_place : place + 1 ≡ task.graft
@@ -130,7 +130,7 @@ module _ {C : Type 0} where
     pub changes : state new ≡ graft_issued (state old) place entry seat
     pub wrote : Wrote before (deed_of before (operator_code (Order task.step number)) None ((seat.place.0, GraftOrder task.graft entry.peering entry.target) ∷ []) ∷ []) after
 
-  -- A task is visited, where those before it are issued or held up: it was issued, or is held up.
+  -- A task is visited after those before it, which are issued or held up; it is then issued or held up too.
   pub record Visits (old : Progress) (place : ℕ) (before : Post (Item C)) (new : Progress) (after : Post (Item C)) : Type 0 where
     pub deeds : List (Deed (Item C))
     pub wrote : Wrote before deeds after

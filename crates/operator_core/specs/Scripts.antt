@@ -5,7 +5,7 @@ use Rattle.operator_core.specs.declared.script.Script.{Script}
 use Rattle.operator_core.specs.declared.script.ScriptStep.{ScriptStep}
 use Rattle.operator_core.specs.declared.script.ScriptStep.TheVariants.{Say, Graft, Evacuate, Settle}
 
--- a step as the operator has it: without the bytes that a remote is to say
+-- a step as the operator knows it: without the bytes that a remote is to say
 abbrev pub step_for : StepOf → ScriptStep
 step_for (SayStep p bytes) = Say (record { 0 = p })
 step_for (MoveStep p target) = Graft (record { 0 = p }) (record { 0 = target })
@@ -18,7 +18,7 @@ pub record IsScriptOf (setup : Setup) (script : Script) : Type 0 where
   pub starts : script.starts ≡ map (λ peering. record { 0 = peering.start }) setup.peerings
   pub steps : script.steps ≡ map step_for setup.steps
 
--- the peering of a step has a start, and the router that it names is there
+-- the peering of a step has a start, and the router that it names exists
 abbrev pub IsWorkableStep : Script → ScriptStep → Type 0
 IsWorkableStep script (Say peering) = peering.0 < length script.starts
 IsWorkableStep script (Graft peering target) = (peering.0 < length script.starts) × (target.0 < length script.rooms)

@@ -1,4 +1,4 @@
--- What the operator has for the numbers of grafts, and what it says of sources, outcomes and gifts.
+-- What the operator records for the numbers of grafts, and the sources, outcomes and gifts that follow from it.
 use Rattle.std.specs.Prelude.{ℕ, zero, suc, ◌+◌, List, [], ◌∷◌, ◌++◌, if◌then◌else◌, Option, Some, None, slice_get}
 use Rattle.std.specs.Option.{option_map, option_and_then, option_or}
 use Rattle.graft_edge.specs.declared.ids.RouterId.{RouterId}
@@ -16,7 +16,7 @@ use Rattle.operator_core.specs.declared.script.ScriptStep.{ScriptStep}
 use Rattle.operator_core.specs.declared.script.ScriptStep.TheVariants.{Say, Graft, Evacuate, Settle}
 use Rattle.operator_core.specs.Grafts.{is_open, outcome_at}
 
--- the slot of a number: they count from 1
+-- the slot of a graft number; numbers start at 1
 abbrev pub slot_at : List Slot → ℕ → Option Slot
 slot_at xs zero = None
 slot_at xs (suc k) = slice_get xs k
@@ -39,7 +39,7 @@ gift_of (Some (slots.Made entry)) = To entry.target.0
 gift_of (Some (slots.Stays k p router)) = Stays router.0
 gift_of _ = Unmade
 
--- what the graft of a step was given: nothing where the step doesn't evacuate a router
+-- what the graft of a step was given: nothing if the step doesn't evacuate a router
 abbrev pub given_of : Option StepOf → Option Slot → Gift
 given_of (Some (EvacuateStep router)) slot = gift_of slot
 given_of _ slot = Unmade
@@ -60,7 +60,7 @@ given_in setup xs k = given_of (step_of setup k) (slot_at xs k)
 abbrev pub moved_by_entry : GraftEntry → Move
 moved_by_entry entry = record { peering = entry.peering; target = entry.target }
 
--- what a graft moves, if it is made
+-- what a graft moves, if it exists
 abbrev pub move_of : Option Slot → Option Move
 move_of (Some (slots.Made entry)) = Some (moved_by_entry entry)
 move_of _ = None
@@ -75,7 +75,7 @@ abbrev pub first_open : List Slot → Option ℕ
 first_open [] = None
 first_open (slot ∷ xs) = option_or (open_graft slot) (first_open xs)
 
--- what the log has for a slot
+-- the log's entries for a slot
 abbrev pub entries_of : Slot → List GraftEntry
 entries_of slots.Unmade = []
 entries_of (slots.Stays k p router) = record { graft = k; peering = p; source = Some router; target = router; stage = Ended (Refused NoTarget) } ∷ []
@@ -100,7 +100,7 @@ abbrev pub unmade_slots : ℕ → List Slot
 unmade_slots zero = []
 unmade_slots (suc count) = slots.Unmade ∷ unmade_slots count
 
--- the slots of steps, numbered from one above the number k on, in a laboratory of so many peerings
+-- the slots of steps before any group begins, numbered from k + 1 on, by the number of peerings
 abbrev pub first_slots : ℕ → ℕ → List ScriptStep → List Slot
 first_slots peerings k [] = []
 first_slots peerings k (Say p ∷ steps) = first_slots peerings k steps

@@ -1,4 +1,4 @@
--- How far the operator is, as its part of the world.
+-- The operator's progress, as its part of the world.
 use Rattle.std.specs.Prelude.{ℕ, ◌&&◌, nat_lt, not, List, Bool, true, false, Option, Some, slice_get}
 use Rattle.graft_model.specs.Setups.{Setup, ScriptStep, SayStep}
 use Rattle.graft_model.specs.Parts.{OperatorPart}
@@ -8,7 +8,7 @@ use Rattle.operator_core.specs.declared.groups.Task.{Task}
 use Rattle.operator_core.specs.Slots.{source_in, outcome_in, given_in}
 use Rattle.operator_core.specs.Tasks.{has_task}
 
--- the laboratory; the group at work, where the steps after it begin, and its tasks that weren't issued; the slots of grafts; and the seats
+-- the laboratory; the current group, where the steps after it begin, and its tasks that weren't issued; the slots of grafts; and the seats
 pub record State : Type 0 where
   pub setup : Setup
   pub group : ℕ
@@ -22,7 +22,7 @@ abbrev pub is_say : Option ScriptStep → Bool
 is_say (Some (SayStep p bytes)) = true
 is_say _ = false
 
--- the says of this group and of those before it were issued, but for those that wait
+-- the says of this group and of those before it were issued, except those that are pending
 abbrev pub issued_in : State → ℕ → Bool
 issued_in s n = is_say (slice_get s.setup.steps n) && nat_lt n s.next && not (has_task s.waiting n 0)
 

@@ -12,12 +12,12 @@ task_of step graft = record { step = step; graft = graft; issued = false }
 abbrev pub done : Task → Task
 done task = record task { issued = true }
 
--- those of some tasks that weren't issued
+-- the tasks of a list that weren't issued
 abbrev pub unissued : List Task → List Task
 unissued [] = []
 unissued (task ∷ tasks) = if task.issued then unissued tasks else task ∷ unissued tasks
 
--- whether a task is that of a step, and of the graft of this number, 0 where it has none
+-- whether a task is that of a step, and of the graft of this number, 0 if there is none
 abbrev pub is_task : ℕ → ℕ → Task → Bool
 is_task step graft task = (task.step == step) && (task.graft == graft)
 
@@ -31,7 +31,7 @@ abbrev pub given_tasks : ℕ → List Gift → List Task
 given_tasks step [] = []
 given_tasks step (gift ∷ gifts) = if is_some gift.target then task_of step gift.graft ∷ given_tasks step gifts else given_tasks step gifts
 
--- the tasks of the step at a place, whose first graft has this number, and which gives this
+-- the tasks of the step at a place; its first graft has this number, and the list is what it gives
 abbrev pub tasks_by : ℕ → ℕ → ScriptStep → List Gift → List Task
 tasks_by place number (Say p) gifts = task_of place 0 ∷ []
 tasks_by place number (Graft p target) gifts = task_of place number ∷ []

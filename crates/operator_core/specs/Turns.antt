@@ -1,4 +1,4 @@
--- What is said of whole calls of the operator, beside their events.
+-- What whole calls of the operator promise, beside their events.
 use Rattle.std.specs.Prelude.{ℕ, ◌≤◌, ◌+◌, ◌⊎◌, List, None}
 use Rattle.std.specs.List.{AllByRecursion}
 use Rattle.ring_net.specs.Deeds.{Deed}
@@ -15,10 +15,10 @@ use Rattle.settled_check.specs.Left.{HasUnissued, IsOpen}
 abbrev pub BeginNoGroup : {C : Type 0} → List (Deed (Item C)) → Type 0
 BeginNoGroup deeds = AllByRecursion (λ d. IsGo d.entry → ⊥) deeds
 
--- nothing of the group at work may be ordered
+-- nothing of the current group may be ordered
 abbrev pub NothingToOrder : Setup → OperatorPart → Type 0
 NothingToOrder setup part = (step number : ℕ) (sent : List OperatorSent) (after : OperatorPart) → operator_row setup (Order step number) part None sent after → ⊥
 
--- The next group may not begin: something of the group at work wasn't ordered, or a graft of it has no outcome, or it is the last one.
+-- The next group may not begin: something of the current group wasn't ordered, or a graft of it has no outcome, or it is the last one.
 abbrev pub IsHeldUp : Setup → OperatorPart → Type 0
 IsHeldUp setup part = HasUnissued setup part ⊎ (((k : ℕ) × IsOpen setup part k) ⊎ (groups_in setup ≤ part.group + 1))

@@ -1,5 +1,4 @@
-//! What evacuate steps give as their group begins: for each session of the router that is emptied, the
-//! router that it goes to.
+//! What evacuate steps give as their group begins: a target router for each session of the router that is emptied.
 
 ghost use Rattle.std.specs.Prelude.{◌≡◌, ◌≤◌, ◌<◌, ◌+◌, ◌^◌, All, length, IfOk};
 ghost use Rattle.operator_core.specs.Evacuate.{seated_from, load_of as load_of_lem, loads_of as loads_of_lem, gifts_to, given_slot, give as give_lem};
@@ -9,8 +8,8 @@ use evacuation::{a_plan_is_the_only_one, plan, there_is_a_plan};
 use graft_edge::{Items, NoMemory, PeeringId, RouterId};
 use std::alloc::Global;
 
-/// What an evacuate step has for a session that belongs at its router: the number of the graft, the
-/// peering, the router that is emptied, and the target, if one has a free place.
+/// What an evacuate step gives for a session that belongs at its router: the number of the graft, the peering, the
+/// router that is emptied, and the target, if one has a free place.
 #[derive(Clone, Copy, Debug, PartialEq, Eq, Hash)]
 pub(crate) struct Gift {
     pub(crate) graft: u32,
@@ -21,7 +20,7 @@ pub(crate) struct Gift {
 
 pub(crate) type Gifts = Items<Gift>;
 
-/// How many sessions belong at the router of this number.
+/// Returns the number of sessions that belong at a router.
 fn load_of(seats: &[Seat], router: usize) -> u32
     requires { length seats.now ≤ 256 }
     ensures { result ≡ load_of_lem seats.now router }
@@ -32,7 +31,7 @@ fn load_of(seats: &[Seat], router: usize) -> u32
         .count() as u32
 }
 
-/// How many sessions belong at each of so many routers.
+/// Returns how many sessions belong at each of `count` routers.
 pub(crate) fn loads_of(
     alloc: Global,
     seats: &[Seat],
@@ -48,7 +47,7 @@ pub(crate) fn loads_of(
     Ok(loads)
 }
 
-/// The peerings whose sessions belong at the router, in rising number.
+/// Returns the peerings whose sessions belong at the router, in ascending order.
 fn peerings_at(
     alloc: Global,
     seats: &[Seat],
@@ -66,8 +65,8 @@ fn peerings_at(
     Ok(peerings)
 }
 
-/// What an evacuate step gives, whose grafts are numbered from `first` on. Each session of the router in
-/// turn goes to the one of the other routers that has the least load among those with a free place.
+/// Returns what an evacuate step gives, with its grafts numbered from `first` on. Each session of the router in turn
+/// goes to the other router with the least load among those with a free place.
 pub(crate) fn gifts_from(
     alloc: Global,
     first: u32,
@@ -98,7 +97,7 @@ pub(crate) fn gifts_from(
     Ok(gifts)
 }
 
-/// The slot of what an evacuate step gives.
+/// Returns the slot for what an evacuate step gives.
 fn slot_of(gift: &Gift) -> Slot
     ensures { result ≡ given_slot gift.now }
 {

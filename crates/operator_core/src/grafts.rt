@@ -1,4 +1,4 @@
-//! What the operator has for each graft of the script, and where sessions belong by it.
+//! What the operator records of each graft of the script, and where sessions belong by that.
 
 ghost use Rattle.std.specs.Prelude.{◌≡◌, ◌≤◌, ◌++◌, Some, length, map, IfOk, OnOk};
 ghost use Rattle.std.specs.List.{flat_map};
@@ -10,38 +10,37 @@ use graft_edge::{Items, NoMemory, PeeringId, RouterId, TryCopy};
 use graft_steps::{GraftEntry, GraftLog, GraftStage, Outcome, Refusal};
 use std::alloc::Global;
 
-/// Where the session of a peering belongs by the log, and whether a graft of it was ordered that hasn't
-/// ended.
+/// Where the session of a peering belongs by the log, and whether a graft of it is outstanding: ordered, and not ended.
 #[derive(Clone, Copy, Debug, PartialEq, Eq, Hash)]
 pub(crate) struct Seat {
     pub(crate) place: RouterId,
     pub(crate) moving: bool,
 }
 
-/// What the operator has for the number of a graft.
+/// What the operator records for the number of a graft.
 #[derive(Debug, Drop)]
 pub(crate) enum Slot {
     /// The evacuate step has no graft of this number: its group hasn't begun, or the session belonged
     /// elsewhere.
     Unmade,
-    /// The router is emptied, and no other router had a free place for the session.
+    /// The session stays at the router that is emptied: no other router had a free place for it.
     Stays {
         graft: u32,
         peering: PeeringId,
         router: RouterId,
     },
-    /// The graft is made.
+    /// The graft exists, with this entry.
     Made(GraftEntry),
 }
 
-/// Which session a graft moves, and where to.
+/// The session that a graft moves, and its target.
 #[derive(Clone, Copy, Debug, PartialEq, Eq, Hash)]
 pub(crate) struct Move {
     pub(crate) peering: PeeringId,
     pub(crate) target: RouterId,
 }
 
-/// The entry of a graft that wasn't ordered yet.
+/// Returns the entry of a graft that wasn't ordered yet.
 pub(crate) fn waiting_entry(graft: u32, moves: Move) -> GraftEntry
     ensures { result ≡ waiting_entry_lem graft moves }
 {
@@ -54,7 +53,7 @@ pub(crate) fn waiting_entry(graft: u32, moves: Move) -> GraftEntry
     }
 }
 
-/// Adds so many slots without a graft.
+/// Adds `count` slots without a graft.
 fn add_unmade(slots: &mut Vec<Slot>, count: usize) -> Result<(), NoMemory>
     ensures { OnOk result (slots.new.items ≡ slots.old.items ++ unmade_slots count) }
 {
@@ -64,8 +63,8 @@ fn add_unmade(slots: &mut Vec<Slot>, count: usize) -> Result<(), NoMemory>
     Ok(())
 }
 
-/// The slots of a script before any of its groups begins: the graft of a graft step waits, and an evacuate
-/// step has a slot for each of so many peerings.
+/// Returns the slots of a script before any of its groups begins: the graft of a graft step waits, and an evacuate step
+/// has a slot for each of `peerings` peerings.
 pub(crate) fn first_slots(
     alloc: Global,
     steps: &[ScriptStep],
@@ -89,7 +88,7 @@ pub(crate) fn first_slots(
     Ok(slots)
 }
 
-/// The seats of sessions that are where they start.
+/// Returns the seats of sessions that are where they start.
 pub(crate) fn first_seats(alloc: Global, starts: &[RouterId]) -> Result<Vec<Seat>, NoMemory>
     ensures { IfOk result (λ seats. seats.items ≡ map seat_at starts.now) }
 {
@@ -100,7 +99,7 @@ pub(crate) fn first_seats(alloc: Global, starts: &[RouterId]) -> Result<Vec<Seat
     Ok(starts.iter().map(seat).collect(alloc)?)
 }
 
-/// What a graft moves, if it is made.
+/// Returns what a graft moves, if it exists.
 pub(crate) fn moved(slot: &Slot) -> Option<Move>
     ensures { result ≡ move_of (Some slot.now) }
 {
@@ -132,14 +131,14 @@ pub(crate) fn end(slot: &mut Slot, outcome: Outcome)
     }
 }
 
-/// Whether a graft was ordered and hasn't ended.
+/// Returns whether a graft was ordered and hasn't ended.
 fn is_issued(stage: &GraftStage) -> bool
     ensures { result ≡ is_open stage.now }
 {
     matches!(stage, GraftStage::Issued)
 }
 
-/// The number of a graft that was ordered and hasn't ended.
+/// Returns the number of a graft that was ordered and hasn't ended.
 pub(crate) fn open_graft(slot: &Slot) -> Option<u32>
     ensures { result ≡ open_graft_lem slot.now }
 {
@@ -149,7 +148,7 @@ pub(crate) fn open_graft(slot: &Slot) -> Option<u32>
     }
 }
 
-/// The number of the first graft that was ordered and hasn't ended.
+/// Returns the number of the first graft that was ordered and hasn't ended.
 pub(crate) fn first_open(slots: &[Slot]) -> Option<u32>
     ensures { result ≡ first_open_lem slots.now }
 {
@@ -161,7 +160,7 @@ pub(crate) fn first_open(slots: &[Slot]) -> Option<u32>
     None
 }
 
-/// Adds what the log has for a slot.
+/// Adds the log's entry for a slot, if it has one.
 fn add_entry(log: &mut GraftLog, slot: &Slot) -> Result<(), NoMemory>
     ensures { OnOk result (log.new ≡ log.old ++ entries_of slot.now) }
 {
@@ -182,7 +181,7 @@ fn add_entry(log: &mut GraftLog, slot: &Slot) -> Result<(), NoMemory>
     }
 }
 
-/// The log of what is in the slots.
+/// Returns the log of the grafts in the slots.
 pub(crate) fn logged(alloc: Global, slots: &[Slot]) -> Result<GraftLog, NoMemory>
     ensures { IfOk result (λ log. log ≡ flat_map entries_of slots.now) }
 {

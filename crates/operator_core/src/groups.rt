@@ -12,8 +12,8 @@ use crate::script::{Script, ScriptStep};
 use graft_edge::{Items, NoMemory};
 use std::alloc::Global;
 
-/// What is to be ordered in the group at work: the place of the step in the script, the number of the
-/// graft, 0 where a remote is to say something, and whether it was ordered.
+/// One thing to be ordered in the current group: the place of its step in the script, the number of the graft (0 if a
+/// remote is to say something), and whether it was ordered.
 #[derive(Clone, Copy, Debug, PartialEq, Eq, Hash)]
 pub(crate) struct Task {
     pub(crate) step: u32,
@@ -40,14 +40,14 @@ fn new_task(step: usize, graft: u32) -> Task
     }
 }
 
-/// Whether some task wasn't issued.
+/// Returns whether some task wasn't issued.
 pub(crate) fn has_unissued(tasks: &[Task]) -> bool
     ensures { result ≡ list_any (λ task. not task.issued) tasks.now }
 {
     tasks.iter().any(|task| !task.issued)
 }
 
-/// Drops the tasks that were issued.
+/// Removes the tasks that were issued.
 pub(crate) fn drop_issued(tasks: &mut Vec<Task>)
     ensures { tasks.new.items ≡ filter (λ task. not task.issued) tasks.old.items }
 {
@@ -67,8 +67,8 @@ fn add_given(tasks: &mut Vec<Task>, step: usize, gifts: &[Gift]) -> Result<(), N
     Ok(())
 }
 
-/// Adds the tasks of the step at a place of the script, whose first graft has this number, and which gives
-/// this.
+/// Adds the tasks of the step at a place of the script. Its first graft has number `number`, and `gifts` is what it
+/// gives.
 fn add_tasks(
     tasks: &mut Vec<Task>,
     place: usize,
@@ -87,7 +87,7 @@ fn add_tasks(
     }
 }
 
-/// What a step gives, whose first graft has this number.
+/// Returns what a step gives. Its first graft has number `number`.
 fn step_gifts(
     alloc: Global,
     step: ScriptStep,
@@ -112,7 +112,7 @@ fn step_gifts(
     }
 }
 
-/// The place of the first step from `from` on that ends a group. The last step does.
+/// Returns the place of the first step from `from` on that ends a group. The last step must end one.
 fn group_end(steps: &[ScriptStep], from: usize) -> usize
     requires within { from < length steps.now }
     requires ended { slice_get steps.now (length steps.now - 1) ≡ Some ScriptStep.Settle }
@@ -126,7 +126,7 @@ fn group_end(steps: &[ScriptStep], from: usize) -> usize
     steps.len()
 }
 
-/// The group that begins at the place `from` of the script, where sessions belong at these seats.
+/// Returns the group that begins at the place `from` of the script, where sessions belong at these seats.
 pub(crate) fn group_from(
     alloc: Global,
     script: &Script,
@@ -162,7 +162,7 @@ pub(crate) fn group_from(
     })
 }
 
-/// How many grafts a step has, in a laboratory of so many peerings.
+/// Returns how many grafts a step has in a laboratory of `peerings` peerings.
 fn grafts_by(step: ScriptStep, peerings: u32) -> u32
     ensures { result ≡ grafts_by_lem peerings step }
 {
@@ -173,8 +173,8 @@ fn grafts_by(step: ScriptStep, peerings: u32) -> u32
     }
 }
 
-/// For each place of the script, the number that the first graft there has or would have: one more than
-/// grafts stand before it.
+/// Returns, for each place of the script, the number that the first graft there has or would have: one above the number
+/// of grafts before it.
 pub(crate) fn graft_numbers(
     alloc: Global,
     steps: &[ScriptStep],

@@ -36,7 +36,7 @@ impl Operator {
     ghost use Rattle.operator_core.specs.Turns.{IsHeldUp};
     ghost use Rattle.operator_core.specs.Operators.{setup_of, operator_part, own_part, took as took_lem, Turned, Paused};
 
-    /// The operator before anything is issued, with the first group of its script at work.
+    /// Returns an operator that has issued nothing yet. The first group of its script is the current one.
     pub fn new(alloc: Global, known: Known, script: Script) -> Result<Operator, NoMemory>
         requires script { IsScriptOf known.setup script }
         requires workable { IsWorkable script }
@@ -47,7 +47,8 @@ impl Operator {
         Ok(Operator { progress })
     }
 
-    /// Notes the report of a graft that was ordered and hasn't ended, from a router. Any other item is dropped, with an entry of kind 0.
+    /// Notes the report of a graft that was ordered and hasn't ended, from a router. Any other item is dropped, with a
+    /// journal entry of kind 0.
     pub fn take<C: Drop>(
         &mut self,
         from: usize,
@@ -60,7 +61,7 @@ impl Operator {
         self.progress.take(from, item, post)
     }
 
-    /// Orders what may be ordered of the group at work, in the order of its steps.
+    /// Orders whatever of the current group may be ordered, in the order of its steps.
     pub fn turn<C: Drop>(&mut self, post: &mut Post<Item<C>>) -> Result<(), NoMemory>
         ensures turned { OnOk result ((session : C → SessionValue) → Moved own_part (acts session) Turned self.old post.old self.new post.new) }
         ensures edges { SameEdges post.old post.new }
@@ -68,9 +69,9 @@ impl Operator {
         self.progress.turn(post)
     }
 
-    /// Begins the next group: its evacuate steps give the sessions of their routers to the others. The world has to be quiet. It answers
-    /// false, and nothing changes, exactly where something of the group at work wasn't ordered, or a graft of it has no outcome, or there
-    /// is no further group.
+    /// Begins the next group: its evacuate steps give the sessions of their routers to the others. The world must be
+    /// quiet. Returns false, with nothing changed, exactly if something of the current group wasn't ordered, or a graft
+    /// of it has no outcome, or there is no further group.
     pub fn go<C: Drop>(&mut self, post: &mut Post<Item<C>>) -> Result<bool, NoMemory>
         ensures paused { IfOk result (λ answer. (session : C → SessionValue) → Pauses own_part (acts session) Paused self.old post.old self.new post.new answer) }
         ensures held { IfOk result (λ answer. (answer ≡ false) ↔ IsHeldUp (setup_of self.old) (operator_part self.old)) }
@@ -83,7 +84,7 @@ impl Operator {
         self.progress.go(post)
     }
 
-    /// What is done at a mark: the next group begins.
+    /// Begins the next group at a mark, as `go` does.
     pub fn between<C: Drop>(&mut self, post: &mut Post<Item<C>>) -> Result<bool, NoMemory>
         ensures paused { IfOk result (λ answer. (session : C → SessionValue) → Pauses own_part (acts session) Paused self.old post.old self.new post.new answer) }
         ensures edges { SameEdges post.old post.new }
@@ -91,8 +92,8 @@ impl Operator {
         self.go(post)
     }
 
-    /// The grafts of the script's graft steps, and those that its evacuate steps made as their groups began, in the order of their
-    /// numbers: the routers that they were ordered at, their targets, and how far they are.
+    /// Returns the grafts of the script's graft steps, and those that its evacuate steps made as their groups began, in
+    /// the order of their numbers: the routers that they were ordered at, their targets, and how far they are.
     ///
     /// # Errors
     ///
@@ -103,7 +104,7 @@ impl Operator {
         self.progress.log()
     }
 
-    /// What is left to do.
+    /// Returns what is left to do.
     pub fn rest(&self) -> OperatorRest
         ensures { IsOperatorRest (setup_of self.now) (operator_part self.now) result }
     {

@@ -1,4 +1,4 @@
-//! How far the operator is.
+//! The operator's progress.
 
 ghost use Rattle.std.specs.Prelude.{◌≡◌, ◌≤◌, ◌<◌, ◌+◌, ◌-◌, ◌∷◌, [], ℕ, None, Some, length, OnOk, OnErr, IfOk, IsTrue, ◌↔◌, slice_get, slice_set, Option, false, true, filter, not};
 ghost use Rattle.ring_net.specs.Posts.{Wrote, SameEdges};
@@ -25,26 +25,26 @@ use graft_steps::{GraftLog, Item, OperatorRest, Outcome};
 use ring_net::Post;
 use std::alloc::Global;
 
-/// How far the operator is with its script.
+/// The operator's progress through its script.
 #[derive(Drop)]
 pub(crate) struct Progress {
     pub(crate) alloc: Global,
     pub(crate) known: Known,
     pub(crate) script: Script,
-    /// By the places of the script: the number that the first graft there has or would have.
+    /// By place of the script: the number that the first graft there has or would have.
     pub(crate) numbers: Items<u32>,
-    /// The number of the group at work, from 0, and where the steps after it begin.
+    /// The number of the current group, from 0, and where the steps after it begin.
     pub(crate) group: usize,
     pub(crate) next: usize,
-    /// What is to be ordered in the group, in its order, of which what was ordered may be left out.
+    /// The tasks of the group in their order. Those that were issued may be left out.
     pub(crate) tasks: Vec<Task>,
-    /// By the numbers of the script's grafts, from 1.
+    /// The slots, by number of the script's grafts, from 1.
     pub(crate) slots: Vec<Slot>,
-    /// By peering.
+    /// The seats, by peering.
     pub(crate) seats: Vec<Seat>,
 }
 
-/// Notes the order of a step, or of this graft of it, and sends it.
+/// Writes the order of a step, or of this graft of it, to the journal, and sends it.
 fn note_order<C: Drop>(
     post: &mut Post<Item<C>>,
     step: u32,
@@ -68,7 +68,7 @@ impl Progress {
     ghost use Rattle.operator_core.specs.Turns.{IsHeldUp};
     ghost use Rattle.operator_core.specs.Scripts.{IsScriptOf, IsWorkable};
 
-    /// How far it is before anything is issued.
+    /// Returns the progress before anything is issued.
     pub(crate) fn new(alloc: Global, known: Known, script: Script) -> Result<Progress, NoMemory>
         requires script { IsScriptOf known.setup script }
         requires sound { IsWorkable script }
@@ -94,7 +94,7 @@ impl Progress {
         })
     }
 
-    /// Orders the far side of the peering to say what the step has.
+    /// Orders the far side of the peering to say the bytes of the step.
     fn issue_say<C: Drop>(
         &self,
         step: u32,
@@ -109,8 +109,8 @@ impl Progress {
         note_order(post, step, 0, far_side, Item::SayOrder { step })
     }
 
-    /// Orders the graft of a task at the router where the session belongs. The order is noted with this
-    /// number.
+    /// Orders the graft of a task at the router where the session belongs. `number` is the graft's number in the
+    /// journal entry.
     fn issue_graft<C: Drop>(
         &mut self,
         task: Task,
@@ -161,7 +161,7 @@ impl Progress {
         };
     }
 
-    /// Issues the task at this place, where a remote is to say something.
+    /// Issues the task at this place, which has a remote say something.
     fn visit_say<C: Drop>(
         &mut self,
         place: usize,
@@ -184,7 +184,7 @@ impl Progress {
         Ok(())
     }
 
-    /// What the graft of this number moves, if it is made.
+    /// Returns what the graft of this number moves, if it exists.
     fn moved(&self, graft: u32) -> Option<Move>
         ensures { result ≡ move_of (slot_at self.now.slots.items graft) }
     {
@@ -199,8 +199,8 @@ impl Progress {
         self.seats[usize::from(peering.0)]
     }
 
-    /// Issues the task at this place, where a graft is ordered, unless it is held up. The order is noted
-    /// with this number.
+    /// Issues the task at this place, which orders a graft, unless it is held up. `number` is the graft's number in the
+    /// journal entry.
     fn visit_graft<C: Drop>(
         &mut self,
         place: usize,
@@ -273,7 +273,7 @@ impl Progress {
         Ok(())
     }
 
-    /// Drops the tasks that were issued.
+    /// Removes the tasks that were issued.
     fn forget_issued(&mut self)
         ensures same { SameScript self.old self.new }
         ensures slots { self.new.slots.items ≡ self.old.slots.items }
@@ -283,7 +283,7 @@ impl Progress {
         drop_issued(&mut self.tasks);
     }
 
-    /// The place of a graft of this number that was ordered and hasn't ended.
+    /// Returns the place of a graft of this number that was ordered and hasn't ended.
     fn open_place(&self, graft: u32) -> Option<usize>
         ensures { IsOpenPlace self.now.slots.items graft result }
     {
@@ -314,7 +314,7 @@ impl Progress {
         end(&mut self.slots[place], outcome);
     }
 
-    /// Notes the report of a graft that is open, from a router. Any other item is dropped.
+    /// Notes the report of an outstanding graft, from a router. Any other item is dropped.
     pub(crate) fn take<C: Drop>(
         &mut self,
         from: usize,
@@ -343,8 +343,7 @@ impl Progress {
         Ok(())
     }
 
-    /// Whether a task of the group wasn't issued, or a graft of it hasn't ended, or there is no further
-    /// group.
+    /// Returns whether a task of the group wasn't issued, or a graft of it hasn't ended, or there is no further group.
     fn is_held_up(&self) -> bool
         requires { IsSound self.now }
         ensures { IsTrue result ↔ IsHeldUp self.now.known.setup (part_of (state self.now)) }
@@ -358,8 +357,8 @@ impl Progress {
         self.next == self.script.steps.len()
     }
 
-    /// Begins the next group, where each task of this one was issued, each of its grafts has ended, and
-    /// there is a further one.
+    /// Begins the next group, if each task of the current one was issued, each of its grafts has ended, and there is a
+    /// further group. Returns whether it did.
     pub(crate) fn go<C: Drop>(&mut self, post: &mut Post<Item<C>>) -> Result<bool, NoMemory>
         requires { IsSound self.old }
         ensures ok { IfOk result (Goes self.old post.old self.new post.new) }
@@ -384,7 +383,7 @@ impl Progress {
         Ok(true)
     }
 
-    /// The log of grafts.
+    /// Returns the log of grafts.
     pub(crate) fn log(&self) -> Result<GraftLog, NoMemory>
         requires { IsSound self.now }
         ensures { IfOk result (λ log. log ≡ log_of self.now.known.setup (part_of (state self.now))) }
@@ -392,7 +391,7 @@ impl Progress {
         logged(self.alloc, self.slots.as_slice())
     }
 
-    /// What is left to do.
+    /// Returns what is left to do.
     pub(crate) fn rest(&self) -> OperatorRest
         requires { IsSound self.now }
         ensures { IsOperatorRest self.now.known.setup (part_of (state self.now)) result }

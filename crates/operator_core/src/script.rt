@@ -28,9 +28,8 @@ pub type RouterIds = Items<RouterId>;
 
 pub type Rooms = Items<u32>;
 
-/// What the operator is given: how many places for sessions each router has, by its number; the router at
-/// which the session of each peering starts, by its number; and the steps, of which the last one ends a
-/// group.
+/// The input of the operator: the number of places for sessions at each router, by its number; the router at which the
+/// session of each peering starts, by its number; and the steps, of which the last one ends a group.
 #[derive(Debug, Drop)]
 pub struct Script {
     pub rooms: Rooms,

@@ -1,4 +1,4 @@
--- Where a prefix stands among entries whose prefixes rise.
+-- The place of a prefix among entries in ascending order of prefix.
 use Rattle.std.specs.Prelude.{◌≡◌, ℕ, ◌+◌, ◌<◌, ◌≤◌, List, [], ◌∷◌, Option, Some, None, length, take, drop, slice_index_or}
 use Rattle.std.specs.declared.cmp.Ordering.TheVariants.{Less, Greater}
 use Rattle.std.specs.List.{AllByRecursion}
@@ -19,7 +19,7 @@ pub record IsPlace {V : Type 0} (es : List (PrefixValue × V)) (p : PrefixValue)
   pub before : AllBelow p (take at es)
   pub after : AllAbove p (drop (at + 1) es)
 
--- p would stand at this place: smaller prefixes before it, and greater ones from it on
+-- p would be inserted at this place: smaller prefixes are before it, and greater ones from it on
 pub record IsGap {V : Type 0} (es : List (PrefixValue × V)) (p : PrefixValue) (at : ℕ) : Type 0 where
   pub in_range : at ≤ length es
   pub before : AllBelow p (take at es)

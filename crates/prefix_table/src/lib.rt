@@ -1,4 +1,4 @@
-//! The plain table of prefixes: a sorted vector.
+//! The simple table of prefixes: a sorted vector.
 #![tactic(auto)]
 
 mod sorted;

@@ -1,4 +1,4 @@
-//! A table of prefixes as a sorted vector, which each look-up searches by halves.
+//! A table of prefixes as a sorted vector, in which look-ups use binary search.
 
 ghost use Rattle.std.specs.Prelude.{◌≡◌, ◌+◌, ◌≤◌, ℕ, T, IsOk, IsSome, IfOk, IfErr, OnOk, OnErr, option_copied};
 ghost use Rattle.std.specs.FinMap as map;
@@ -10,8 +10,8 @@ use std::alloc::Global;
 use std::marker::Model;
 use std::mem;
 
-/// The prefixes with their values, in rising order. What changes it takes time by the number of
-/// prefixes above.
+/// Prefixes with their values, in ascending order. A change takes time in proportion to the number of
+/// greater prefixes.
 #[derive(Drop)]
 pub struct SortedTable<V> {
     entries: Vec<(Prefix, V)>,
@@ -32,7 +32,7 @@ impl<V> Model for SortedTable<V> {
 }
 
 impl<V> SortedTable<V> {
-    /// A table without a prefix. It takes no memory before the first.
+    /// Returns an empty table. It allocates nothing before the first prefix.
     pub fn new(alloc: Global) -> SortedTable<V>
         ensures { result ≡ map.empty }
     {
@@ -88,7 +88,8 @@ impl<V: Drop> Table<V> for SortedTable<V> {
     }
 }
 
-/// Where a prefix stands among entries whose prefixes rise, or where it would stand. It takes a search by halves.
+/// Returns the place of a prefix among entries in ascending order of prefix, or as the error the place
+/// where it would be inserted. It uses binary search.
 pub fn place<V>(entries: &[(Prefix, V)], prefix: Prefix) -> Result<usize, usize>
     requires { T (map.is_sorted prefix_cmp entries.now) }
     ensures found { IfOk result (IsPlace entries.now prefix) }

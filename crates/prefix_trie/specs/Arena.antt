@@ -1,4 +1,4 @@
--- What nodes have that stand in a list and name each other by their places, and how their prefixes stand.
+-- Nodes that stand in a list and name each other by their places, and how their prefixes are arranged.
 use Rattle.std.specs.Prelude.{◌≡◌, ◌≢◌, ◌⊎◌, ◌<◌, ℕ, zero, suc, ◌^◌, ◌-◌, List, [], ◌∷◌, ◌++◌, length, Option, None, Some, IfSome, IfNone, option_and_then, option_map, slice_get, unwrap_or}
 use Rattle.std.specs.List.{Contains}
 use Rattle.bgp_types.specs.Prefixes.{PrefixValue, IsPrefix, Covers}
@@ -6,15 +6,15 @@ use Rattle.prefix_trie.specs.Halves.{middle, past, Within}
 use Rattle.prefix_trie.specs.Nodes.{own}
 use Rattle.prefix_trie.specs.declared.node.Node.{Node}
 
--- the place of no node, which an empty branch names
+-- the place that means no node, which an empty branch names
 abbrev pub nowhere : ℕ
 nowhere = 2 ^ 32 - 1
 
--- the value that stands at a place, if one does
+-- the value at a place, if there is one
 abbrev pub value_at : {V : Type 0} → List (Option V) → ℕ → Option V
 value_at values place = option_and_then (λ value. value) (slice_get values place)
 
--- the prefixes with their values of so many levels of nodes from a place down, each before those that it covers
+-- the prefixes with their values in this many levels of nodes from a place down, each before those that it covers
 unfoldable pub entries_at : {V : Type 0} → List Node → List (Option V) → ℕ → ℕ → List (PrefixValue × V)
 entries_at nodes values zero place = []
 entries_at nodes values (suc levels) place = unwrap_or (option_map (λ n. own n.prefix (value_at values place) ++ (entries_at nodes values levels n.zero ++ entries_at nodes values levels n.one)) (slice_get nodes place)) []
@@ -30,13 +30,14 @@ pub record IsBranching (nodes : List Node) (n : Node) : Type 0 where
   pub zero : IfSome (slice_get nodes n.zero) (λ m. Within n.prefix.address (middle n.prefix) n.prefix.len m.prefix)
   pub one : IfSome (slice_get nodes n.one) (λ m. Within (middle n.prefix) (past n.prefix) n.prefix.len m.prefix)
 
--- So many levels of nodes from a place down are all that there are, each names nodes or nothing, and its prefix covers those below it, half by half.
+-- This many levels of nodes from a place down are all that there are; each node names nodes or nothing, and its prefix covers those below it, half by
+-- half.
 unfoldable pub IsTrieAt : List Node → ℕ → ℕ → Type 0
 IsTrieAt nodes zero place = (slice_get nodes place ≡ None) × (place ≡ nowhere)
 IsTrieAt nodes (suc levels) place = IfNone (slice_get nodes place) (place ≡ nowhere)
     × IfSome (slice_get nodes place) (λ n. IsBranching nodes n × IsTrieAt nodes levels n.zero × IsTrieAt nodes levels n.one)
 
--- With so many levels, q stands on level l among the places from one down.
+-- Among this many levels from a place down, q is a place on level l.
 unfoldable pub StandsAt : List Node → ℕ → ℕ → ℕ → ℕ → Type 0
 StandsAt nodes zero place l q = (l ≡ zero) × (q ≡ place)
 StandsAt nodes (suc levels) place l q = ((l ≡ suc levels) × (q ≡ place)) ⊎ ((n : Node) × (slice_get nodes place ≡ Some n) × (StandsAt nodes levels n.zero l q ⊎ StandsAt nodes levels n.one l q))
@@ -45,7 +46,7 @@ StandsAt nodes (suc levels) place l q = ((l ≡ suc levels) × (q ≡ place)) �
 abbrev pub IsUnder : PrefixValue → PrefixValue → Type 0
 IsUnder at p = Covers at p × at.len < p.len
 
--- no number stands twice in a list
+-- no number occurs twice in a list
 abbrev pub AreApart : List ℕ → Type 0
 AreApart [] = Unit {0}
 AreApart (x ∷ xs) = (Contains xs x → ⊥) × AreApart xs
@@ -59,7 +60,7 @@ pub record IsSameAt {V : Type 0} (nodes fs : List Node) (values ws : List (Optio
 abbrev pub HasNone : List Node → ℕ → ℕ → PrefixValue → Type 0
 HasNone nodes levels place p = (r : ℕ) → Contains (places_at nodes levels place) r → IfSome (slice_get nodes r) (λ n. n.prefix ≢ p)
 
--- A node stands at a place, and the others are as they were.
+-- A node is at a place, and the other nodes are unchanged.
 pub record IsNodeSet (nodes fs : List Node) (q : ℕ) (n : Node) : Type 0 where
   pub node : slice_get fs q ≡ Some n
   pub others : (r : ℕ) → r ≢ q → slice_get fs r ≡ slice_get nodes r

@@ -1,4 +1,4 @@
--- A value that is changed in place. steps old r new says that the change may take the value old to new and answer r.
+-- A value that is changed in place. steps old r new says that the change may turn the value old into new and return r.
 use Rattle.std.specs.Prelude.{◌≡◌, List, Option, Some, None}
 use Rattle.std.specs.FinMap as map
 use Rattle.std.specs.FinMap.{find, put}
@@ -15,7 +15,7 @@ pub record IsChanged {V R : Type 0} (steps : V → R → V → Type 0) (p : Pref
   pub step : steps old r new
   pub entries : fs ≡ put prefix_cmp p new es
 
--- p has no value, and nothing has changed.
+-- p has no value, and nothing changed.
 pub record IsAbsent {V : Type 0} (p : PrefixValue) (es fs : List (PrefixValue × V)) : Type 0 where
   pub none : find prefix_cmp p es ≡ None
   pub entries : fs ≡ es
@@ -26,7 +26,7 @@ ChangeResult steps p None es fs = IsAbsent p es fs
 
 -- ---- of a table
 
--- p had the value old, and has the value new. All else stays.
+-- p had the value old, and has the value new. All else is unchanged.
 pub record ChangesAt {V R : Type 0} (steps : V → R → V → Type 0) (p : PrefixValue) (r : R) (before after : map.FinMap prefix_cmp V) : Type 0 where
   pub old : V
   pub new : V

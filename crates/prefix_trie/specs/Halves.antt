@@ -21,7 +21,7 @@ pub record Within (low high len : ℕ) (q : PrefixValue) : Type 0 where
   pub from : low ≤ q.address
   pub to : past q ≤ high
 
--- the shortest prefix in whose halves two addresses lie
+-- the shortest prefix of which one address is in the first half and the other in the second
 pub record IsFork (low high : ℕ) (f : PrefixValue) : Type 0 where
   pub is : IsPrefix f
   pub short : f.len < 32

@@ -1,4 +1,4 @@
--- What a node has, and how prefixes stand below it.
+-- What a node has, and how prefixes are arranged below it.
 use Rattle.std.specs.Prelude.{◌≡◌, ℕ, ◌+◌, ◌≤◌, List, [], ◌∷◌, Option, Some, None, Result, Ok, Err}
 use Rattle.std.specs.FinMap.{find, put}
 use Rattle.bgp_types.specs.Tables.{prefix_cmp}
@@ -10,8 +10,7 @@ abbrev pub own : {V : Type 0} → PrefixValue → Option V → List (PrefixValue
 own p None = []
 own p (Some v) = (p, v) ∷ []
 
--- Below a prefix, longer ones of its first half stand in one branch, and those of its second half in
--- the other.
+-- Below a prefix, the longer ones of its first half are in one branch, and those of its second half in the other.
 pub record IsNode {V : Type 0} (p : PrefixValue) (zero one : List (PrefixValue × V)) : Type 0 where
   pub is : IsPrefix p
   pub zeros : AllByRecursion (λ e. Within p.address (middle p) p.len e.0) zero
@@ -19,13 +18,13 @@ pub record IsNode {V : Type 0} (p : PrefixValue) (zero one : List (PrefixValue �
 
 -- ---- changes, from the entries es and n spare nodes to the entries fs and m spare nodes
 
--- p has the value, and given back is the one that it had.
+-- p has the value, and the value that it had is returned.
 pub record IsPut {V : Type 0} (p : PrefixValue) (value : V) (back : Option V) (es fs : List (PrefixValue × V)) (n m : ℕ) : Type 0 where
   pub entries : fs ≡ put prefix_cmp p value es
   pub before : back ≡ find prefix_cmp p es
   pub used : n ≤ m + 2
 
--- There was no memory for a new prefix, and nothing has changed.
+-- There was no memory for a new prefix, and nothing changed.
 pub record IsRefused {V : Type 0} (p : PrefixValue) (value back : V) (es fs : List (PrefixValue × V)) (n m : ℕ) : Type 0 where
   pub entries : fs ≡ es
   pub returned : back ≡ value

@@ -4,7 +4,7 @@ use Rattle.std.specs.Coded.{Coded, code_by, coded×, coded_ℕ}
 use Rattle.std.specs.FinMap.{FinMap, code}
 use Rattle.bgp_types.specs.Tables.{prefix_cmp, coded_prefix}
 
--- what it has, and for how many further prefixes it has memory
+-- its prefixes and values, and the number of further prefixes for which it has memory
 pub record TableValue (V : Type 0) : Type 0 where
   pub contents : FinMap prefix_cmp V
   pub room : ℕ

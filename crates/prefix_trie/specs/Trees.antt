@@ -1,4 +1,4 @@
--- A trie with its values, and the places that are kept for nodes to come.
+-- A trie with its values, and the places that are kept for later nodes.
 use Rattle.std.specs.Prelude.{◌≡◌, ℕ, ◌≤◌, ◌<◌, List, ◌++◌, length, None, slice_get}
 use Rattle.std.specs.List.{Contains}
 use Rattle.bgp_types.specs.Prefixes.{PrefixValue}
@@ -18,7 +18,7 @@ pub record IsTrie {V : Type 0} (t : Tree V) : Type 0 where
   pub few : length t.nodes.items ≤ nowhere
   pub valued : length t.values.items ≡ length t.nodes.items
 
--- There may be more nodes. What was there is as it was.
+-- There may be more nodes. The nodes and values that were there are unchanged.
 pub record IsGrown {V : Type 0} (t u : Tree V) : Type 0 where
   pub root : u.root ≡ t.root
   pub nodes : (q : ℕ) → q < length t.nodes.items → slice_get u.nodes.items q ≡ slice_get t.nodes.items q

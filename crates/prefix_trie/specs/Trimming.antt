@@ -1,4 +1,4 @@
--- Nodes go that have neither a value nor two branches, and their places are kept.
+-- Nodes that have neither a value nor two branches are removed, and their places are kept.
 use Rattle.std.specs.Prelude.{◌≡◌, ◌⊎◌, ℕ, ◌≤◌, List, ◌++◌, length, Option, None, IfSome, slice_get}
 use Rattle.std.specs.List.{Contains}
 use Rattle.prefix_trie.specs.Halves.{Within}
@@ -11,7 +11,7 @@ pub record CanTrim (nodes : List Node) (free : List ℕ) (levels place : ℕ) : 
   pub apart : AreApart (places_at nodes levels place ++ free)
   pub few : length nodes ≤ nowhere
 
--- The entries are the same, and the places of nodes that went are free, unless there was no room to keep them. What was elsewhere is as it was.
+-- The entries are the same, and the places of removed nodes are free, unless there was no room to keep them. What is elsewhere is unchanged.
 pub record IsTrimmed {V : Type 0} (nodes fs : List Node) (values : List (Option V)) (free kept : List ℕ) (levels from to : ℕ) : Type 0 where
   pub entries : entries_at fs values levels to ≡ entries_at nodes values levels from
   pub trie : IsTrieAt fs levels to

@@ -1,4 +1,4 @@
-//! The table of prefixes that runs: a trie over the bits of addresses.
+//! The table of prefixes that the program uses: a trie over the bits of addresses.
 #![tactic(auto)]
 
 mod node;

@@ -1,5 +1,5 @@
-//! The nodes of a trie, which stand in one list. A node has a prefix, and names the places of its two branches. The value of a node stands at the same place of
-//! another list.
+//! The nodes of a trie, which stand in one list. A node has a prefix, and names the places of its two
+//! branches. The value of a node stands at the same place of another list.
 
 ghost use Rattle.std.specs.Prelude.{◌↔◌, ◌⊎◌, ◌≢◌, ℕ, ◌≤◌, ◌/◌, ◌^◌, IsTrue, ◌≡◌, ◌++◌, if◌then◌else◌, ◌<◌, length, nat_lt, map, is_some, option_and_then, option_copied, option_map, slice_get, Some, None, IfNone, IfSome, IsSome, OnOk, OnSome};
 ghost use Rattle.std.specs.FinMap as table;
@@ -14,10 +14,10 @@ ghost use Rattle.bgp_types.specs.Prefixes.{Covers};
 
 use bgp_types::{NoMemory, Prefix, PrefixList};
 
-/// How many nodes a way down has at most, and one: the prefixes grow from node to node.
+/// Maximum depth plus one: the length of a prefix grows from node to node.
 pub const LEVELS: u32 = 34;
 
-/// A prefix, and where its branches stand. A place at which no node stands is that of an empty branch.
+/// A prefix, and the places of its branches. A place without a node is that of an empty branch.
 #[derive(Clone, Copy)]
 pub struct Node {
     pub prefix: Prefix,
@@ -25,21 +25,21 @@ pub struct Node {
     pub one: u32,
 }
 
-/// Where the second half of a prefix begins.
+/// Returns the address where the second half of a prefix begins.
 fn middle(prefix: Prefix) -> u64
     ensures { result ≡ middle_of prefix }
 {
     u64::from(prefix.address()) + (1 << 31 >> prefix.len())
 }
 
-/// Whether an address lies before the second half of a prefix.
+/// Whether an address is before the second half of a prefix.
 fn is_early(address: u32, prefix: Prefix) -> bool
     ensures { result ≡ nat_lt address (middle_of prefix) }
 {
     u64::from(address) < middle(prefix)
 }
 
-/// How many addresses a half of a prefix of this length has.
+/// Returns the number of addresses in a half of a prefix of this length.
 fn half(len: u8) -> u32
     requires { len < 32 }
     ensures { result ≡ 2 ^ 31 / 2 ^ len }
@@ -56,7 +56,7 @@ fn is_below(prefix: Prefix, at: Prefix) -> bool
         && (prefix.address() - at.address()) / 2 < half(at.len())
 }
 
-/// The same as `is_early` where the address is known not to lie before the prefix.
+/// The same as `is_early`, for an address that isn't before the prefix.
 fn is_first_half(address: u32, prefix: Prefix) -> bool
     requires from { prefix.address ≤ address }
     requires short { prefix.len < 32 }
@@ -65,14 +65,14 @@ fn is_first_half(address: u32, prefix: Prefix) -> bool
     address - prefix.address() < half(prefix.len())
 }
 
-/// The node at a place.
+/// Returns the node at a place.
 pub fn node_at(nodes: &[Node], place: u32) -> Option<&Node>
     ensures { option_copied result ≡ slice_get nodes.now place }
 {
     nodes.get(place as usize)
 }
 
-/// The place of the node of a prefix, if there is one.
+/// Returns the place of the node of a prefix, if there is one.
 pub fn find<V>(nodes: &[Node], values: &[Option<V>], root: u32, prefix: Prefix) -> Option<u32>
     requires { IsTrieAt nodes.now 34 root }
     ensures value { option_and_then (value_at values.now) result ≡ table.find prefix_cmp prefix (entries_at nodes.now values.now 34 root) }
@@ -99,7 +99,7 @@ pub fn find<V>(nodes: &[Node], values: &[Option<V>], root: u32, prefix: Prefix) 
     None
 }
 
-/// Whether a value stands at a place.
+/// Whether there is a value at a place.
 fn has_value<V>(values: &[Option<V>], place: u32) -> bool
     ensures { result ≡ is_some (value_at values.now place) }
 {
@@ -109,7 +109,7 @@ fn has_value<V>(values: &[Option<V>], place: u32) -> bool
     }
 }
 
-/// The least prefix from a place down.
+/// Returns the least prefix in the subtree at a place.
 pub fn first<V>(nodes: &[Node], values: &[Option<V>], levels: u32, place: u32) -> Option<Prefix>
     requires { IsTrieAt nodes.now levels place }
     ensures { result ≡ first_above None (map (λ e. e.0) (entries_at nodes.now values.now levels place)) }
@@ -128,7 +128,7 @@ pub fn first<V>(nodes: &[Node], values: &[Option<V>], levels: u32, place: u32) -
     }
 }
 
-/// Adds the prefixes from a place down to a list, in rising order.
+/// Adds the prefixes in the subtree at a place to a list, in ascending order.
 pub fn list<V>(
     nodes: &[Node],
     values: &[Option<V>],
@@ -149,7 +149,7 @@ pub fn list<V>(
     Ok(())
 }
 
-/// The least prefix above another, from a place down.
+/// Returns the least prefix above another, in the subtree at a place.
 pub fn next<V>(
     nodes: &[Node],
     values: &[Option<V>],
@@ -177,14 +177,14 @@ pub fn next<V>(
     }
 }
 
-/// A prefix, where it has a value, or else the other.
+/// Returns a prefix if it has a value, or else the other.
 fn chosen(has: bool, prefix: Prefix, other: Option<Prefix>) -> Option<Prefix>
     ensures { result ≡ (if has then Some prefix else other) }
 {
     if has { Some(prefix) } else { other }
 }
 
-/// The longest prefix that covers another.
+/// Returns the longest prefix that covers another.
 pub fn longest<V>(nodes: &[Node], values: &[Option<V>], root: u32, host: Prefix) -> Option<Prefix>
     requires { IsTrieAt nodes.now 34 root }
     ensures { LongestOf (λ p. IsSome (table.find prefix_cmp p (entries_at nodes.now values.now 34 root))) host result }
@@ -215,17 +215,18 @@ fn set_node(nodes: &mut [Node], place: u32, node: Node)
     nodes[place as usize] = node;
 }
 
-/// Where a trie begins once a prefix got a node, and whether there is a fork above the node.
+/// The place of a trie's first node after a prefix got a node, and whether a fork was added above that
+/// node.
 #[derive(Clone, Copy)]
 pub struct Rooted {
     pub root: u32,
     pub forked: bool,
 }
 
-/// The place of no node.
+/// The place that means no node.
 pub const NOWHERE: u32 = u32::MAX;
 
-/// Gives a prefix a node where nothing stands.
+/// Adds a node of a prefix where the place is vacant.
 fn add_leaf<V>(
     nodes: &mut [Node],
     values: &[Option<V>],
@@ -254,7 +255,7 @@ fn add_leaf<V>(
     }
 }
 
-/// Gives a prefix a node above the one at a place, whose prefix it covers.
+/// Adds a node of a prefix above the node at a place, whose prefix it covers.
 fn add_above<V>(
     nodes: &mut [Node],
     values: &[Option<V>],
@@ -291,7 +292,7 @@ fn add_above<V>(
     }
 }
 
-/// The shortest prefix in whose halves the two addresses lie.
+/// Returns the shortest prefix of which one address is in the first half and the other in the second.
 fn fork_of(low: u32, high: u32) -> Prefix
     requires { low < high }
     ensures { IsFork low high result }
@@ -302,7 +303,8 @@ fn fork_of(low: u32, high: u32) -> Prefix
     }
 }
 
-/// Gives a prefix a node beside the one at a place, where neither prefix covers the other, and a fork above both.
+/// Adds a node of a prefix beside the one at a place, where neither prefix covers the other, and a fork
+/// above both.
 fn add_beside<V>(
     nodes: &mut [Node],
     values: &[Option<V>],
@@ -345,14 +347,15 @@ fn add_beside<V>(
     }
 }
 
-/// A copy of the node at a place.
+/// Returns a copy of the node at a place.
 fn copy_at(nodes: &[Node], place: u32) -> Option<Node>
     ensures { result ≡ slice_get nodes.now place }
 {
     nodes.get(place as usize).copied()
 }
 
-/// Gives a prefix a node at a place where one belongs: nothing stands there, or a node whose prefix isn't one that it is below.
+/// Adds a node of a prefix at the place where it belongs: the place is vacant, or its node's prefix
+/// isn't a shorter one that covers it.
 fn add_at<V>(
     nodes: &mut [Node],
     values: &[Option<V>],
@@ -376,7 +379,8 @@ fn add_at<V>(
     add_beside(nodes, values, fresh, spare, levels, place, at, prefix)
 }
 
-/// Where the node of a prefix belongs: at a place, on a level, below the node at another place, which is below one at a third.
+/// Where the node of a prefix belongs: at place `at`, with `levels` levels from there on, below the
+/// node at `above`, which is below the one at `grand`.
 #[derive(Clone, Copy)]
 pub struct Spot {
     pub grand: u32,
@@ -385,7 +389,7 @@ pub struct Spot {
     pub levels: u32,
 }
 
-/// Where the node of a prefix belongs.
+/// Finds where the node of a prefix belongs.
 pub fn seek(nodes: &[Node], root: u32, prefix: Prefix) -> Spot
     requires { IsTrieAt nodes.now 34 root }
     ensures spot { IsSpot nodes.now root prefix result.above result.at result.levels }
@@ -431,7 +435,7 @@ pub fn is_at(nodes: &[Node], place: u32, prefix: Prefix) -> bool
     }
 }
 
-/// A node that names another place for the half in which a prefix lies.
+/// Returns a node that names another place for the half in which a prefix lies.
 fn linked(node: Node, prefix: Prefix, to: u32) -> Node
     ensures { IsLinked node prefix to result }
 {
@@ -441,8 +445,8 @@ fn linked(node: Node, prefix: Prefix, to: u32) -> Node
     Node { one: to, ..node }
 }
 
-/// Gives a prefix that has no node one without a value, at a fresh place, where it belongs. Where it needs a fork above it, that stands
-/// at the spare place.
+/// Adds a node without a value for a prefix that has none, at the fresh place. If it needs a fork above
+/// it, the fork gets the spare place.
 pub fn add_node<V>(
     nodes: &mut [Node],
     values: &[Option<V>],
@@ -467,8 +471,9 @@ pub fn add_node<V>(
     }
 }
 
-/// Takes the node at a place out if it has neither a value nor two branches, and answers what stands in its stead. Its place is kept
-/// for later, where the list of such places has room.
+/// Returns the place that replaces that of a node: if the node has neither a value nor two branches,
+/// that of its only branch, else its own. In the first case its own place is kept for reuse, if the
+/// list of free places has room.
 fn tidy<V>(
     nodes: &[Node],
     values: &[Option<V>],
@@ -496,7 +501,8 @@ fn tidy<V>(
     branch
 }
 
-/// The same of the node that stands on the way to where a prefix belongs. Answers where the trie begins.
+/// Removes the node at `at`, on the way to where a prefix belongs, if it has neither a value nor two
+/// branches. Returns the place of the trie's first node.
 fn trim_at<V>(
     nodes: &mut [Node],
     values: &[Option<V>],
@@ -521,7 +527,8 @@ fn trim_at<V>(
     root
 }
 
-/// The same of the node where a prefix belongs, and of the one above it, which may have lost a branch.
+/// Does the same as `trim_at` for the node where a prefix belongs, and for the one above it, which may
+/// have lost a branch.
 pub fn trim<V>(
     nodes: &mut [Node],
     values: &[Option<V>],

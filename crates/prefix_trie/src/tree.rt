@@ -1,4 +1,4 @@
-//! A trie with its values, and the places that are kept for nodes to come.
+//! A trie with its values, and the places that are kept for later nodes.
 
 ghost use Rattle.std.specs.Prelude.{◌≡◌, ◌+◌, ◌++◌, ◌≤◌, ◌/◌, ℕ, [], None, length, not, option_copied, IsOk, OnOk, OnErr};
 ghost use Rattle.std.specs.FinMap as table;
@@ -18,8 +18,9 @@ use crate::node::{LEVELS, NOWHERE, Node, Spot, add_node, find, is_at, node_at, s
 use bgp_types::{NoMemory, Prefix};
 use std::mem;
 
-/// The nodes of a trie, the value of each at its place in another list, the place of the first node, and the places that no node
-/// uses. The nodes stand apart from the values: so a way down reads little memory, however large the values are.
+/// The nodes of a trie, the value of each at its place in another list, the place of the first node,
+/// and the places that no node uses. The nodes are apart from the values, so that a descent reads
+/// little memory, however large the values are.
 #[derive(Drop)]
 pub struct Tree<V> {
     pub nodes: Vec<Node>,
@@ -28,7 +29,7 @@ pub struct Tree<V> {
     pub root: u32,
 }
 
-/// The value of a prefix.
+/// Returns the value of a prefix.
 pub fn get<V>(tree: &Tree<V>, prefix: Prefix) -> Option<&V>
     requires { IsTrie tree.now }
     ensures { option_copied result ≡ table.find prefix_cmp prefix (entries tree.now) }
@@ -37,8 +38,8 @@ pub fn get<V>(tree: &Tree<V>, prefix: Prefix) -> Option<&V>
     tree.values.get(place as usize)?.as_ref()
 }
 
-/// Changes the value of a prefix in place, and answers what the change answers. Where the prefix has no value, nothing changes, and
-/// the answer is None.
+/// Changes the value of a prefix in place, and returns what the change returns. If the prefix has no
+/// value, nothing changes and the result is `None`.
 pub fn change<V, R, F: FnOnce(&mut V) -> R>(
     tree: &mut Tree<V>,
     prefix: Prefix,
@@ -57,8 +58,8 @@ pub fn change<V, R, F: FnOnce(&mut V) -> R>(
     }
 }
 
-/// Gives a prefix a value, and answers the value that it had. If there is no memory, the value is
-/// given back, and nothing has changed.
+/// Sets the value of a prefix, and returns the value that it had. If memory runs out, the new value is
+/// returned as the error and nothing changes.
 pub fn put<V: Drop>(tree: &mut Tree<V>, prefix: Prefix, value: V) -> Result<Option<V>, V>
     requires trie { IsTrie tree.old }
     requires sound { IsPrefix prefix }
@@ -72,7 +73,7 @@ pub fn put<V: Drop>(tree: &mut Tree<V>, prefix: Prefix, value: V) -> Result<Opti
     put_new(tree, spot, prefix, value)
 }
 
-/// The same where the prefix has no node.
+/// The same as `put`, for a prefix without a node.
 fn put_new<V: Drop>(
     tree: &mut Tree<V>,
     spot: Spot,
@@ -93,7 +94,7 @@ fn put_new<V: Drop>(
     Ok(None)
 }
 
-/// The same where two places are free.
+/// The same as `put`, for a prefix without a node where two places are free.
 fn put_free<V: Drop>(tree: &mut Tree<V>, spot: Spot, prefix: Prefix, value: V)
     requires trie { IsTrie tree.old }
     requires sound { IsPrefix prefix }
@@ -123,7 +124,7 @@ fn put_free<V: Drop>(tree: &mut Tree<V>, spot: Spot, prefix: Prefix, value: V)
     }
 }
 
-/// Takes a prefix out.
+/// Removes a prefix, and returns its value.
 pub fn take<V: Drop>(tree: &mut Tree<V>, prefix: Prefix) -> Option<V>
     requires trie { IsTrie tree.old }
     requires sound { IsPrefix prefix }
@@ -148,7 +149,7 @@ pub fn take<V: Drop>(tree: &mut Tree<V>, prefix: Prefix) -> Option<V>
     value
 }
 
-/// Takes all prefixes out, and keeps the places of their nodes for later.
+/// Removes all prefixes, and keeps the places of their nodes for reuse.
 pub fn clear<V: Drop>(tree: &mut Tree<V>)
     requires { IsTrie tree.old }
     ensures trie { IsTrie tree.new }
@@ -165,7 +166,8 @@ pub fn clear<V: Drop>(tree: &mut Tree<V>)
     tree.root = NOWHERE;
 }
 
-/// Takes the values from a place down out, and keeps the places for later, where the list of such places has room.
+/// Removes the values in the subtree at a place, and keeps the places of its nodes for reuse, as far as
+/// the list of free places has room.
 fn empty<V: Drop>(
     nodes: &[Node],
     values: &mut [Option<V>],
@@ -192,11 +194,11 @@ fn empty<V: Drop>(
     empty(nodes, values, free, levels - 1, node.one);
 }
 
-/// How many prefixes there are: of each length from 0 to 32, one for each value of so many bits.
+/// The number of all prefixes: for each length from 0 to 32, one for each value of that many bits.
 const ALL_PREFIXES: usize = (1 << 33) - 1;
 
-/// Takes memory for nodes, two for each of so many prefixes. If memory runs out, as many places are free as before; more
-/// prefixes than there are at all are refused at once.
+/// Makes two free places for each of `more` prefixes. If memory runs out, as many places are free as
+/// before. A number that is greater than that of all prefixes is refused at once.
 pub fn reserve<V: Drop>(tree: &mut Tree<V>, more: usize) -> Result<(), NoMemory>
     requires { IsTrie tree.old }
     ensures trie { IsTrie tree.new }
@@ -216,7 +218,7 @@ pub fn reserve<V: Drop>(tree: &mut Tree<V>, more: usize) -> Result<(), NoMemory>
     let fresh = more * 2 - before;
     tree.nodes.reserve(fresh)?;
     tree.values.reserve(fresh)?;
-    // There is room for all places, so that none is lost when its node goes.
+    // There is room for all places, so that none is lost when its node is removed.
     tree.free.reserve(tree.nodes.len().saturating_add(fresh))?;
     match fill(tree, more * 2) {
         Ok(()) => Ok(()),
@@ -227,7 +229,7 @@ pub fn reserve<V: Drop>(tree: &mut Tree<V>, more: usize) -> Result<(), NoMemory>
     }
 }
 
-/// Makes free places until there are so many.
+/// Makes free places until there are `count`.
 fn fill<V: Drop>(tree: &mut Tree<V>, count: usize) -> Result<(), NoMemory>
     requires { IsTrie tree.old }
     ensures trie { IsTrie tree.new }
@@ -241,7 +243,7 @@ fn fill<V: Drop>(tree: &mut Tree<V>, count: usize) -> Result<(), NoMemory>
     Ok(())
 }
 
-/// Makes a free place.
+/// Makes one free place. If memory runs out, the same places are free as before.
 fn add_place<V: Drop>(tree: &mut Tree<V>) -> Result<(), NoMemory>
     requires { IsTrie tree.old }
     ensures trie { IsTrie tree.new }

@@ -14,13 +14,13 @@ use bgp_types::{Items, NoMemory, Prefix, PrefixList, SpareTable, Table};
 use std::alloc::Global;
 use std::marker::Model;
 
-/// The prefixes with their values. The nodes stand in one list and name each other by their places in it. A removal keeps the places
-/// that it frees for prefixes that come later: it asks for no memory.
+/// Prefixes with their values. The nodes stand in one list and name each other by their places in it. A
+/// removal keeps the places that it frees for later prefixes; it allocates nothing.
 ///
-/// On a way down from the root each prefix is longer than the one above it. So a way has at most 33
-/// nodes, however many prefixes there are. `get`, `set`, `change`, `remove` and `longest_match` go one way, and
-/// `next_after` at most one further way from a node of the first; `prefixes` visits each node once. `len` and `spare` read a number.
-/// `reserve` takes a step for each node that it makes.
+/// On a descent from the root each prefix is longer than the one before, so a descent visits at most 33
+/// nodes, however many prefixes there are. `get`, `set`, `change`, `remove` and `longest_match` make
+/// one descent, and `next_after` makes at most one more, from a node of the first. `prefixes` visits
+/// each node once. `len` and `spare` read a number. `reserve` takes a step for each node that it makes.
 #[derive(Drop)]
 pub struct TrieTable<V> {
     alloc: Global,
@@ -46,7 +46,7 @@ impl<V> Model for TrieTable<V> {
 }
 
 impl<V: Drop> TrieTable<V> {
-    /// A table without a prefix. It takes no memory before the first.
+    /// Returns an empty table. It allocates nothing before the first prefix.
     pub fn new(alloc: Global) -> TrieTable<V>
         ensures contents { result.contents ≡ map.empty }
         ensures room { result.room ≡ 0 }
@@ -63,7 +63,7 @@ impl<V: Drop> TrieTable<V> {
         }
     }
 
-    /// The longest prefix that covers an address, None exactly where none does (RFC 1812, section
+    /// Returns the longest prefix that covers an address, or `None` if none does (RFC 1812, section
     /// 5.2.4.3).
     pub fn longest_match(&self, address: u32) -> Option<Prefix>
         ensures { LongestOf (λ p. IsSome (map.get self.now.contents p)) (prefix_of 32 address) result }
@@ -74,7 +74,7 @@ impl<V: Drop> TrieTable<V> {
         }
     }
 
-    /// The prefixes that there are, in rising order, in memory that is asked for once.
+    /// Returns its prefixes in ascending order, in one allocation.
     pub fn prefixes(&self) -> Result<PrefixList, NoMemory>
         ensures { IfOk result (λ prefixes. prefixes ≡ map.keys self.now.contents) }
     {
@@ -89,8 +89,8 @@ impl<V: Drop> TrieTable<V> {
         Ok(prefixes)
     }
 
-    /// Changes the value of a prefix in place, on one way down, and answers what the change answers. Where the prefix has no value,
-    /// nothing changes, and the answer is None. It asks for no memory.
+    /// Changes the value of a prefix in place, in one descent, and returns what the change returns. If
+    /// the prefix has no value, nothing changes and the result is `None`. It allocates nothing.
     pub fn change<R, F: FnOnce(&mut V) -> R>(&mut self, prefix: Prefix, edit: F) -> Option<R>
         requires { F.IsAlwaysCallable edit }
         ensures changed { IfSome result (λ r. ChangesAt (FnOnceReturnsAtMut F.FnOnce edit) prefix r self.old.contents self.new.contents) }
@@ -101,7 +101,7 @@ impl<V: Drop> TrieTable<V> {
         change(&mut self.tree, prefix, edit)
     }
 
-    /// Takes all prefixes out, and keeps their nodes as `remove` does. It asks for no memory.
+    /// Removes all prefixes, and keeps their nodes as `remove` does. It allocates nothing.
     pub fn clear(&mut self)
         ensures contents { self.new.contents ≡ map.empty }
         ensures room { self.old.room ≤ self.new.room }
@@ -129,7 +129,7 @@ impl<V: Drop> Table<V> for TrieTable<V> {
         Ok(before)
     }
 
-    /// It asks for no memory.
+    /// It allocates nothing.
     fn remove(&mut self, prefix: Prefix) -> Option<V> {
         prove!(prefix.len() <= 32);
         let taken = take(&mut self.tree, prefix)?;

@@ -1,7 +1,8 @@
--- What is asked of an endpoint that stood in one actor through a round.
+-- What is required of an endpoint that stays at one actor through a round.
 use Rattle.std.specs.Prelude.{ℕ, ◌≡◌, ◌<◌, ◌⊎◌}
 use Rattle.tcp_seq.specs.Endpoint.{Endpoint}
 
--- Where bytes were outstanding at the start, more is acknowledged at the end, or an old slice was sent again. So many were.
+-- If bytes were outstanding at the start, more is acknowledged at the end, or an old slice was sent again. The number counts the slices that were
+-- sent again.
 abbrev pub GoesOn : Endpoint → Endpoint → ℕ → Type 0
 GoesOn start end again = start.acked < start.emitted → (start.acked < end.acked) ⊎ (again ≡ 1)

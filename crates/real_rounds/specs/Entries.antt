@@ -1,4 +1,4 @@
--- What an actor's journal holds between two marks, and what is taken from which channel.
+-- What an actor's journal holds between two marks, and which items are taken from which channel.
 use Rattle.std.specs.Prelude.{ℕ, ◌-◌, ◌==◌, if◌then◌else◌, Bool, true, false, List, [], ◌∷◌, map, ◌++◌, take, drop, count_by, Option, Some, None}
 use Rattle.std.specs.List.{list_any}
 use Rattle.ring_net.specs.declared.entry.JournalEntry.{JournalEntry}
@@ -12,7 +12,7 @@ use Rattle.graft_runs.specs.Actors.{ActorName, Router, FarSide, Operator}
 use Rattle.graft_runs.specs.Makes.{HasCode}
 use Rattle.run_marks.specs.Marks.{before}
 
--- the entries of an actor behind a mark and before the next one
+-- the entries of an actor after a mark and before the next one
 abbrev pub between : List JournalEntry → (mark next : List ℕ) → ℕ → List JournalEntry
 between journal mark next k = take (before next k - before mark k) (drop (before mark k) (entries_by k journal))
 
@@ -22,14 +22,14 @@ AreCoded code [] [] = Unit {0}
 AreCoded code (event ∷ events) (entry ∷ entries) = HasCode (code event) entry × AreCoded code events entries
 AreCoded code events entries = ⊥
 
--- ---- from whom an entry's event took an item
+-- ---- the sender of the item that an entry's event took
 
 -- the entry's kind is that of one of these events
 abbrev pub is_one_of : List Code → JournalEntry → Bool
 is_one_of these entry = list_any (λ code. code.kind == entry.kind) these
 
--- A router takes segments from a far side, all that other routers tell, move, ask and answer from these, and orders from the operator; a far side takes what goes outward from a router, and steps from the
--- operator; and the operator takes reports from a router.
+-- A router takes segments from a far side; tellings, sessions, questions and answers from other routers; and orders from the operator. A far side
+-- takes outward items from a router, and steps from the operator. The operator takes reports from a router.
 abbrev pub sender_of : JournalEntry → Option ActorName
 sender_of entry = if is_one_of (map router_code (Arrive 0 ∷ Stray 0 ∷ [])) entry then Some (FarSide entry.a)
     else if is_one_of (map router_code (Hear 0 ∷ Land 0 ∷ TurnBack 0 ∷ Return 0 ∷ Clear 0 ∷ Answer 0 ∷ Collect 0 ∷ []) ++ map far_code (Take 0 ∷ Point 0 ∷ []) ++ map operator_code (Note 0 ∷ [])) entry then Some (Router entry.a)
@@ -42,6 +42,6 @@ is_name (FarSide p) (Some (FarSide q)) = p == q
 is_name Operator (Some Operator) = true
 is_name name other = false
 
--- how many of the entries took an item from this actor
+-- how many of the entries took an item that this actor sent
 abbrev pub taken_from : ActorName → List JournalEntry → ℕ
 taken_from x entries = count_by (λ entry. is_name x (sender_of entry)) entries

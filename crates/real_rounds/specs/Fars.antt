@@ -22,16 +22,16 @@ abbrev pub is_take : FarEvent → Bool
 is_take (Take router) = true
 is_take event = false
 
--- it takes an item
+-- the event takes an item
 abbrev pub Takes : FarPart → FarEvent → Type 0
 Takes part (Say step) = Unit {0}
 Takes part (Take router) = Unit {0}
 Takes part (Point router) = Unit {0}
 Takes part event = ⊥
 
--- ---- what lies in a link
+-- ---- the content of a link
 
--- What the plan still holds for each segment that lies in a link, and how many were put there so far.
+-- What the plan still holds for each segment in a link, and how many were put there so far.
 pub record Lying : Type 0 where
   pub plans : List InLink
   pub put : ℕ
@@ -46,21 +46,21 @@ pub record Links : Type 0 where
 abbrev pub empty_links : Links
 empty_links = record { home = nothing_lies; remote = nothing_lies }
 
--- the fates, by the plan of faults, of the next segments of a link, so many after so many others, each put now
+-- the fates, by the plan of faults, of the next n segments of a link after `from` others, each put now
 abbrev pub fates_put : List Fault → ℕ → Way → (from n : ℕ) → List (Fate × ℕ)
 fates_put faults p way from n = map (λ k. (fate_of faults (record { 0 = p }) way k, 0)) (range_with_len (from + 1) n)
 
--- so many segments more are in a link, each with its fate by its number
+-- n more segments are in a link, each with the fate of its number
 pub record ArePut (faults : List Fault) (p : ℕ) (way : Way) (from n : ℕ) (new : List InLink) : Type 0 where
   pub fates : map (λ x. (x.fate, x.turns)) new ≡ fates_put faults p way from n
 
--- each of them knows the router that the link points at now
+-- each of them was put while the link pointed at this router
 abbrev pub PointAt : ℕ → List InLink → Type 0
 PointAt router plans = AllByRecursion (λ x. x.pointed.0 ≡ router) plans
 
 -- ---- the timer
 
--- The remote is to say a KEEPALIVE in this round, and has room for it.
+-- A KEEPALIVE of the remote is due in this round, and there is room for it.
 pub record IsDue (setup : Setup) (p round : ℕ) (part : FarPart) : Type 0 where
   pub beat : ℕ
   pub is : option_map beat_of (slice_get setup.peerings p) ≡ Some beat
@@ -70,25 +70,26 @@ pub record IsDue (setup : Setup) (p round : ℕ) (part : FarPart) : Type 0 where
   pub few : part.beats < 27594
   pub fits : length part.end.stream + 19 ≤ 2 ^ 20
 
--- it says one exactly where it is to
+-- the remote says one exactly if it is due
 abbrev pub Beats : Setup → ℕ → ℕ → FarPart → List FarEvent → Type 0
 Beats setup p round part events = (IsDue setup p round part × (events ≡ Beat round ∷ [])) ⊎ ((¬ IsDue setup p round part) × (events ≡ []))
 
 -- ---- a round
 
--- The events of a far side's round, in this order: those of its takes; the links deliver, keep and lose by the plan; an old slice is sent again; the timer has the remote say a KEEPALIVE; all
--- that is new is sent; and an owed answer is given. Each is by its row. At the end all is sent that may be. The round has this number, counted from 1.
+-- The events of a far side's round, in this order: those of its takes; the links deliver, keep and lose by the plan; an old slice is sent again; the
+-- timer has the remote say a KEEPALIVE; all that is new is sent; and an owed acknowledgement is sent. Each is by its row. At the end all that may be
+-- sent is sent. Rounds are counted from 1.
 pub record RealFar (setup : Setup) (faults : List Fault) (p round : ℕ) (start : FarPart) (before : Links) (events : List FarEvent) (end : FarPart) (after : Links) : Type 0 where
   pub taken : List FarEvent
   pub again : List FarEvent
   pub beats : List FarEvent
   pub fresh : List FarEvent
   pub answers : List FarEvent
-  -- what was taken in is put into the link to the remote before the turn, and what the remote sends into the link to home in it
+  -- segments that were taken in are put into the link to the remote before the turn, and those that the remote sends into the link to home during it
   pub took : List InLink
   pub sent : List InLink
   pub is : events ≡ taken ++ (home_events end.pointer before.home.plans ++ (remote_events (before.remote.plans ++ took) ++ (again ++ (beats ++ (fresh ++ answers)))))
-  -- the parts behind its takes, and behind each piece of its turn
+  -- the parts after its takes, and after each piece of its turn
   pub turning : FarPart
   pub delivered : FarPart
   pub resent : FarPart
@@ -104,7 +105,7 @@ pub record RealFar (setup : Setup) (faults : List Fault) (p round : ℕ) (start 
   pub rested : IsRested end.end
   pub few : length again ≤ 1
   pub goes_on : GoesOn start.end end.end (length again)
-  -- each segment has the fate of its number, and one that goes home knows the router at which the link pointed
+  -- each segment has the fate of its number, and one that goes home records the router at which the link points at the end of the round
   pub are_taken : ArePut faults p Remote before.remote.put (length (filter is_take taken)) took
   pub are_sent : ArePut faults p Home before.home.put (length again + (length fresh + length answers)) sent × PointAt end.pointer sent
   -- what is left of each link

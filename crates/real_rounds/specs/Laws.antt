@@ -9,7 +9,7 @@ use Rattle.world_nodes.specs.Ways.{Stand, Begins, Way}
 use Rattle.world_nodes.specs.Fresh.{IsFresh}
 use Rattle.real_rounds.specs.Whole.{RealRounds}
 
--- Whatever way a laboratory's net went whose actors had done nothing, all its rounds are real.
+-- Whatever way a laboratory's net went, all its rounds are real, if its actors had done nothing at the beginning.
 abbrev pub RoundsAreReal : Type 0
 RoundsAreReal = (setup : Setup) (faults : List Fault) (a b : Stand) (made : List ℕ) (journal : List JournalEntry) → IsSetup setup → (begins : Begins setup a) → AllByRecursion (IsFresh setup faults) begins.actors
     → Way setup a made b → Interleaves b.view.journal journal → RealRounds setup faults journal b.marks

@@ -21,7 +21,8 @@ use Rattle.real_rounds.specs.Ends.{GoesOn}
 abbrev pub HasLive : ℕ → RouterPart → Type 0
 HasLive p part = (s : SessionValue) × (o : Option Errand) × IsLive part p s o
 
--- The session of a peering stands at a router that is these parts one after another: live in each, in the first as the one value, and in the last as the other.
+-- The session of a peering stays at a router through these parts: it is live in each, with the one value in the first, and with the other in the
+-- last.
 pub record Stands (p : ℕ) (start : RouterPart) (parts : List RouterPart) (end : RouterPart) (first last : SessionValue) : Type 0 where
   pub first_order : Option Errand
   pub last_order : Option Errand
@@ -29,20 +30,21 @@ pub record Stands (p : ℕ) (start : RouterPart) (parts : List RouterPart) (end 
   pub ends : IsLive end p last last_order
   pub throughout : AllByRecursion (HasLive p) (start ∷ parts)
 
--- a hold time runs on it
+-- its hold time runs
 pub record HoldRuns (s : SessionValue) : Type 0 where
   pub up : is_up (state s) ≡ true
   pub runs : 0 < hold_time s
 
--- The events of a router's round, in this order: those of its takes; the first outstanding slices, sent again; and its work, stage by stage: rounds pass on sessions, grafts begin,
--- prefixes are decided, routers are told, then asked or given word, UPDATEs are put, and segments are emitted. Each is by its row; behind the old slices only new ones and owed answers are
--- emitted; and each UPDATE is the next one of its session. At the end the router is at rest. The round has this number, counted from 1.
+-- The events of a router's round, in this order: those of its takes; the first outstanding slices, sent again; and its work, stage by stage: rounds
+-- pass on sessions, grafts begin, prefixes are decided, routers are told, then asked or given word, UPDATEs are put, and segments are emitted. Each
+-- is by its row; after the old slices only new ones and owed acknowledgements are emitted; and each UPDATE is the next one of its session. At the end
+-- the router is at rest. Rounds are counted from 1.
 pub record RealRouter (setup : Setup) (r round : ℕ) (start : RouterPart) (events : List RouterEvent) (end : RouterPart) : Type 0 where
   pub taken : List RouterEvent
   pub again : List RouterEvent
   pub work : List RouterEvent
   pub is : events ≡ taken ++ (again ++ work)
-  -- the parts behind its takes, and behind what is sent again, and the parts behind each event
+  -- the parts after its takes and after what is sent again, and the parts after each event
   pub turning : RouterPart
   pub sent : RouterPart
   pub first : List RouterPart
@@ -56,7 +58,8 @@ pub record RealRouter (setup : Setup) (r round : ℕ) (start : RouterPart) (even
   -- of each session at most one old slice is sent again
   pub few : (p : ℕ) → emits_on p again ≤ 1
   pub goes_on : (p : ℕ) (s u : SessionValue) → Stands p start (first ++ (second ++ third)) end s u → GoesOn s.end u.end (emits_on p again)
-  -- a round that passes on a session has the number of this one; and it passes once where a hold time runs throughout and the stream had room for what is answered
+  -- a round that passes on a session has the number of this one; and it passes once if a hold time runs throughout and the stream had room for the
+  -- answer
   pub numbered : (p : ℕ) → AllByRecursion (λ n. n ≡ round) (rounds_on p work)
   pub ticks : (p : ℕ) (s u : SessionValue) → Stands p start (first ++ (second ++ third)) end s u → HoldRuns s → HoldRuns u → length s.end.stream ≤ 1044461 → rounds_on p work ≡ round ∷ []
 
@@ -68,7 +71,7 @@ OperatorRound setup start [] end = end ≡ start
 OperatorRound setup start (event ∷ events) end =
     (taken : Option OperatorTaken) × (sent : List OperatorSent) × (mid : OperatorPart) × operator_row setup event start taken sent mid × OperatorRound setup mid events end
 
--- Its events, a Go at the start included. At the end no step of the group at work may be issued.
+-- The operator's events in a round, including a Go at the start. At the end no further step of the current group may be issued.
 pub record RealOperator (setup : Setup) (start : OperatorPart) (events : List OperatorEvent) (end : OperatorPart) : Type 0 where
   pub goes : OperatorRound setup start events end
   pub issued : NothingToOrder setup end

@@ -47,25 +47,27 @@ pub record RealRound (setup : Setup) (faults : List Fault) (round : ℕ) (start 
   pub far_sides : (p : ℕ) → p < peerings_in setup → FarDid setup faults p round start (before p) slices end (after p)
   pub operator : OperatorDid setup start slices end
 
--- The run of a round, from the world at a mark to that at the next one: its events are those of the entries that all actors noted between the two, by clock and actor.
+-- The run of a round, from the world at a mark to that at the next one: its events are those of the entries that all actors wrote between the two, by
+-- clock and actor.
 pub record RoundGoes (setup : Setup) (start : World) (slices : Slices) (events : List Event) (end : World) : Type 0 where
   pub entries : List JournalEntry
   pub merged : Interleaves slices entries
   pub entries_of : AreEntriesOf setup events entries
   pub run : Run setup start events end
 
--- Of each channel, the lesser of 256 and what it holds at the start is taken in two rounds, at least.
+-- In two rounds, at least as many items are taken from each channel as it holds at the start, or 256 if it holds more.
 abbrev pub Drains : Setup → World → Slices → Slices → Type 0
 Drains setup start one other = (x y : ActorName) → IsActor setup x → IsActor setup y
     → min 256 (length (channel_of start (Some x) (Some y))) ≤ taken_from x (one (number_in setup y)) + taken_from x (other (number_in setup y))
 
 -- ---- all rounds
 
--- the events of so many rounds, one round after another
+-- the events of n rounds, one round after another
 abbrev pub round_by_round : (ℕ → List Event) → ℕ → List Event
 round_by_round events n = flat_map events (range_with_len 0 n)
 
--- The rounds of a run between its marks, the first of which stands before all entries, by a plan of faults: the world at each mark, and the events of the round behind it.
+-- The rounds of a run between its marks, the first of which comes before all entries, by a plan of faults: the world at each mark, and the events of
+-- the round after it.
 pub record RealRounds (setup : Setup) (faults : List Fault) (journal : List JournalEntry) (marks : List (List ℕ)) : Type 0 where
   pub world : ℕ → World
   pub events : ℕ → List Event

@@ -1,4 +1,4 @@
-//! What each round of a laboratory does, from one mark to the next.
+//! Laws: what each round of a laboratory does, from one mark to the next.
 #![tactic(auto)]
 
 mod laws;

@@ -1,4 +1,4 @@
-//! Generated commands for a router's routes, beside the plain model.
+//! Generated commands for a router's routes, compared with the plain model.
 
 use crate::plain::{Held, Plain, best_at, put_in, source, take_out};
 use crate::tables::tables;
@@ -6,17 +6,17 @@ use bgp_types::{Attrs, From, Items, NoMemory, Origin, PathPart, Prefix, Route, T
 use rib_stages::{InEntry, Rib};
 use std::alloc::Global;
 
-/// How many commands there are.
+/// The number of commands.
 const COMMANDS: u32 = 3_000;
 
-/// A linear congruential generator, of which the upper bits are used (Knuth's MMIX).
+/// A linear congruential generator, with the constants of Knuth's MMIX. Only the upper bits are used.
 #[derive(Drop)]
 struct Generator {
     state: u64,
 }
 
 impl Generator {
-    /// The next number below another.
+    /// Returns the next number below `limit`.
     fn below(&mut self, limit: u32) -> u32 {
         self.state = self
             .state
@@ -27,14 +27,14 @@ impl Generator {
     }
 }
 
-/// One of 16 prefixes: 10.0.0.0/8, and 10.1.0.0/16 to 10.15.0.0/16.
+/// Returns one of 16 prefixes: 10.0.0.0/8, and 10.1.0.0/16 to 10.15.0.0/16.
 fn prefix(n: u32) -> Option<Prefix> {
     let place = n % 16;
     let len = if place == 0 { 8 } else { 16 };
     Prefix::new(0x0A00_0000 + place * 0x1_0000, len)
 }
 
-/// A route with a path of one or two ASes.
+/// Returns a route with a path of one or two ASes.
 fn route(
     alloc: Global,
     as_number: u32,
@@ -60,7 +60,7 @@ fn route(
     })
 }
 
-/// One of few routes, so that many are equal by most rules.
+/// Returns one of few routes, so that many are equal by most rules.
 fn any_route(alloc: Global, numbers: &mut Generator) -> Result<Route, NoMemory> {
     let neighbour = numbers.below(3);
     let is_long = numbers.below(2) == 0;
@@ -75,7 +75,7 @@ fn any_route(alloc: Global, numbers: &mut Generator) -> Result<Route, NoMemory> 
     )
 }
 
-/// The network of the router's own. Its route has an empty path.
+/// Returns the entry for an own network of the router. Its route has an empty path.
 fn own(alloc: Global, prefix: Prefix) -> Held {
     Held {
         from: From::Own,
@@ -96,7 +96,7 @@ fn own(alloc: Global, prefix: Prefix) -> Held {
     }
 }
 
-/// Both get a route of a source to a prefix.
+/// Sets a source's route to a prefix, in both.
 fn set_both(rib: &mut Rib, plain: &mut Plain, held: Held) -> Result<(), NoMemory> {
     let route = held.route.copy()?;
     let (from, prefix, identifier) = (held.from, held.prefix, held.identifier);
@@ -112,7 +112,7 @@ fn set_both(rib: &mut Rib, plain: &mut Plain, held: Held) -> Result<(), NoMemory
     )
 }
 
-/// A source has no route to a prefix any more, in both.
+/// Removes a source's route to a prefix, in both.
 fn lose_both(rib: &mut Rib, plain: &mut Plain, from: From, prefix: Prefix) -> Result<(), NoMemory> {
     take_out(plain, from, Some(prefix));
     rib.set_in(
@@ -126,7 +126,7 @@ fn lose_both(rib: &mut Rib, plain: &mut Plain, from: From, prefix: Prefix) -> Re
     )
 }
 
-/// A command for both: one in a hundred drops a source, and of the others one in four takes a route away.
+/// Runs a command on both: one in a hundred drops a source, and of the others one in four removes a route.
 fn command(
     alloc: Global,
     numbers: &mut Generator,
@@ -155,7 +155,7 @@ fn command(
     set_both(rib, plain, held)
 }
 
-/// Whether the best route to a prefix is the plain model's, or is to be decided again.
+/// Returns whether the best route to a prefix is the plain model's, or the prefix is dirty.
 fn is_right(alloc: Global, rib: &Rib, plain: &Plain, prefix: Prefix) -> Result<bool, NoMemory> {
     if rib.is_dirty(prefix) {
         return Ok(true);
@@ -167,7 +167,7 @@ fn is_right(alloc: Global, rib: &Rib, plain: &Plain, prefix: Prefix) -> Result<b
     })
 }
 
-/// Whether the best routes to all prefixes are right.
+/// Returns whether the best routes to all prefixes are right.
 fn are_right(alloc: Global, rib: &Rib, plain: &Plain) -> Result<bool, NoMemory> {
     for n in 0..16u32 {
         let Some(prefix) = prefix(n) else {
@@ -180,7 +180,7 @@ fn are_right(alloc: Global, rib: &Rib, plain: &Plain) -> Result<bool, NoMemory> 
     Ok(true)
 }
 
-/// Whether a route is the best one to a prefix.
+/// Returns whether a route is the best one to a prefix.
 fn is_best(rib: &Rib, prefix: Prefix, from: From, route: &Route) -> bool {
     match rib.best(prefix) {
         Some(best) => best.from == from && best.route == *route,
@@ -188,7 +188,7 @@ fn is_best(rib: &Rib, prefix: Prefix, from: From, route: &Route) -> bool {
     }
 }
 
-/// Decides a prefix that had a best route. Whether it answers exactly whether there is another.
+/// Decides a prefix that had a best route. Returns whether the call says correctly if the best route changed.
 fn decides_another(
     rib: &mut Rib,
     prefix: Prefix,
@@ -199,7 +199,7 @@ fn decides_another(
     Ok(changed != is_best(rib, prefix, from, route))
 }
 
-/// Decides a prefix. Whether it answers exactly whether the best route is another than before.
+/// Decides a prefix. Returns whether the call says correctly if the best route changed.
 fn decides_rightly(rib: &mut Rib, prefix: Prefix) -> Result<bool, NoMemory> {
     match rib.best(prefix) {
         Some(best) => {
@@ -213,7 +213,7 @@ fn decides_rightly(rib: &mut Rib, prefix: Prefix) -> Result<bool, NoMemory> {
     }
 }
 
-/// Decides up to so many dirty prefixes. Whether each answer was right.
+/// Decides up to `count` dirty prefixes. Returns whether each answer was right.
 fn decide_some(rib: &mut Rib, count: u32) -> Result<bool, NoMemory> {
     let mut right = true;
     for _n in 0..count {
@@ -225,7 +225,7 @@ fn decide_some(rib: &mut Rib, count: u32) -> Result<bool, NoMemory> {
     Ok(right)
 }
 
-/// One command, up to two decisions, and whether all is right then.
+/// Runs one command and up to two decisions. Returns whether all is right then.
 fn step(
     alloc: Global,
     numbers: &mut Generator,
@@ -237,7 +237,7 @@ fn step(
     Ok(are_right(alloc, rib, plain)? && decided)
 }
 
-/// How many steps went wrong.
+/// Returns how many steps went wrong.
 fn steps_that_differ(alloc: Global, rib: &mut Rib, plain: &mut Plain) -> Result<u32, NoMemory> {
     let mut numbers = Generator { state: 20 };
     let mut differ = 0u32;
@@ -249,7 +249,7 @@ fn steps_that_differ(alloc: Global, rib: &mut Rib, plain: &mut Plain) -> Result<
     Ok(differ)
 }
 
-/// After how many commands the routes aren't those of the plain model.
+/// Returns after how many of the commands the routes aren't those of the plain model.
 pub fn commands_that_differ(alloc: Global) -> Result<u32, NoMemory> {
     let Some(network) = prefix(1) else {
         return Ok(COMMANDS);

@@ -1,6 +1,7 @@
-//! The routes of a router: rows that are worked out by hand, and generated commands beside a plain list of entries. Reads rows from
-//! standard input, each a call and what it gives, prints each that gives something else, and how many there are; then after how many
-//! of the generated commands the best routes aren't those of the plain list.
+//! The routes of a router: rows that are worked out by hand, and generated commands compared with a plain list of
+//! entries. Reads rows from standard input, each a call and its expected answer, prints each row whose answer differs,
+//! and then how many rows there are; and last, after how many of the generated commands the best routes aren't those of
+//! the plain list.
 #![tactic(auto)]
 
 mod generated;
@@ -18,7 +19,7 @@ use rib_stages::Rib;
 use std::alloc::Global;
 use std::io;
 
-/// What a row gives, where that is something else than the row says.
+/// Returns the answer to a row, if it differs from the expected one.
 fn other_answer(alloc: Global, rib: &mut Rib, line: &str) -> Result<Option<String>> {
     let (call, expected) = line.split_once(" => ").context("a row")?;
     let words: Vec<&str> = call.split(' ').collect(alloc)?;
@@ -29,7 +30,7 @@ fn other_answer(alloc: Global, rib: &mut Rib, line: &str) -> Result<Option<Strin
     Ok(Some(given))
 }
 
-/// Goes through the rows of a text. What is to be printed of them.
+/// Runs the rows of a text, and returns what is to be printed of them.
 fn go_through(alloc: Global, rib: &mut Rib, text: &str) -> Result<String> {
     let mut report = String::new(alloc);
     let mut rows = 0u64;
@@ -48,7 +49,7 @@ fn go_through(alloc: Global, rib: &mut Rib, text: &str) -> Result<String> {
     Ok(report)
 }
 
-/// What is to be printed of the rows of a text.
+/// Returns what is to be printed of the rows of a text.
 fn report(alloc: Global, text: &str) -> Result<String> {
     let mut rib = tables(alloc, &[])?;
     go_through(alloc, &mut rib, text)

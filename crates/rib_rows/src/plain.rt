@@ -8,7 +8,7 @@ use std::alloc::Global;
 /// The home AS.
 const HOME: u32 = 65_000;
 
-/// An entry. Its identifier is its address too.
+/// An entry. Its identifier is also its address.
 #[derive(Drop)]
 pub struct Held {
     pub from: From,
@@ -20,7 +20,7 @@ pub struct Held {
 /// The entries.
 pub type Plain = Vec<Held>;
 
-/// The sources of entries in their order: 5 peerings, then routers 1 to 3.
+/// Returns source `n` of the entries, in their order: 5 peerings, then routers 1 to 3.
 pub fn source(n: u32) -> From {
     let place = (n % 8) as u8;
     if place < 5 {
@@ -30,7 +30,7 @@ pub fn source(n: u32) -> From {
     }
 }
 
-/// Whether an entry comes from there, and is for the prefix, if there is one.
+/// Returns whether an entry is from this source and, if a prefix is given, for this prefix.
 fn is_at(held: &Held, from: From, prefix: Option<Prefix>) -> bool {
     match prefix {
         Some(prefix) => held.from == from && held.prefix == prefix,
@@ -38,24 +38,24 @@ fn is_at(held: &Held, from: From, prefix: Option<Prefix>) -> bool {
     }
 }
 
-/// Takes a source's entry for a prefix out, or all of its entries.
+/// Removes a source's entry for a prefix, or all of its entries if no prefix is given.
 pub fn take_out(plain: &mut Plain, from: From, prefix: Option<Prefix>) {
     plain.retain(|held| !is_at(held, from, prefix));
 }
 
-/// Puts an entry in, in place of its source's entry for that prefix.
+/// Adds an entry, in place of its source's entry for that prefix.
 pub fn put_in(plain: &mut Plain, held: Held) -> Result<(), NoMemory> {
     take_out(plain, held.from, Some(held.prefix));
     plain.push(held)?;
     Ok(())
 }
 
-/// A source's entry for a prefix.
+/// Returns a source's entry for a prefix.
 fn held_at(plain: &Plain, from: From, prefix: Prefix) -> Option<&Held> {
     plain.iter().find(|held| is_at(held, from, Some(prefix)))
 }
 
-/// What the choice looks at of an entry. Router n is at cost n, 1 where that isn't given, which is so of router 3.
+/// Returns the rank of an entry. Router n is at cost n; a cost that isn't given, like that of router 3, is 1.
 fn rank_of(held: &Held) -> Rank {
     match held.from {
         From::Own => own_rank(HOME),
@@ -67,7 +67,7 @@ fn rank_of(held: &Held) -> Rank {
     }
 }
 
-/// The entries for a prefix, in the order of their sources.
+/// Returns the entries for a prefix, in the order of their sources.
 fn candidates(alloc: Global, plain: &Plain, prefix: Prefix) -> Result<Vec<&Held>, NoMemory> {
     let mut candidates = Vec::new(alloc);
     if let Some(held) = held_at(plain, From::Own, prefix) {
@@ -81,7 +81,7 @@ fn candidates(alloc: Global, plain: &Plain, prefix: Prefix) -> Result<Vec<&Held>
     Ok(candidates)
 }
 
-/// The best entry for a prefix: the choice among all of them, in the order of their sources.
+/// Returns the best entry for a prefix: the choice among all of them, in the order of their sources.
 pub fn best_at(alloc: Global, plain: &Plain, prefix: Prefix) -> Result<Option<&Held>, NoMemory> {
     let candidates = candidates(alloc, plain, prefix)?;
     let ranks: Vec<Rank> = candidates.iter().map(|held| rank_of(held)).collect(alloc)?;

@@ -1,4 +1,4 @@
-//! What is planned on a session.
+//! Pending UPDATEs of a session.
 
 use adj_rib::AdjRib;
 use anyhow::Result;
@@ -9,7 +9,7 @@ use rib_stages::{OutView, Rib};
 use std::alloc::Global;
 use tell_plan::{next_update_is_one_way, plan};
 
-/// Puts the prefixes that have a best route into a set, up to 100.
+/// Adds the prefixes that have a best route to a set, up to 100.
 fn add_all(rib: &Rib, set: &mut DueSet) -> Result<(), NoMemory> {
     let mut last = None;
     for _n in 0..100u32 {
@@ -22,7 +22,8 @@ fn add_all(rib: &Rib, set: &mut DueSet) -> Result<(), NoMemory> {
     Ok(())
 }
 
-/// The octets of the one UPDATE on a session whose own address is 192.0.2.6, narrow; None where not one is planned.
+/// Returns the octets of the only UPDATE on a session whose own address is 192.0.2.6, with two-octet AS numbers; `None`
+/// unless exactly one is planned.
 fn written(
     alloc: Global,
     rib: &Rib,
@@ -53,13 +54,14 @@ fn written(
     Ok(Some(write_message(alloc, &message, false)?))
 }
 
-/// The octets of a message in hexadecimal, without its marker.
+/// Returns the octets of a message in hexadecimal, without its marker.
 fn octets_text(alloc: Global, octets: &Octets) -> Result<String> {
     let octets = octets.get(16..).unwrap_or(&[]);
     Ok(hex::encode_upper(alloc, octets)?)
 }
 
-/// The octets of the one UPDATE that tells on a session with a remote of this AS all that has a best route, without the marker.
+/// Returns the octets of the only UPDATE that tells all best routes on a session with a remote of this AS, without the
+/// marker.
 pub fn planned(alloc: Global, rib: &Rib, peering: u8, remote_as: u32) -> Result<String> {
     let mut due = DueSet::new(alloc);
     add_all(rib, &mut due)?;

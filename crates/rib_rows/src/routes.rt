@@ -1,5 +1,5 @@
-//! The route of a row: `path AS from ADDRESS`, and where it has them `med NUMBER`, `community OCTETS`, and `import NUMBER`, the
-//! preference that the import policy sets.
+//! The route of a row: `path AS from ADDRESS`, and, if it has them, `med NUMBER`, `community OCTETS`, and `import
+//! NUMBER`, the preference that the import policy sets.
 
 use crate::words::{address, number, value};
 use anyhow::{Context, Result};
@@ -26,7 +26,7 @@ fn numbers_of(words: &[&str]) -> Result<RouteNumbers> {
     })
 }
 
-/// The community of a route (RFC 1997), which is an attribute of an unknown type.
+/// Returns the community of a route (RFC 1997), which is an attribute of an unknown type.
 fn community_of(alloc: Global, words: &[&str]) -> Result<RawAttrs> {
     let Some(octets) = value(words, "community") else {
         return Ok(Items::new(alloc));
@@ -42,7 +42,7 @@ fn community_of(alloc: Global, words: &[&str]) -> Result<RawAttrs> {
     )?)
 }
 
-/// The route with these numbers.
+/// Returns the route with these numbers.
 fn route_with(alloc: Global, numbers: RouteNumbers, unknown: RawAttrs) -> Result<Route, NoMemory> {
     let ases = Items::one(alloc, numbers.as_number)?;
     Ok(Route {
@@ -59,7 +59,7 @@ fn route_with(alloc: Global, numbers: RouteNumbers, unknown: RawAttrs) -> Result
     })
 }
 
-/// The policy of one rule, which sets the preference; or of none.
+/// Returns the policy of one rule, which sets the preference, or of no rule.
 fn policy_of(alloc: Global, pref: Option<u32>) -> Result<Policy, NoMemory> {
     if pref.is_none() {
         return Ok(Policy::new(Items::new(alloc)));
@@ -79,7 +79,7 @@ fn policy_of(alloc: Global, pref: Option<u32>) -> Result<Policy, NoMemory> {
     Ok(Policy::new(rules))
 }
 
-/// The route of a row, as its import policy leaves it.
+/// Returns the route of a row, as its import policy leaves it.
 pub fn route_of(alloc: Global, words: &[&str], prefix: Prefix) -> Result<Option<Route>> {
     let numbers = numbers_of(words)?;
     let pref = number(words, "import")?;

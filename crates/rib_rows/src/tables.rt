@@ -1,4 +1,4 @@
-//! The routes of a router, and the calls of rows.
+//! The routes of a router, and the calls that rows make.
 
 use crate::plans::planned;
 use crate::routes::route_of;
@@ -9,8 +9,8 @@ use bgp_types::{From, Items, NoMemory, Prefix, PrefixList, RouterId};
 use rib_stages::{InEntry, Numbers, Rib, RibConfig};
 use std::alloc::Global;
 
-/// The routes of router 0 of AS 65000. The identifiers of routers 0 to 3 are 10.255.0.1 to 10.255.0.4, and the costs to routers 0 to 2 are
-/// 0, 1 and 2.
+/// Returns the routes of router 0 of AS 65000. The identifiers of routers 0 to 3 are 10.255.0.1 to 10.255.0.4, and the
+/// costs to routers 0 to 2 are 0, 1 and 2.
 pub fn tables(alloc: Global, networks: &[Prefix]) -> Result<Rib, NoMemory> {
     let networks = Items::from_slice(alloc, networks)?;
     let identifiers = Items::from_slice(
@@ -21,7 +21,7 @@ pub fn tables(alloc: Global, networks: &[Prefix]) -> Result<Rib, NoMemory> {
     of_config(alloc, identifiers, costs, networks)
 }
 
-/// The routes of router 0 with these identifiers, costs and own networks.
+/// Returns the routes of router 0 with these identifiers, costs and own networks.
 fn of_config(
     alloc: Global,
     identifiers: Numbers,
@@ -40,7 +40,7 @@ fn of_config(
     )
 }
 
-/// Begins anew, with the own networks that the row has from its second word on.
+/// Starts again, with the own networks that the row has from its second word on.
 fn begin(alloc: Global, rib: &mut Rib, words: &[&str]) -> Result<()> {
     let mut networks: Vec<Prefix> = Vec::new(alloc);
     for place in 1..words.len() {
@@ -50,7 +50,7 @@ fn begin(alloc: Global, rib: &mut Rib, words: &[&str]) -> Result<()> {
     Ok(())
 }
 
-/// A peering gives a route, or another router tells it.
+/// Sets a route that a peering gives or another router tells.
 fn hear(alloc: Global, rib: &mut Rib, words: &[&str]) -> Result<()> {
     let from = source(words)?;
     let prefix = prefix(words, 3)?;
@@ -66,7 +66,7 @@ fn hear(alloc: Global, rib: &mut Rib, words: &[&str]) -> Result<()> {
     Ok(())
 }
 
-/// A peering has no route to a prefix any more, or another router tells that.
+/// Removes the route to a prefix that a peering gave or another router told.
 fn lose(rib: &mut Rib, words: &[&str]) -> Result<()> {
     let from = source(words)?;
     let entry = InEntry {
@@ -79,7 +79,7 @@ fn lose(rib: &mut Rib, words: &[&str]) -> Result<()> {
     Ok(())
 }
 
-/// The least dirty prefix.
+/// Returns the least dirty prefix.
 fn least_dirty(alloc: Global, rib: &Rib) -> Result<String> {
     Ok(match rib.next_dirty() {
         Some(prefix) => format!(in alloc; "dirty {prefix}")?,
@@ -95,7 +95,7 @@ fn decide(rib: &mut Rib, prefix: Prefix, text: &mut String) -> Result<()> {
     Ok(())
 }
 
-/// Decides what is dirty, up to 100 prefixes.
+/// Decides up to 100 dirty prefixes.
 fn decide_all(alloc: Global, rib: &mut Rib) -> Result<String> {
     let mut text = String::new(alloc);
     for _n in 0..100u32 {
@@ -107,7 +107,7 @@ fn decide_all(alloc: Global, rib: &mut Rib) -> Result<String> {
     Ok(or_nothing(text)?)
 }
 
-/// The best route to a prefix, and where it comes from.
+/// Returns the best route to a prefix, and its source.
 fn best(alloc: Global, rib: &Rib, prefix: Prefix) -> Result<String> {
     let Some(best) = rib.best(prefix) else {
         return Ok(format!(in alloc; "nothing")?);
@@ -117,7 +117,7 @@ fn best(alloc: Global, rib: &Rib, prefix: Prefix) -> Result<String> {
     Ok(text)
 }
 
-/// The prefixes of the routes that come from there, as a list and one after the other.
+/// Returns the prefixes of the routes from a source, checked against the steps from one to the next.
 fn entries(alloc: Global, rib: &Rib, from: From) -> Result<String> {
     let mut text = String::new(alloc);
     let mut last = None;
@@ -134,7 +134,7 @@ fn entries(alloc: Global, rib: &Rib, from: From) -> Result<String> {
     Ok(or_nothing(text)?)
 }
 
-/// What the other routers are told of a prefix.
+/// Returns what the other routers are told about a prefix.
 fn told_inside(alloc: Global, rib: &Rib, prefix: Prefix) -> Result<String> {
     let Some(route) = rib.tell_in(prefix)? else {
         return Ok(format!(in alloc; "nothing")?);
@@ -147,13 +147,13 @@ fn told_inside(alloc: Global, rib: &Rib, prefix: Prefix) -> Result<String> {
     Ok(text)
 }
 
-/// What is told on a session, whose number stands third in the row and the AS of its remote behind `to`.
+/// Returns what is told on a session. Its number is the third word of the row, and the AS of its remote follows `to`.
 fn told_outside(alloc: Global, rib: &Rib, words: &[&str]) -> Result<String> {
     let remote_as = number(words, "to")?.context("an AS")?;
     planned(alloc, rib, small(words, 2)?, remote_as)
 }
 
-/// What a row that looks at the routes gives.
+/// Returns the answer to a row that looks at the routes.
 fn look(alloc: Global, rib: &Rib, words: &[&str]) -> Result<String> {
     match word(words, 0) {
         "best" => best(alloc, rib, prefix(words, 1)?),
@@ -165,7 +165,7 @@ fn look(alloc: Global, rib: &Rib, words: &[&str]) -> Result<String> {
     }
 }
 
-/// What a row gives. One that changes the routes gives the least dirty prefix.
+/// Returns the answer to a row. One that changes the routes answers with the least dirty prefix.
 pub fn answer(alloc: Global, rib: &mut Rib, words: &[&str]) -> Result<String> {
     match word(words, 0) {
         "router" => begin(alloc, rib, words)?,

@@ -1,9 +1,9 @@
-//! What rows give, as texts.
+//! Texts of the answers to rows.
 
 use bgp_types::{AsPath, From, NoMemory, PathPart, Prefix, Route};
 use std::alloc::Global;
 
-/// Adds the ASes of a part.
+/// Appends the AS numbers of a part.
 fn push_part(text: &mut String, part: &PathPart) -> Result<(), NoMemory> {
     let ases = match part {
         PathPart::Set(ases) => ases,
@@ -15,7 +15,7 @@ fn push_part(text: &mut String, part: &PathPart) -> Result<(), NoMemory> {
     Ok(())
 }
 
-/// Adds a path; a dash where it is empty.
+/// Appends a path, or a dash if it is empty.
 fn push_path(text: &mut String, path: &AsPath) -> Result<(), NoMemory> {
     text.push_str(" path")?;
     if path.is_empty() {
@@ -27,13 +27,13 @@ fn push_path(text: &mut String, path: &AsPath) -> Result<(), NoMemory> {
     Ok(())
 }
 
-/// Adds the preference and the path of a route.
+/// Appends the preference and the path of a route.
 pub fn push_route(text: &mut String, route: &Route) -> Result<(), NoMemory> {
     write!(text, "pref {}", route.pref)?;
     push_path(text, &route.attrs.path)
 }
 
-/// Where a route comes from.
+/// Returns the text of a route's source.
 pub fn from_text(alloc: Global, from: From) -> Result<String, NoMemory> {
     Ok(match from {
         From::Own => format!(in alloc; "own ")?,
@@ -42,7 +42,7 @@ pub fn from_text(alloc: Global, from: From) -> Result<String, NoMemory> {
     })
 }
 
-/// A list of prefixes as a text; `nothing` where it is empty.
+/// Returns a list of prefixes as a text, or `nothing` if it is empty.
 pub fn or_nothing(mut text: String) -> Result<String, NoMemory> {
     if text.is_empty() {
         text.push_str("nothing")?;
@@ -50,7 +50,7 @@ pub fn or_nothing(mut text: String) -> Result<String, NoMemory> {
     Ok(text)
 }
 
-/// Adds a prefix, behind a comma where it isn't the first.
+/// Appends a prefix, after a comma if it isn't the first.
 pub fn push_prefix(text: &mut String, prefix: Prefix) -> Result<(), NoMemory> {
     if !text.is_empty() {
         text.push_str(", ")?;

@@ -1,4 +1,4 @@
--- The candidates of a router for a prefix and the choice between them (RFC 4271, section 9.1.2), and where each stands.
+-- The candidates of a router for a prefix, their sources, and the choice between them (RFC 4271, section 9.1.2).
 use Rattle.std.specs.Prelude.{ℕ, ◌≡◌, ◌≤◌, ◌++◌, Bool, false, List, Option, Some, None, option_map, unwrap_or, slice_get, if◌then◌else◌}
 use Rattle.std.specs.List.{list_any, filter_map, range_with_len}
 use Rattle.std.specs.FinMap as map
@@ -15,7 +15,7 @@ use Rattle.rib_stages.specs.Values.{RibValue, set_of}
 
 -- ---- what is configured
 
--- the interior cost to a router: 1 where none is given
+-- the interior cost to a router: 1 if none is given
 abbrev pub cost_to : RibConfig → ℕ → ℕ
 cost_to config q = unwrap_or (slice_get config.costs q) 1
 
@@ -27,7 +27,7 @@ has_network config prefix = list_any (same_prefix prefix) config.networks
 
 -- ---- candidates
 
--- a told route has the telling router's identifier for its identifier and its address
+-- the identifier of the router that told a route counts as the route's identifier and as its address
 abbrev pub telling_candidate : RibConfig → ℕ → Option Route → Option Candidate
 telling_candidate config q telling = option_map (λ route. (record { from = Router (record { 0 = q }); route = route }, rank_of config.home_as false (cost_to config q) (identifier_of config q) (identifier_of config q) route)) telling
 
@@ -38,11 +38,11 @@ candidates_among peerings routers rib prefix =
     ++ filter_map (λ p. entry_candidate rib.config.home_as p (map.get (rib.entries p) prefix)) peerings
     ++ filter_map (λ q. telling_candidate rib.config q (map.get (rib.tellings q) prefix)) routers
 
--- the numbers that a peering or a router can have: those of an octet, in rising order
+-- the numbers that a peering or a router can have: those of an octet, in ascending order
 unfoldable pub source_numbers : List ℕ
 source_numbers = range_with_len 0 256
 
--- The own network first, then the peerings by rising number, then the routers by rising number.
+-- The own network first, then the peerings in ascending order of number, then the routers in ascending order of number.
 unfoldable pub candidates_of : RibValue → PrefixValue → List Candidate
 candidates_of rib prefix = candidates_among source_numbers source_numbers rib prefix
 
@@ -50,24 +50,24 @@ candidates_of rib prefix = candidates_among source_numbers source_numbers rib pr
 unfoldable pub chosen : RibValue → PrefixValue → Option Best
 chosen rib prefix = choice (candidates_of rib prefix)
 
--- Nothing stands at the prefix behind the first so many peerings and routers.
+-- No peering and no router from these numbers on has a route to the prefix.
 pub record NoneBehind (peerings routers : ℕ) (rib : RibValue) (prefix : PrefixValue) : Type 0 where
   pub entries : (p : ℕ) → peerings ≤ p → map.get (rib.entries p) prefix ≡ None
   pub tellings : (q : ℕ) → routers ≤ q → map.get (rib.tellings q) prefix ≡ None
 
--- A prefix that isn't dirty has the chosen route for its best, or none has been chosen and it has none.
+-- For a prefix that isn't dirty, the best route is the chosen one, or there is none if none is chosen.
 pub record IsDecided (rib : RibValue) : Type 0 where
   pub best : (prefix : PrefixValue) → has rib.dirty prefix ≡ false → map.get rib.best prefix ≡ chosen rib prefix
 
 -- ---- by source
 
--- the route that comes from there
+-- the route to a prefix from this source
 abbrev pub route_from : RibValue → From → PrefixValue → Option Route
 route_from rib Own prefix = if has_network rib.config prefix then Some own_route else None
 route_from rib (Peering p) prefix = option_map (λ e. e.route) (map.get (rib.entries p.0) prefix)
 route_from rib (Router q) prefix = map.get (rib.tellings q.0) prefix
 
--- the prefixes of the routes that come from there, in rising order
+-- the prefixes of the routes from this source, in ascending order
 abbrev pub prefixes_from : RibValue → From → List PrefixValue
 prefixes_from rib Own = map.keys (set_of rib.config.networks)
 prefixes_from rib (Peering p) = map.keys (rib.entries p.0)

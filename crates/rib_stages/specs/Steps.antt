@@ -12,11 +12,11 @@ use Rattle.session_value.specs.Sets.{Marks, MarksOne}
 use Rattle.rib_stages.specs.declared.config.InEntry.{InEntry}
 use Rattle.rib_stages.specs.Values.{RibValue}
 
--- the entry of a peering that is given: none where there is no route
+-- the entry that a peering gives: none if there is no route
 abbrev pub given : InEntry → Option Entry
 given entry = option_map (λ route. record { route = route; identifier = entry.identifier; address = entry.address }) entry.route
 
--- A peering gives a prefix this entry, or none, and the prefix is dirty.
+-- A peering gives this entry for a prefix, or none, and the prefix is dirty.
 pub record EntersEntry (before : RibValue) (p : ℕ) (prefix : PrefixValue) (entry : Option Entry) (after : RibValue) : Type 0 where
   pub effect : after ≡ record before { entries = at before.entries p (with_value (before.entries p) prefix entry); dirty = map.insert before.dirty prefix tt }
 
@@ -24,12 +24,12 @@ pub record EntersEntry (before : RibValue) (p : ℕ) (prefix : PrefixValue) (ent
 pub record EntersTelling (before : RibValue) (q : ℕ) (prefix : PrefixValue) (route : Option Route) (after : RibValue) : Type 0 where
   pub effect : after ≡ record before { tellings = at before.tellings q (with_value (before.tellings q) prefix route); dirty = map.insert before.dirty prefix tt }
 
--- A peering gives a prefix this entry, or none. The prefix is dirty where that is another entry than before.
+-- A peering gives this entry for a prefix, or none. The prefix becomes dirty if that is another entry than before.
 pub record SetsEntry (before : RibValue) (p : ℕ) (prefix : PrefixValue) (entry : Option Entry) (after : RibValue) : Type 0 where
   pub dirty : MarksOne before.dirty prefix (map.get (before.entries p) prefix) entry after.dirty
   pub effect : after ≡ record before { entries = at before.entries p (with_value (before.entries p) prefix entry); dirty = after.dirty }
 
--- A router tells this route to a prefix, or that there is none. The prefix is dirty where that is another route than before.
+-- A router tells this route to a prefix, or that there is none. The prefix becomes dirty if that is another route than before.
 pub record SetsTelling (before : RibValue) (q : ℕ) (prefix : PrefixValue) (route : Option Route) (after : RibValue) : Type 0 where
   pub dirty : MarksOne before.dirty prefix (map.get (before.tellings q) prefix) route after.dirty
   pub effect : after ≡ record before { tellings = at before.tellings q (with_value (before.tellings q) prefix route); dirty = after.dirty }
@@ -39,18 +39,18 @@ SetsIn before Own entry after = after ≡ before
 SetsIn before (Peering p) entry after = SetsEntry before p.0 entry.prefix (given entry) after
 SetsIn before (Router q) entry after = SetsTelling before q.0 entry.prefix entry.route after
 
--- Nothing changes but that the prefix may be dirty.
+-- Nothing changes, except that the prefix may become dirty.
 pub record MayMark (before : RibValue) (prefix : PrefixValue) (after : RibValue) : Type 0 where
   pub dirty : (after.dirty ≡ before.dirty) ⊎ (after.dirty ≡ map.insert before.dirty prefix tt)
   pub effect : after ≡ record before { dirty = after.dirty }
 
--- Some entries of a peering go, and their prefixes are dirty.
+-- Some entries of a peering are removed, and their prefixes are dirty.
 pub record DropsEntries (before : RibValue) (p : ℕ) (after : RibValue) : Type 0 where
   pub left : (prefix : PrefixValue) → (map.get (after.entries p) prefix ≡ None) ⊎ (map.get (after.entries p) prefix ≡ map.get (before.entries p) prefix)
   pub dirty : Marks before.dirty (before.entries p) (after.entries p) after.dirty
   pub effect : after ≡ record before { entries = at before.entries p (after.entries p); dirty = after.dirty }
 
--- Some routes that a router told go, and their prefixes are dirty.
+-- Some routes that a router told are removed, and their prefixes are dirty.
 pub record DropsTellings (before : RibValue) (q : ℕ) (after : RibValue) : Type 0 where
   pub left : (prefix : PrefixValue) → (map.get (after.tellings q) prefix ≡ None) ⊎ (map.get (after.tellings q) prefix ≡ map.get (before.tellings q) prefix)
   pub dirty : Marks before.dirty (before.tellings q) (after.tellings q) after.dirty
@@ -61,7 +61,7 @@ DropsSome before Own after = after ≡ before
 DropsSome before (Peering p) after = DropsEntries before p.0 after
 DropsSome before (Router q) after = DropsTellings before q.0 after
 
--- All that comes from there goes, and its prefixes are dirty.
+-- All routes from this source are removed, and their prefixes are dirty.
 abbrev pub DropsAll : RibValue → From → RibValue → Type 0
 DropsAll before Own after = after ≡ before
 DropsAll before (Peering p) after = DropsEntries before p.0 after × (after.entries p.0 ≡ map.empty)

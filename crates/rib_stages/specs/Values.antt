@@ -12,8 +12,8 @@ use Rattle.route_policy.specs.declared.entry.Entry.{Entry}
 use Rattle.session_value.specs.Sets.{BestRoutes, Entries, Prefixes, Tellings}
 use Rattle.rib_stages.specs.declared.config.RibConfig.{RibConfig}
 
--- What is configured; what each peering and each other router gave, by number; the best route to each prefix; and the prefixes that are
--- to be decided again.
+-- What is configured; what each peering and each other router gave, by number; the best route to each prefix; and the prefixes that have to be
+-- decided again.
 pub record RibValue : Type 0 where
   pub config : RibConfig
   pub entries : ℕ → Entries
@@ -21,7 +21,7 @@ pub record RibValue : Type 0 where
   pub best : BestRoutes
   pub dirty : Prefixes
 
--- The same as it is stored: the tables of the peerings and of the routers stand in lists, by number.
+-- The same as it is stored: the tables of the peerings and of the routers are in lists, by number.
 pub record RibStore : Type 0 where
   pub config : RibConfig
   pub entries : List Entries
@@ -29,18 +29,18 @@ pub record RibStore : Type 0 where
   pub best : BestRoutes
   pub dirty : Prefixes
 
--- the table at a place, which is empty behind the last
+-- the table at a place, which is empty past the last
 abbrev pub table_at : {A : Type 0} → List (map.FinMap prefix_cmp A) → ℕ → map.FinMap prefix_cmp A
 table_at tables n = unwrap_or (slice_get tables n) map.empty
 
--- what tables have, without their room
+-- the contents of tables, without their room
 abbrev pub contents_of : {A : Type 0} → List (TableValue A) → List (map.FinMap prefix_cmp A)
 contents_of tables = list_map (λ t. t.contents) tables
 
 abbrev pub tables_of : {A : Type 0} → List (TableValue A) → ℕ → map.FinMap prefix_cmp A
 tables_of tables = table_at (contents_of tables)
 
--- for how many further prefixes the table at a place surely has memory
+-- a number of further prefixes for which the table at a place is certain to have memory
 abbrev pub room_at : {A : Type 0} → List (TableValue A) → ℕ → ℕ
 room_at tables n = unwrap_or (option_map (λ t. t.room) (slice_get tables n)) 0
 

@@ -1,5 +1,5 @@
-//! The routes of a router: what its peerings and the other routers of the home network gave, the best of these for each prefix, and
-//! what is to be told (RFC 4271, sections 3.2 and 9.1).
+//! The routes of a router: what its peerings and the other home routers gave, the best of these for
+//! each prefix, and what is to be told (RFC 4271, sections 3.2 and 9.1).
 #![tactic(auto)]
 
 mod config;

@@ -12,10 +12,10 @@ use decision_groups::GroupSet;
 use prefix_trie::TrieTable;
 use std::alloc::Global;
 
-/// For each prefix that has routes, their ranks.
+/// The ranks of each prefix that has routes.
 pub(crate) type Groups = TrieTable<GroupSet>;
 
-/// Gives a prefix a rank. If memory runs out, no rank changes.
+/// Sets the rank that a prefix has from a source. If memory runs out, no rank changes.
 pub(crate) fn set_rank(
     groups: &mut Groups,
     alloc: Global,
@@ -37,7 +37,7 @@ pub(crate) fn set_rank(
     }
 }
 
-/// Takes a rank out of a prefix's ranks, and answers whether none is left.
+/// Removes a rank from a prefix's ranks, and returns whether none is left.
 fn take_rank(set: &mut GroupSet, from: From) -> bool
     ensures left { set.new ≡ without set.old from }
     ensures empty { IsTrue result ↔ (set.new ≡ []) }
@@ -47,7 +47,8 @@ fn take_rank(set: &mut GroupSet, from: From) -> bool
     set.is_empty()
 }
 
-/// Takes a rank out. The ranks of a prefix go with their last one.
+/// Removes the rank that a prefix has from a source. A prefix whose last rank is removed is removed
+/// too.
 pub(crate) fn drop_rank(groups: &mut Groups, prefix: Prefix, from: From)
     ensures { SetsRank groups.old.contents prefix from None groups.new.contents }
 {
@@ -59,7 +60,7 @@ pub(crate) fn drop_rank(groups: &mut Groups, prefix: Prefix, from: From)
     }
 }
 
-/// Where the chosen one of a prefix's ranks comes from.
+/// Returns the source of the chosen one of a prefix's ranks.
 pub(crate) fn best_from(groups: &Groups, prefix: Prefix) -> Option<From>
     ensures choice { result ≡ choice (ranks_at groups.now.contents prefix) }
     ensures in_order { IsInOrder (ranks_at groups.now.contents prefix) }

@@ -26,12 +26,13 @@ use route_policy::{Best, Entry, OutView, own_rank, router_rank, session_rank};
 use std::alloc::Global;
 use std::marker::Model;
 
-/// What the peerings and the other home routers of a router gave, the best route to each prefix, and the prefixes that are to be
-/// decided again. A prefix that isn't dirty has the chosen one of its candidates for its best.
+/// What the peerings and the other home routers gave a router, the best route to each prefix, and the
+/// dirty prefixes, which have to be decided again. For a prefix that isn't dirty, the best route is the
+/// chosen one of its candidates.
 ///
-/// Each call but `drop_from` goes a few ways of at most 33 steps, however many prefixes there are. A change of one
-/// route looks through the candidates of one neighbour AS for its prefix, and a decision through one champion of each
-/// neighbour AS. `drop_from` takes such a time for each route that it drops.
+/// A call for one prefix makes a few descents of at most 33 steps, however many prefixes there are. A
+/// change of one route looks through the candidates of one neighbour AS for its prefix, and a decision
+/// through one champion of each neighbour AS. `drop_from` takes that time for each route that it drops.
 #[derive(Drop)]
 pub struct Rib {
     alloc: Global,
@@ -60,7 +61,7 @@ impl Model for Rib {
     ghost invariant = { λ r. IsRib (record { config = r.config; entries = tables_of r.peerings; tellings = tables_of r.routers; best = r.loc.best; dirty = r.loc.dirty }) r.groups.contents r.networks.contents r.own_route };
 }
 
-/// The route to a network of the router's own.
+/// Returns the route to a network of the router's own.
 fn own_route(alloc: Global) -> Route
     ensures { result ≡ own_route_lem }
 {
@@ -78,7 +79,7 @@ fn own_route(alloc: Global) -> Route
     }
 }
 
-/// The entry of a peering that is given, if there is a route.
+/// Returns the entry of a peering, if there is a route.
 fn entry_of(route: Option<Route>, identifier: u32, address: u32) -> Option<Entry>
     ensures { result ≡ option_map (λ r. record { route = r; identifier = identifier; address = address }) route }
 {
@@ -92,7 +93,7 @@ fn entry_of(route: Option<Route>, identifier: u32, address: u32) -> Option<Entry
     }
 }
 
-/// Whether two entries are the same, or neither is there.
+/// Whether two entries are the same, or both are absent.
 #[tactic(auto, using(crate::proofs::Equality::entry_equal))]
 fn is_same_entry(held: Option<&Entry>, entry: &Option<Entry>) -> bool
     ensures { MatchBool result (entry.now ≡ option_copied held.entry) (entry.now ≢ option_copied held.entry) }
@@ -104,7 +105,7 @@ fn is_same_entry(held: Option<&Entry>, entry: &Option<Entry>) -> bool
     }
 }
 
-/// Whether two routes are the same, or neither is there.
+/// Whether two routes are the same, or both are absent.
 #[tactic(auto, using(bgp_types::proofs::Equality::route_equal))]
 fn is_same_route(held: Option<&Route>, route: &Option<Route>) -> bool
     ensures { MatchBool result (route.now ≡ option_copied held.entry) (route.now ≢ option_copied held.entry) }
@@ -116,7 +117,7 @@ fn is_same_route(held: Option<&Route>, route: &Option<Route>) -> bool
     }
 }
 
-/// The route that comes from there, where `own` is that of an own network.
+/// Returns the route to a prefix from this source, where `own` is the route to an own network.
 fn route_of<'a>(
     own: &'a Route,
     peerings: &'a Sources<Entry>,
@@ -136,21 +137,21 @@ fn route_of<'a>(
     }
 }
 
-/// The interior cost to a router: 1 where none is given.
+/// Returns the interior cost to a router: 1 if none is given.
 fn cost_to(config: &RibConfig, q: usize) -> u32
     ensures { result ≡ cost_to_lem config.now q }
 {
     config.costs.get(q).copied().unwrap_or(1)
 }
 
-/// The BGP Identifier of a router: 0 where none is given.
+/// Returns the BGP Identifier of a router: 0 if none is given.
 fn identifier_of(config: &RibConfig, q: usize) -> u32
     ensures { result ≡ identifier_of_lem config.now q }
 {
     config.identifiers.get(q).copied().unwrap_or(0)
 }
 
-/// The rank of a route that a router told.
+/// Returns the rank of a route that a router told.
 fn telling_rank(config: &RibConfig, q: u8, route: &Route) -> Rank
     ensures { result ≡ rank_of config.now.home_as false (cost_to_lem config.now q) (identifier_of_lem config.now q) (identifier_of_lem config.now q) route.now }
 {
@@ -159,7 +160,7 @@ fn telling_rank(config: &RibConfig, q: u8, route: &Route) -> Rank
     router_rank(config.home_as, cost, identifier_of(config, number), route)
 }
 
-/// Puts a prefix into a set.
+/// Adds a prefix to a set.
 fn insert(set: &mut TrieTable<()>, prefix: Prefix) -> Result<(), NoMemory>
     ensures { OnOk result (set.new.contents ≡ map.insert set.old.contents prefix tt) }
 {
@@ -177,7 +178,7 @@ struct Start {
     loc: LocRib,
 }
 
-/// Makes the own networks dirty, and gives each its rank.
+/// Marks the own networks as dirty, and gives each its rank.
 fn add_networks(
     alloc: Global,
     rank: Rank,
@@ -201,7 +202,7 @@ fn add_networks(
     Ok(())
 }
 
-/// The own networks, their ranks, and that each is dirty.
+/// Returns the own networks and their ranks, with each network dirty.
 fn begin(alloc: Global, rank: Rank, list: &[Prefix]) -> Result<Start, NoMemory>
     ensures networks { IfOk result (λ s. s.networks.contents ≡ set_of list.now) }
     ensures ranks { IfOk result (λ s. HasOwnRanks rank list.now s.groups.contents) }
@@ -224,7 +225,8 @@ fn begin(alloc: Global, rank: Rank, list: &[Prefix]) -> Result<Start, NoMemory>
 }
 
 impl Rib {
-    /// The routes of a router at its start: no route but those of its own networks, which are dirty.
+    /// Returns the routes of a router at its start: none but those of its own networks, which are
+    /// dirty. If memory runs out, the configuration is lost.
     #[tactic(auto, using(crate::proofs::Whole::whole_fresh, crate::proofs::Whole::fresh_is))]
     pub fn new(alloc: Global, config: RibConfig) -> Result<Rib, NoMemory>
         ensures { IfOk result (λ rib. rib_of rib ≡ record { config = config; entries = λ p. map.empty; tellings = λ q. map.empty; best = map.empty; dirty = set_of config.networks }) }
@@ -249,8 +251,9 @@ impl Rib {
         })
     }
 
-    /// A peering gives an entry, or another router tells a route. The prefix is dirty where that is another than before. Own networks are
-    /// configured: from `Own` nothing is taken. If memory runs out, the prefix may be dirty, and nothing else changes.
+    /// Sets the entry of a peering for a prefix, or the route that another router tells for it. The
+    /// prefix is dirty if that changes anything. Own networks are configured: from `Own` nothing is
+    /// accepted. If memory runs out, the prefix may be dirty, and nothing else changes.
     pub fn set_in(&mut self, from: From, entry: InEntry) -> Result<(), NoMemory>
         ensures ok { OnOk result (SetsIn (rib_of self.old) from entry (rib_of self.new)) }
         ensures err { OnErr result (MayMark (rib_of self.old) entry.prefix (rib_of self.new)) }
@@ -268,7 +271,8 @@ impl Rib {
         }
     }
 
-    /// Gives a prefix an entry of a peering, or none.
+    /// Sets the entry of a peering for a prefix, or removes it. If memory runs out, the prefix may be
+    /// dirty, and nothing else changes.
     #[tactic(auto, using(crate::proofs::Whole::sets_entry_ok, crate::proofs::Whole::nothing_ok))]
     fn set_entry(&mut self, n: u8, prefix: Prefix, entry: Option<Entry>) -> Result<(), NoMemory>
         ensures ok { OnOk result (SetsEntry (rib_of self.old) n prefix entry (rib_of self.new)) }
@@ -283,7 +287,8 @@ impl Rib {
         }
     }
 
-    /// Gives a prefix an entry of a peering, and makes it dirty.
+    /// Sets the entry of a peering for a prefix, and marks the prefix as dirty. If memory runs out, the
+    /// prefix may be dirty, and nothing else changes.
     fn put_entry(&mut self, n: u8, prefix: Prefix, entry: Entry) -> Result<(), NoMemory>
         ensures ok { OnOk result (EntersEntry (rib_of self.old) n prefix (Some entry) (rib_of self.new)) }
         ensures err { OnErr result (MayMark (rib_of self.old) prefix (rib_of self.new)) }
@@ -307,7 +312,8 @@ impl Rib {
         Ok(())
     }
 
-    /// Takes an entry of a peering out, and makes its prefix dirty. If memory runs out, nothing changes.
+    /// Removes the entry of a peering for a prefix, and marks the prefix as dirty. If memory runs out,
+    /// nothing changes.
     fn take_entry(&mut self, n: u8, prefix: Prefix) -> Result<(), NoMemory>
         ensures ok { OnOk result (EntersEntry (rib_of self.old) n prefix None (rib_of self.new)) }
         ensures err { OnErr result (rib_of self.new ≡ rib_of self.old) }
@@ -318,7 +324,8 @@ impl Rib {
         Ok(())
     }
 
-    /// Gives a prefix a route that a router told, or none.
+    /// Sets the route that a router told for a prefix, or removes it. If memory runs out, the prefix
+    /// may be dirty, and nothing else changes.
     #[tactic(auto, using(crate::proofs::Whole::sets_telling_ok, crate::proofs::Whole::nothing_ok))]
     fn set_telling(&mut self, n: u8, prefix: Prefix, route: Option<Route>) -> Result<(), NoMemory>
         ensures ok { OnOk result (SetsTelling (rib_of self.old) n prefix route (rib_of self.new)) }
@@ -333,7 +340,8 @@ impl Rib {
         }
     }
 
-    /// Gives a prefix a route that a router told, and makes it dirty.
+    /// Sets the route that a router told for a prefix, and marks the prefix as dirty. If memory runs
+    /// out, the prefix may be dirty, and nothing else changes.
     fn put_telling(&mut self, n: u8, prefix: Prefix, route: Route) -> Result<(), NoMemory>
         ensures ok { OnOk result (EntersTelling (rib_of self.old) n prefix (Some route) (rib_of self.new)) }
         ensures err { OnErr result (MayMark (rib_of self.old) prefix (rib_of self.new)) }
@@ -352,7 +360,8 @@ impl Rib {
         Ok(())
     }
 
-    /// Takes a route that a router told out, and makes its prefix dirty. If memory runs out, nothing changes.
+    /// Removes the route that a router told for a prefix, and marks the prefix as dirty. If memory runs
+    /// out, nothing changes.
     fn take_telling(&mut self, n: u8, prefix: Prefix) -> Result<(), NoMemory>
         ensures ok { OnOk result (EntersTelling (rib_of self.old) n prefix None (rib_of self.new)) }
         ensures err { OnErr result (rib_of self.new ≡ rib_of self.old) }
@@ -363,7 +372,8 @@ impl Rib {
         Ok(())
     }
 
-    /// All that a peering or another router gave goes, and its prefixes are dirty. If memory runs out, some of it is gone.
+    /// Removes all that a peering or another router gave, and marks its prefixes as dirty. If memory
+    /// runs out, some of it may be removed.
     pub fn drop_from(&mut self, from: From) -> Result<(), NoMemory>
         ensures ok { OnOk result (DropsAll (rib_of self.old) from (rib_of self.new)) }
         ensures err { OnErr result (DropsSome (rib_of self.old) from (rib_of self.new)) }
@@ -375,7 +385,8 @@ impl Rib {
         }
     }
 
-    /// Takes all entries of a peering out.
+    /// Removes all entries of a peering, and marks their prefixes as dirty. If memory runs out, some
+    /// may be removed.
     fn drop_entries(&mut self, n: u8) -> Result<(), NoMemory>
         ensures some { DropsEntries (rib_of self.old) n (rib_of self.new) }
         ensures all { OnOk result ((rib_of self.new).entries n ≡ map.empty) }
@@ -386,7 +397,8 @@ impl Rib {
         Ok(())
     }
 
-    /// Takes all routes that a router told out.
+    /// Removes all routes that a router told, and marks their prefixes as dirty. If memory runs out,
+    /// some may be removed.
     fn drop_tellings(&mut self, n: u8) -> Result<(), NoMemory>
         ensures some { DropsTellings (rib_of self.old) n (rib_of self.new) }
         ensures all { OnOk result ((rib_of self.new).tellings n ≡ map.empty) }
@@ -397,7 +409,7 @@ impl Rib {
         Ok(())
     }
 
-    /// Makes a prefix dirty. If memory runs out, nothing changes.
+    /// Marks a prefix as dirty. If memory runs out, nothing changes.
     pub fn mark(&mut self, prefix: Prefix) -> Result<(), NoMemory>
         ensures ok { OnOk result (self.new ≡ record self.old { dirty = map.insert self.old.dirty prefix tt }) }
         ensures err { OnErr result (self.new ≡ self.old) }
@@ -405,8 +417,9 @@ impl Rib {
         self.loc.mark(prefix)
     }
 
-    /// Gives a prefix the chosen one of its candidates for its best, or none where there is no candidate, and answers whether that is
-    /// another than it had. The prefix is dirty no more. If memory runs out, nothing changes.
+    /// Sets the best route of a prefix to the chosen one of its candidates, or to none if there is no
+    /// candidate, and returns whether it changed. The prefix is no longer dirty. If memory runs out,
+    /// nothing changes.
     pub fn decide(&mut self, prefix: Prefix) -> Result<bool, NoMemory>
         ensures changed { IfOk result (λ changed. AreApart (chosen (rib_of self.old) prefix) (map.get self.old.best prefix) changed) }
         ensures ok { OnOk result (self.new ≡ record self.old { best = with_best self.old.best prefix (chosen (rib_of self.old) prefix); dirty = map.remove self.old.dirty prefix }) }
@@ -426,14 +439,14 @@ impl Rib {
         Ok(changed)
     }
 
-    /// The AS number of the home network.
+    /// Returns the AS number of the home network.
     pub fn home_as(&self) -> u32
         ensures { result ≡ self.now.config.home_as }
     {
         self.config.home_as
     }
 
-    /// The least dirty prefix.
+    /// Returns the least dirty prefix.
     pub fn next_dirty(&self) -> Option<Prefix>
         ensures next { result ≡ first_above None (map.keys self.now.dirty) }
         ensures decided { IsDecided (rib_of self.now) }
@@ -441,14 +454,14 @@ impl Rib {
         self.loc.next_dirty()
     }
 
-    /// Whether a prefix is to be decided again.
+    /// Whether a prefix is dirty, so that it has to be decided again.
     pub fn is_dirty(&self, prefix: Prefix) -> bool
         ensures { result ≡ has self.now.dirty prefix }
     {
         self.loc.is_dirty(prefix)
     }
 
-    /// The best route to a prefix.
+    /// Returns the best route to a prefix.
     pub fn best(&self, prefix: Prefix) -> Option<&Best>
         ensures best { option_copied result ≡ map.get self.now.best prefix }
         ensures decided { has self.now.dirty prefix ≡ false → option_copied result ≡ chosen (rib_of self.now) prefix }
@@ -456,7 +469,7 @@ impl Rib {
         self.loc.get(prefix)
     }
 
-    /// The route to a prefix that comes from there.
+    /// Returns the route to a prefix from this source.
     pub fn entry(&self, from: From, prefix: Prefix) -> Option<&Route>
         ensures { option_copied result ≡ route_from (rib_of self.now) from prefix }
     {
@@ -467,7 +480,7 @@ impl Rib {
         }
     }
 
-    /// The route to a network of the router's own.
+    /// Returns the route to a network of the router's own.
     fn own_network(&self, prefix: Prefix) -> Option<&Route>
         ensures { option_copied result ≡ route_from (rib_of self.now) Own prefix }
     {
@@ -477,7 +490,7 @@ impl Rib {
         }
     }
 
-    /// The route of a peering's entry.
+    /// Returns the route of a peering's entry.
     fn peering_route(&self, p: PeeringId, prefix: Prefix) -> Option<&Route>
         ensures { option_copied result ≡ route_from (rib_of self.now) (Peering p) prefix }
     {
@@ -485,21 +498,24 @@ impl Rib {
         Some(&entry.route)
     }
 
-    /// The least prefix with a best route that is above another, or the least of all.
+    /// Returns the least prefix with a best route that is above another, or the least of all for
+    /// `None`.
     pub fn next_best(&self, after: Option<Prefix>) -> Option<Prefix>
         ensures { result ≡ first_above after (map.keys self.now.best) }
     {
         self.loc.next_after(after)
     }
 
-    /// The prefixes with a best route, in rising order. It visits each of them once, and asks for memory once.
+    /// Returns the prefixes with a best route, in ascending order. It visits each of them once, and
+    /// allocates once.
     pub fn best_prefixes(&self) -> Result<PrefixList, NoMemory>
         ensures { IfOk result (λ prefixes. prefixes ≡ map.keys self.now.best) }
     {
         self.loc.prefixes()
     }
 
-    /// The least prefix with a route from there that is above another, or the least of all.
+    /// Returns the least prefix with a route from this source that is above another, or the least of
+    /// all for `None`.
     pub fn next_entry(&self, from: From, after: Option<Prefix>) -> Option<Prefix>
         ensures { result ≡ first_above after (prefixes_from (rib_of self.now) from) }
     {
@@ -510,7 +526,8 @@ impl Rib {
         }
     }
 
-    /// The prefixes with a route from there, in rising order. It visits each of them once, and asks for memory once.
+    /// Returns the prefixes with a route from this source, in ascending order. It visits each of them
+    /// once, and allocates once.
     pub fn entry_prefixes(&self, from: From) -> Result<PrefixList, NoMemory>
         ensures { IfOk result (λ prefixes. prefixes ≡ prefixes_from (rib_of self.now) from) }
     {
@@ -521,14 +538,15 @@ impl Rib {
         }
     }
 
-    /// What another home router is told of a prefix: a copy of the best route where that is own or external.
+    /// Returns what another home router is told of a prefix: a copy of the best route if that is own or
+    /// external.
     pub fn tell_in(&self, prefix: Prefix) -> Result<Option<Route>, NoMemory>
         ensures { IfOk result (λ told. told ≡ tell_in_lem (map.get self.now.best prefix)) }
     {
         route_policy::tell_in(self.loc.get(prefix))
     }
 
-    /// What is told of a prefix on a session, made of one copy of the best route.
+    /// Returns what is told of a prefix on a session, made from one copy of the best route.
     pub fn tell_out(&self, prefix: Prefix, view: &OutView<'_>) -> Result<Option<Attrs>, NoMemory>
         ensures { IfOk result (λ told. told ≡ tell_out_lem self.now.config.home_as (out_side view.now) prefix (map.get self.now.best prefix)) }
     {

@@ -11,7 +11,7 @@ use prefix_trie::TrieTable;
 use std::alloc::Global;
 use std::marker::Model;
 
-/// How many numbers an octet has.
+/// The number of values of an octet.
 const COUNT: u32 = 256;
 
 /// A table for each number that an octet can have.
@@ -35,7 +35,7 @@ impl<V> Model for Sources<V> {
 }
 
 impl<V: Drop> Sources<V> {
-    /// Tables without a prefix.
+    /// Returns tables without a prefix.
     pub fn new(alloc: Global) -> Result<Sources<V>, NoMemory>
         ensures { IfOk result (λ s. contents_of s ≡ replicate 256 map.empty) }
     {
@@ -46,7 +46,7 @@ impl<V: Drop> Sources<V> {
         Ok(Sources { tables })
     }
 
-    /// The value of a prefix in a table.
+    /// Returns the value of a prefix in a table.
     pub fn get(&self, n: u8, prefix: Prefix) -> Option<&V>
         ensures { option_copied result ≡ map.get (tables_of self.now n) prefix }
     {
@@ -54,7 +54,7 @@ impl<V: Drop> Sources<V> {
         table.get(prefix)
     }
 
-    /// The least prefix of a table that is above another, or the least of all.
+    /// Returns the least prefix of a table that is above another, or the least of all for `None`.
     pub fn next_after(&self, n: u8, after: Option<Prefix>) -> Option<Prefix>
         ensures { result ≡ first_above after (map.keys (tables_of self.now n)) }
     {
@@ -62,7 +62,7 @@ impl<V: Drop> Sources<V> {
         table.next_after(after)
     }
 
-    /// The prefixes of a table, in rising order.
+    /// Returns the prefixes of a table, in ascending order.
     pub fn prefixes(&self, n: u8) -> Result<PrefixList, NoMemory>
         ensures { IfOk result (λ prefixes. prefixes ≡ map.keys (tables_of self.now n)) }
     {
@@ -70,7 +70,7 @@ impl<V: Drop> Sources<V> {
         table.prefixes()
     }
 
-    /// Takes memory for one further prefix in a table.
+    /// Allocates memory for one further prefix in a table. If memory runs out, no table changes.
     pub fn reserve(&mut self, n: u8) -> Result<(), NoMemory>
         ensures contents { tables_of self.new ≡ tables_of self.old }
         ensures room { OnOk result (1 ≤ room_at self.new n) }
@@ -79,7 +79,7 @@ impl<V: Drop> Sources<V> {
         table.reserve(1)
     }
 
-    /// Gives a prefix a value in a table that has memory for one further prefix.
+    /// Sets the value of a prefix in a table, which has to have memory for one further prefix.
     pub fn set_reserved(&mut self, n: u8, prefix: Prefix, value: V)
         requires { 1 ≤ room_at self.old n }
         ensures { tables_of self.new ≡ at (tables_of self.old) n (map.insert (tables_of self.old n) prefix value) }
@@ -88,7 +88,7 @@ impl<V: Drop> Sources<V> {
         table.set_reserved(prefix, value);
     }
 
-    /// Takes a prefix out of a table.
+    /// Removes a prefix from a table.
     pub fn remove(&mut self, n: u8, prefix: Prefix)
         ensures { tables_of self.new ≡ at (tables_of self.old) n (map.remove (tables_of self.old n) prefix) }
     {

@@ -1,4 +1,4 @@
--- What one turn leaves of a cell.
+-- What one turn does to a cell.
 use Rattle.std.specs.Prelude.{ℕ, ◌≡◌, ◌≤◌, ◌<◌, ◌+◌, true, false, Option, None, List, ◌++◌, length, slice_index_or}
 use Rattle.std.specs.declared.alloc.Global.{Global}
 use Rattle.rtrb.specs.declared.producer.Producer.{Producer}
@@ -24,7 +24,7 @@ abbrev pub with_clock : {A I : Type 0} → ℕ → Cell A I → Cell A I
 with_clock clock c = record c { post = record c.post { clock = clock } }
 
 module _ {A P I : Type 0} (part : A → P) (makes : Makes P I) (took : A → ℕ → I → List (Deed I) → A → Type 0) (turned : A → List (Deed I) → A → Type 0) where
-  -- one turn in which memory was found
+  -- one turn that didn't run out of memory
   pub record CellDid (old new : Cell A I) : Type 0 where
     pub notes : List (Noted I)
     pub did : ActorDid part makes took turned (actor_of old.post) old.actor (clock_of old.post) notes new.actor (clock_of new.post)

@@ -1,4 +1,4 @@
--- What levelling and a call at a mark leave of the cells.
+-- What levelling and a call at a mark do to the cells.
 use Rattle.std.specs.Prelude.{ℕ, ◌≡◌, ◌≤◌, ◌<◌, Bool, List, length, map, slice_get, slice_index_or, slice_set}
 use Rattle.ring_net.specs.declared.cell.Cell.{Cell}
 use Rattle.ring_net.specs.Deeds.{Deed, Makes}
@@ -16,12 +16,12 @@ module _ {A I : Type 0} where
     pub is : (d : Cell A I) → clock_of (slice_index_or old here d).post ≡ clock
     pub all : new ≡ map (with_clock clock) old
 
-  -- an actor and its post may have changed
+  -- only an actor and its post may have changed
   pub record PausesCell (old new : Cell A I) : Type 0 where
     pub only : new ≡ record old { actor = new.actor; post = new.post }
     pub edges : SameEdges old.post new.post
 
-  -- the ends of rings and the outboxes that are there stay
+  -- the ends of rings stay as they are, and there are outboxes for the same receivers
   pub record KeepsEnds (old new : List (Cell A I)) : Type 0 where
     pub outs : (a b : ℕ) → out_end new a b ≡ out_end old a b
     pub ins : (a b : ℕ) → in_end new a b ≡ in_end old a b

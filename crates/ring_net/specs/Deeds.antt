@@ -4,7 +4,7 @@ use Rattle.std.specs.List.{AllByRecursion}
 use Rattle.ring_net.specs.declared.entry.JournalEntry.{JournalEntry}
 use Rattle.ring_net.specs.declared.entry.Stamped.{Stamped}
 
--- One event: its entry, the item that it took and whose, and the items that it sent and to whom.
+-- One event: its entry, the item that it took with its sender, and the items that it sent with their receivers.
 pub record Deed (I : Type 0) : Type 0 where
   pub entry : JournalEntry
   pub taken : Option (ℕ × I)
@@ -15,7 +15,7 @@ pub record Noted (I : Type 0) : Type 0 where
   pub deed : Deed I
   pub stamp : ℕ
 
--- Which events an actor of this number may make, of parts of type P: the part before, the entry, what it takes, what it sends, the part after.
+-- The events that an actor of this number may make, on parts of type P: the part before, the entry, what it takes, what it sends, the part after.
 abbrev pub Makes : Type 0 → Type 0 → Type 1
 Makes P I = (actor : ℕ) → P → JournalEntry → Option (ℕ × I) → List (ℕ × I) → P → Type 0
 
@@ -30,16 +30,16 @@ module _ {I : Type 0} where
   items_for b [] = []
   items_for b (x ∷ xs) = if x.0 == b then x.1 ∷ items_for b xs else items_for b xs
 
-  -- these items with one stamp
+  -- these items, all with one stamp
   abbrev pub stamped : ℕ → List I → List (Stamped I)
   stamped c xs = map (λ x. record { stamp = record { 0 = c }; item = x }) xs
 
-  -- the item that was taken, where it was one of a
+  -- the item that was taken, if it was sent by a
   abbrev pub from_option : ℕ → ℕ → Option (ℕ × I) → List (Stamped I)
   from_option a s None = []
   from_option a s (Some t) = if t.0 == a then record { stamp = record { 0 = s }; item = t.1 } ∷ [] else []
 
-  -- whose item was taken
+  -- the sender of the item that was taken
   abbrev pub sender_of : Option (ℕ × I) → List ℕ
   sender_of None = []
   sender_of (Some t) = t.0 ∷ []
@@ -64,11 +64,11 @@ module _ {I : Type 0} where
   abbrev pub puts : ℕ → Noted I → List (Stamped I)
   puts b n = puts_by b n.deed
 
-  -- what one event takes from the channel of a
+  -- what one event takes from the channel from a
   abbrev pub gets : ℕ → Noted I → List (Stamped I)
   gets a n = from_option a n.stamp n.deed.taken
 
-  -- the same of the events of one actor
+  -- the same for all events of one actor
   abbrev pub sent_by : ℕ → List (Deed I) → List (Stamped I)
   sent_by b ds = flat_map (puts_by b) ds
 
@@ -78,17 +78,17 @@ module _ {I : Type 0} where
   abbrev pub taken_from : ℕ → List (Noted I) → List (Stamped I)
   taken_from a ns = flat_map (gets a) ns
 
-  -- the greater of this clock and this stamp, where an item with the stamp is taken; else this clock
+  -- the greater of this clock and this stamp, if an item with the stamp is taken; else this clock
   abbrev pub met : ℕ → ℕ → Option (ℕ × I) → ℕ
   met c stamp None = c
   met c stamp (Some x) = max c stamp
 
-  -- The clock of each event is one above the greater of the clock before it and the stamp of what it takes. The last clock is d.
+  -- The clock of each event is one more than the greater of the clock before it and the stamp of what it takes. The last clock is d.
   abbrev pub Clocked : ℕ → List (Noted I) → ℕ → Type 0
   Clocked c [] d = d ≡ c
   Clocked c (n ∷ ns) d = (n.deed.entry.clock ≡ met c n.stamp n.deed.taken + 1) × Clocked n.deed.entry.clock ns d
 
-  -- what an event takes was stamped before it
+  -- what an event takes has a lower stamp than the event's clock
   abbrev pub IsLater : Noted I → Type 0
   IsLater n = (x : ℕ × I) → n.deed.taken ≡ Some x → n.stamp < n.deed.entry.clock
 
@@ -103,26 +103,26 @@ module _ {I : Type 0} where
   TakesFirst from x [] = ⊥
   TakesFirst from x (d ∷ ds) = (d.taken ≡ Some (from, x)) × AllByRecursion TakesNone ds
 
-  -- the clocks of the events: one more each time
+  -- the clocks of the events increase by one each time
   abbrev pub Counted : ℕ → List (Deed I) → ℕ → Type 0
   Counted c [] d = d ≡ c
   Counted c (e ∷ es) d = (e.entry.clock ≡ c + 1) × Counted (c + 1) es d
 
-  -- the clocks of the events rise
+  -- the clocks of the events ascend
   abbrev pub Rising : ℕ → List (Deed I) → ℕ → Type 0
   Rising c [] d = c ≤ d
   Rising c (e ∷ es) d = (c < e.entry.clock) × Rising e.entry.clock es d
 
--- exact clocks rise, and each is above the stamp of what its event takes
+-- exact clocks ascend, and each is above the stamp of what its event takes
 abbrev pub ClockedRise : Type 0 → Type 0
 ClockedRise I = (c d : ℕ) (notes : List (Noted I)) → Clocked c notes d → Rising c (deeds notes) d × AllByRecursion IsLater notes
 
--- none of the numbers is below the one before it, nor below this one
+-- none of the numbers is below the one before it, and none is below this one
 abbrev pub Climbs : ℕ → List ℕ → Type 0
 Climbs low [] = Unit {0}
 Climbs low (x ∷ xs) = (low ≤ x) × Climbs x xs
 
--- the same, and none is above this one
+-- the same, and none is above high
 abbrev pub ClimbsTo : ℕ → List ℕ → ℕ → Type 0
 ClimbsTo low [] high = low ≤ high
 ClimbsTo low (x ∷ xs) high = (low ≤ x) × ClimbsTo x xs high

@@ -1,4 +1,4 @@
--- The ends of the rings of one cell: each is there where the edge is.
+-- The ends of the rings of one cell: there is one for each edge.
 use Rattle.std.specs.Prelude.{ℕ, ◌≡◌, ◌≤◌, ◌<◌, ◌+◌, List, [], ◌++◌, length, Option, Some, None, is_some}
 use Rattle.std.specs.declared.alloc.Global.{Global}
 use Rattle.std.specs.declared.collections.VecDeque.{VecDeque}
@@ -11,7 +11,7 @@ use Rattle.ring_net.specs.declared.entry.Stamped.{Stamped}
 use Rattle.ring_net.specs.Posts.{box_items}
 
 module _ {T : Type 0} where
-  -- what went into the ring, and how many slots are known to be free
+  -- what was put into the ring, and how many slots are known to be free
   abbrev pub ring_sent : Option (Producer T Global AnyItems) → List T
   ring_sent None = []
   ring_sent (Some p) = sent p
@@ -47,7 +47,7 @@ module _ {T : Type 0} where
   IsSmall None = Unit {0}
   IsSmall (Some c) = consumer_capacity c ≤ 256
 
--- Items went from the outbox into the ring, in order. Where some are left, at least the slots that were known to be free were filled.
+-- Items moved from the outbox into the ring, in order. If some are left, at least the slots that were known to be free were filled.
 pub record Flushed {I : Type 0} (ring : Option (Producer (Stamped I) Global AnyItems)) (outbox : Option (VecDeque (Stamped I) Global))
     (ring' : Option (Producer (Stamped I) Global AnyItems)) (outbox' : Option (VecDeque (Stamped I) Global)) : Type 0 where
   pub same : SameOut ring ring'
@@ -55,7 +55,7 @@ pub record Flushed {I : Type 0} (ring : Option (Producer (Stamped I) Global AnyI
   pub said : ring_sent ring' ++ box_items outbox' ≡ ring_sent ring ++ box_items outbox
   pub pushes : 0 < length (box_items outbox') → length (ring_sent ring) + ring_free ring ≤ length (ring_sent ring')
 
--- These items came out of the ring, all that were known to be in it among them.
+-- These items were taken out of the ring, including all that were known to be in it.
 pub record Emptied {I : Type 0} (ring : Option (Consumer (Stamped I) Global AnyItems)) (items : List (Stamped I)) (ring' : Option (Consumer (Stamped I) Global AnyItems)) : Type 0 where
   pub same : SameIn ring ring'
   pub received : ring_received ring' ≡ ring_received ring ++ items

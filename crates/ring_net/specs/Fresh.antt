@@ -30,7 +30,7 @@ module _ {A I : Type 0} where
   abbrev pub AllBlank : List (Cell A I) → Type 0
   AllBlank cells = (k : ℕ) → BlankAt k (slice_get cells k)
 
-  -- one outbox and one end more
+  -- one more outbox and one more end
   pub record AddsOut (b : ℕ) (p : Producer (Stamped I) Global AnyItems) (old new : Cell A I) : Type 0 where
     pub actor : new.actor ≡ old.actor
     pub number : actor_of new.post ≡ actor_of old.post
@@ -45,7 +45,7 @@ module _ {A I : Type 0} where
     pub only : new ≡ record old { ins = new.ins }
     pub ends : (x : ℕ) → ring_from new x ≡ (if x == a then Some c else ring_from old x)
 
-  -- one edge more: the new ends are those of an empty ring
+  -- one more edge: the new ends are those of an empty ring
   pub record Connects (a b : ℕ) (old new : List (Cell A I)) : Type 0 where
     pub out : Producer (Stamped I) Global AnyItems
     pub into : Consumer (Stamped I) Global AnyItems
@@ -69,11 +69,11 @@ module _ {A I : Type 0} where
     pub boxes : (a b : ℕ) → waits_of (slice_get cells a) b ≡ []
     pub rings : (a b : ℕ) → ring_known (in_end cells a b) ≡ []
 
--- no edge stands twice
+-- no edge occurs twice
 abbrev pub EdgesOnce : List (ℕ × ℕ) → Type 0
 EdgesOnce edges = (i j : ℕ) → i < length edges → j < length edges → slice_index_or edges i (0, 0) ≡ slice_index_or edges j (0, 0) → i ≡ j
 
--- each edge joins two actors of as many, and no edge stands twice
+-- each edge joins two different ones of this many actors, and no edge occurs twice
 pub record AreEdges (count : ℕ) (edges : List (ℕ × ℕ)) : Type 0 where
   pub from : (i : ℕ) → i < length edges → (slice_index_or edges i (0, 0)).0 < count
   pub to : (i : ℕ) → i < length edges → (slice_index_or edges i (0, 0)).1 < count

@@ -1,4 +1,4 @@
--- What a net leaves.
+-- What remains of a net.
 use Rattle.std.specs.Prelude.{ℕ, ◌≡◌, ◌≢◌, List, [], length, map, slice_get, slice_index_or}
 use Rattle.ring_net.specs.declared.entry.JournalEntry.{JournalEntry}
 use Rattle.ring_net.specs.declared.parts.Left.{Left}
@@ -26,17 +26,17 @@ module _ {A I : Type 0} where
   abbrev pub journals_of : List (Cell A I) → List (List JournalEntry)
   journals_of cells = map (λ c. entries_in c.post) cells
 
-  -- no end of the ring from a is left in the cell, and all else is as before
+  -- the cell no longer has the end of the ring from a, and all else is unchanged
   pub record WithoutRing (a : ℕ) (old new : Cell A I) : Type 0 where
     pub only : new ≡ record old { ins = new.ins }
     pub others : (x : ℕ) → x ≢ a → ring_from new x ≡ ring_from old x
 
-  -- no outbox for b is left in the cell, and all else is as before
+  -- the cell no longer has the outbox for b, and all else is unchanged
   pub record WithoutBox (b : ℕ) (old new : Cell A I) : Type 0 where
     pub only : new ≡ record old { post = record old.post { boxes = new.post.boxes } }
     pub others : (x : ℕ) → x ≢ b → waits new.post x ≡ waits old.post x
 
-  -- what was on its way from a to b may be gone, and all else is as before
+  -- the items in flight from a to b may be removed, and all else is unchanged
   pub record Drains (a b : ℕ) (old new : List (Cell A I)) : Type 0 where
     pub rings : (x y : ℕ) → (x ≡ a → y ≡ b → ⊥) → ring_known (in_end new x y) ≡ ring_known (in_end old x y)
     pub boxes : (x y : ℕ) → (x ≡ a → y ≡ b → ⊥) → waits_of (slice_get new x) y ≡ waits_of (slice_get old x) y

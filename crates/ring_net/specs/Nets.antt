@@ -1,4 +1,4 @@
--- What contracts see of a net's cells, and the facts that a net keeps.
+-- What contracts see of a net's cells, and the facts that a net maintains.
 use Rattle.std.specs.Prelude.{ℕ, ◌≡◌, ◌≤◌, ◌+◌, Bool, false, Option, Some, None, List, [], ◌++◌, length, map, is_some, slice_get}
 use Rattle.std.specs.declared.alloc.Global.{Global}
 use Rattle.rtrb.specs.declared.producer.Producer.{Producer}
@@ -14,7 +14,7 @@ use Rattle.ring_net.specs.Cells.{ring_to, ring_from}
 use Rattle.ring_net.specs.Phases.{View, is_edge}
 
 module _ {T : Type 0} where
-  -- a look at an end changes nothing but what the end knows
+  -- reading an end changes only what the end knows
   abbrev pub LookedOut : Option (Producer T Global AnyItems) → Option (Producer T Global AnyItems) → Type 0
   LookedOut None None = Unit {0}
   LookedOut None (Some q) = ⊥
@@ -27,7 +27,7 @@ module _ {T : Type 0} where
   LookedIn (Some p) None = ⊥
   LookedIn (Some p) (Some q) = ConsumerLooked p q
 
-  -- as both ends know after a read: what came out and what is in the ring are all that went in, and every other slot is free
+  -- both ends know the state after a read: what was taken out and what is in the ring are all that was put in, and every other slot is free
   pub record Level (p : Producer T Global AnyItems) (c : Consumer T Global AnyItems) : Type 0 where
     pub items : received c ++ known_items c ≡ sent p
     pub slots : producer_capacity p + length (received c) ≤ known_free p + length (sent p)
@@ -37,7 +37,7 @@ module _ {T : Type 0} where
     pub items : length (received c) + length (known_items c) ≡ length (sent p)
     pub slots : producer_capacity p + length (received c) ≤ known_free p + length (sent p)
 
-  -- the ends of one ring of 256
+  -- the ends of one ring with 256 slots
   pub record IsOneRing (p : Producer T Global AnyItems) (c : Consumer T Global AnyItems) : Type 0 where
     pub pair : IsPair p c
     pub size : producer_capacity p ≡ 256
@@ -80,7 +80,7 @@ module _ {A I : Type 0} where
   number_of None k = k
   number_of (Some c) k = actor_of c.post
 
-  -- the cells own the ends of a ring for each edge, and no others
+  -- the cells have the two ends of a ring for each edge, and no other ends
   pub record Linked (cells : List (Cell A I)) (edges : List (ℕ × ℕ)) : Type 0 where
     pub joined : (a b : ℕ) (p : Producer (Stamped I) Global AnyItems) (c : Consumer (Stamped I) Global AnyItems) → out_end cells a b ≡ Some p → in_end cells a b ≡ Some c → IsOneRing p c
     pub outs : (a b : ℕ) → is_some (out_end cells a b) ≡ is_edge edges a b
@@ -89,12 +89,12 @@ module _ {A I : Type 0} where
     pub apart : (a : ℕ) → is_edge edges a a ≡ false
     pub numbers : (k : ℕ) → number_of (slice_get cells k) k ≡ k
 
-  -- and both ends of each were read since anything was pushed or popped
+  -- and both ends of each ring were read since anything was last pushed or popped
   pub record IsNet (cells : List (Cell A I)) (edges : List (ℕ × ℕ)) : Type 0 where
     pub linked : Linked cells edges
     pub known : (a b : ℕ) (p : Producer (Stamped I) Global AnyItems) (c : Consumer (Stamped I) Global AnyItems) → out_end cells a b ≡ Some p → in_end cells a b ≡ Some c → Known p c
 
-  -- both ends of the edge from a to b are level, where they are there
+  -- both ends of the edge from a to b are level, if they are there
   abbrev pub LevelAt : List (Cell A I) → ℕ → ℕ → Type 0
   LevelAt cells a b = (p : Producer (Stamped I) Global AnyItems) (c : Consumer (Stamped I) Global AnyItems) → out_end cells a b ≡ Some p → in_end cells a b ≡ Some c → Level p c
 

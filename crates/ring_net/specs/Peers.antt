@@ -5,11 +5,11 @@ use mathlib.Core.HLevel.{Π_prop, ×_prop}
 use mathlib.Core.Bool.{Bool-set}
 use native.Mathlib.Bridge.{le_prop}
 
--- each number is below those behind it
+-- each number is below those after it
 abbrev pub Ascends : List ℕ → Type 0
 Ascends ps = (i j : ℕ) → i < j → j < length ps → slice_index_or ps i 0 < slice_index_or ps j 0
 
--- The peer stands behind all lower ones. It stood there before, or was put there.
+-- The peer is in the list behind all lower ones. It was there before, or was added there.
 pub record AddsPeer (peer : ℕ) (old new : List ℕ) : Type 0 where
   pub place : ℕ
   pub below : (k : ℕ) → k < place → slice_index_or old k 0 < peer
@@ -17,12 +17,12 @@ pub record AddsPeer (peer : ℕ) (old new : List ℕ) : Type 0 where
       ⊎ ((place ≤ length old) × ((place < length old → peer < slice_index_or old place 0) × (new ≡ insert old place peer)))
 
 module _ {T : Type 0} where
-  -- From this place on: nothing stands at a place that is not in the list, and the list ascends.
+  -- From this place on, there is nothing at a place that isn't in the list, and the list ascends.
   abbrev pub ListsFrom : List (Option T) → ℕ → List ℕ → Type 0
   ListsFrom slots n [] = (k : ℕ) → n ≤ k → is_some (slice_index_or slots k None) ≡ false
   ListsFrom slots n (p ∷ ps) = (n ≤ p) × ((p < length slots) × (((k : ℕ) → n ≤ k → k < p → is_some (slice_index_or slots k None) ≡ false) × ListsFrom slots (p + 1) ps))
 
-  -- the places at which something stands are in the list, in ascending order
+  -- the places at which there is something are in the list, in ascending order
   abbrev pub Lists : List (Option T) → List ℕ → Type 0
   Lists slots places = ListsFrom slots 0 places
 

@@ -1,4 +1,4 @@
--- What the layer above sees of a net between two phases, and what a phase, a level and a call at a mark do to it.
+-- What the layer above sees of a net between two phases, and what a phase, a levelling and a call at a mark do to it.
 use Rattle.std.specs.Prelude.{ℕ, ◌≡◌, ◌≢◌, ◌≤◌, ◌<◌, ◌+◌, ◌==◌, ◌&&◌, Bool, true, false, List, [], ◌∷◌, ◌++◌, length, min, sum, ◌-◌, ◌^◌, map, ◌↔◌, slice_index_or}
 use Rattle.std.specs.List.{AllByRecursion, list_any}
 use Rattle.ring_net.specs.declared.entry.JournalEntry.{JournalEntry}
@@ -11,7 +11,8 @@ use Rattle.ring_net.specs.Journals.{IsJournal}
 abbrev pub is_edge : List (ℕ × ℕ) → ℕ → ℕ → Bool
 is_edge edges a b = list_any (λ e. e.0 == a && e.1 == b) edges
 
--- A net between two phases. A channel is what the ring holds, and then what waits in the outbox. `in_ring` is how many items the ring holds.
+-- A net between two phases. A channel is what the ring holds, followed by what waits in the outbox. `in_ring` is the number of items that the ring
+-- holds.
 pub record View (A I : Type 0) : Type 0 where
   pub actors : List A
   pub journal : ℕ → List JournalEntry
@@ -29,14 +30,14 @@ pub record IsNew {A I : Type 0} (actors : List A) (edges : List (ℕ × ℕ)) (v
   pub channels : (a b : ℕ) → v.channel a b ≡ []
   pub rings : (a b : ℕ) → v.in_ring a b ≡ 0
 
--- one mark more: the length of each journal
+-- one more mark: the length of each journal
 pub record Marked {A I : Type 0} (v : View A I) (old new : List (List ℕ)) : Type 0 where
   pub mark : List ℕ
   pub marks : new ≡ old ++ mark ∷ []
   pub size : length mark ≡ length v.actors
   pub lengths : (k : ℕ) → k < length v.actors → slice_index_or mark k 0 ≡ length (v.journal k)
 
--- how many entries the journals have in all, up to the end of a count of 64 bits
+-- the number of entries in all journals, where the count stops at 2^64 - 1
 pub record CountsAll {A I : Type 0} (v : View A I) (count : ℕ) : Type 0 where
   pub each : List ℕ
   pub size : length each ≡ length v.actors
@@ -49,11 +50,11 @@ pub record InOrder {A I : Type 0} (v : View A I) : Type 0 where
   pub none : (k : ℕ) → length v.actors ≤ k → v.journal k ≡ []
   pub clocks : (k : ℕ) → k < length v.actors → AllByRecursion (λ e. e.clock ≤ v.clock k) (v.journal k)
 
--- each clock stands at this value
+-- each clock has this value
 abbrev pub AllAt : {A I : Type 0} → View A I → ℕ → Type 0
 AllAt v c = (k : ℕ) → k < length v.actors → v.clock k ≡ c
 
--- none of the first n clocks is above this one, which one of them is
+-- none of the first n clocks is above this one, and one of them is this one
 pub record IsGreatest (n : ℕ) (clock : ℕ → ℕ) (c : ℕ) : Type 0 where
   pub bound : (k : ℕ) → k < n → clock k ≤ c
   pub here : ℕ
@@ -76,7 +77,7 @@ pub record Levelled {A I : Type 0} (old new : View A I) : Type 0 where
   pub level : AllAt new clock
 
 module _ {A P I : Type 0} (part : A → P) (makes : Makes P I) where
-  -- One phase: what each actor did, what each journal grew by, what each channel carried, and how much of it was taken and pushed.
+  -- One phase: what each actor did, what was added to each journal, what each channel carried, and how much of it was taken and pushed.
   pub record Phase (took : A → ℕ → I → List (Deed I) → A → Type 0) (turned : A → List (Deed I) → A → Type 0) (old new : View A I) : Type 0 where
     pub notes : ℕ → List (Noted I)
     pub size : length new.actors ≡ length old.actors
@@ -90,7 +91,7 @@ module _ {A P I : Type 0} (part : A → P) (makes : Makes P I) where
     pub known : (a b : ℕ) → old.in_ring a b ≤ length (taken_from a (notes b))
     pub pushed : (a b : ℕ) → min 256 (length (old.channel a b)) ≤ length (taken_from a (notes b)) + new.in_ring a b
 
-  -- What the actor k did at a mark, from a level at the greatest clock to a level at its own last clock.
+  -- What the actor k did at a mark, from a levelling at the greatest clock to a levelling at its own last clock.
   pub record Between (pauses : A → List (Deed I) → A → Type 0) (k : ℕ) (old new : View A I) (result : Bool) : Type 0 where
     pub deeds : List (Deed I)
     pub from : ℕ
@@ -112,7 +113,8 @@ module _ {A P I : Type 0} (part : A → P) (makes : Makes P I) where
     pub channels : (a b : ℕ) → a ≢ k → new.channel a b ≡ old.channel a b
     pub rings : (a b : ℕ) → new.in_ring a b ≡ old.in_ring a b
 
-  -- In two phases, between which levels and calls at a mark may stand, at least the lesser of 256 and what a channel held before them is taken from it.
+  -- In two phases, with any levellings and calls at a mark between them, at least the lesser of 256 and the number of items that a channel held
+  -- before them is taken from it.
   abbrev pub DrainsInTwo : (took : A → ℕ → I → List (Deed I) → A → Type 0) (turned : A → List (Deed I) → A → Type 0) → Type 0
   DrainsInTwo took turned = (u v s t : View A I) (first : Phase took turned u v) (second : Phase took turned s t) → ((a b : ℕ) → s.in_ring a b ≡ v.in_ring a b)
       → (a b : ℕ) → min 256 (length (u.channel a b)) ≤ length (taken_from a (first.notes b)) + length (taken_from a (second.notes b))

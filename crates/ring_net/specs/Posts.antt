@@ -33,23 +33,23 @@ module _ {I : Type 0} where
   abbrev pub waits : Post I → ℕ → List (Stamped I)
   waits p b = box_items (slice_index_or p.boxes.items b None)
 
--- the item for this receiver alone
+-- the item for this receiver only
 abbrev pub for_one : {I : Type 0} → ℕ → Stamped I → ℕ → List (Stamped I)
 for_one to x b = if b == to then x ∷ [] else []
 
--- the same actor and edges: what stands whatever a call answers
+-- the same actor and edges: this holds whatever a call answers
 pub record SameEdges {I : Type 0} (old new : Post I) : Type 0 where
   pub actor : actor_of new ≡ actor_of old
   pub edges : (b : ℕ) → has_edge new b ≡ has_edge old b
 
--- The next clock, and an entry with it.
+-- The clock is increased, and an entry with it is added.
 pub record Notes {I : Type 0} (old : Post I) (entry : JournalEntry) (new : Post I) : Type 0 where
   pub actor : actor_of new ≡ actor_of old
   pub clock : clock_of new ≡ entry.clock
   pub entries : entries_in new ≡ entries_in old ++ entry ∷ []
   pub boxes : new.boxes ≡ old.boxes
 
--- The item stands last in the outbox for its receiver, stamped with the last clock. Where no edge leads there it is dropped.
+-- The item is last in the outbox for its receiver, stamped with the last clock. If no edge leads there, it is dropped.
 pub record SendsItem {I : Type 0} (old : Post I) (to : ℕ) (x : I) (new : Post I) : Type 0 where
   pub actor : actor_of new ≡ actor_of old
   pub clock : clock_of new ≡ clock_of old
@@ -57,7 +57,7 @@ pub record SendsItem {I : Type 0} (old : Post I) (to : ℕ) (x : I) (new : Post 
   pub edges : (b : ℕ) → has_edge new b ≡ has_edge old b
   pub boxes : (b : ℕ) → has_edge old b ≡ true → waits new b ≡ waits old b ++ for_one to (record { stamp = record { 0 = clock_of old }; item = x }) b
 
--- The entries and outboxes of a post, with these events more. With no event: what contracts see of it is as before.
+-- The entries and outboxes of a post, with these further events. Without an event, what contracts see of it is unchanged.
 pub record Wrote {I : Type 0} (old : Post I) (ds : List (Deed I)) (new : Post I) : Type 0 where
   pub actor : actor_of new ≡ actor_of old
   pub own : AllByRecursion (IsOwn (actor_of old)) ds

@@ -18,6 +18,6 @@ module _ {A I : Type 0} where
   abbrev pub edge_list : {g : Ghosts A I} → Net A I g → List (ℕ × ℕ)
   edge_list n = n.edges.items
 
-  -- whether memory was wanting in a phase or at a mark
+  -- whether memory ran out in a phase or at a mark
   abbrev pub has_failed : {g : Ghosts A I} → Net A I g → Bool
   has_failed n = n.has_failed

@@ -1,4 +1,4 @@
--- What the takes of one cell leave.
+-- What the takes of one cell do.
 use Rattle.std.specs.Prelude.{ℕ, ◌≡◌, true, ◌≤◌, List, ◌++◌, length, Option, None, slice_index_or}
 use Rattle.std.specs.declared.alloc.Global.{Global}
 use mathlib.Core.List.{IsPrefix}
@@ -14,7 +14,7 @@ use Rattle.ring_net.specs.Ends.{Emptied}
 use Rattle.ring_net.specs.Turns.{TookAll, ActorDid}
 
 module _ {A P I : Type 0} (part : A → P) (makes : Makes P I) (took : A → ℕ → I → List (Deed I) → A → Type 0) where
-  -- what was taken from one ring: all that was known to be in it among it, and nothing of any other sender
+  -- what was taken from one ring: at least all that was known to be in it, and nothing of any other sender
   pub record TookFrom (from : ℕ) (old : A) (before : Post I) (ring : Consumer (Stamped I) Global AnyItems) (new : A) (after : Post I) (ring' : Consumer (Stamped I) Global AnyItems) : Type 0 where
     pub notes : List (Noted I)
     pub all : TookAll part makes took old before notes new after
@@ -23,14 +23,14 @@ module _ {A P I : Type 0} (part : A → P) (makes : Makes P I) (took : A → ℕ
     pub known : consumer_capacity ring ≤ 256 → IsPrefix (known_items ring) (taken_from from notes)
     pub most : length (taken_from from notes) ≤ 256
 
-  -- the same where the ring is there; else nothing
+  -- the same if there is a ring; else nothing
   pub record TookOne (from : ℕ) (old : A) (before : Post I) (ring : Option (Consumer (Stamped I) Global AnyItems)) (new : A) (after : Post I) (ring' : Option (Consumer (Stamped I) Global AnyItems)) : Type 0 where
     pub notes : List (Noted I)
     pub all : TookAll part makes took old before notes new after
     pub only : AllByRecursion (λ s. s ≡ from) (senders (deeds notes))
     pub emptied : Emptied ring (taken_from from notes) ring'
 
-  -- what was taken from all rings, by rising number of the sender
+  -- what was taken from all rings, in ascending order of the sender's number
   pub record TookEach (old : A) (before : Post I) (rings : List (Option (Consumer (Stamped I) Global AnyItems))) (new : A) (after : Post I) (rings' : List (Option (Consumer (Stamped I) Global AnyItems))) : Type 0 where
     pub notes : List (Noted I)
     pub all : TookAll part makes took old before notes new after

@@ -5,7 +5,7 @@ use Rattle.ring_net.specs.Deeds.{Deed, Noted, Makes, Replay, IsOwn, TakesNone, C
 use Rattle.ring_net.specs.declared.post.Post.{Post}
 use Rattle.ring_net.specs.Posts.{actor_of, clock_of, entries_in, has_edge, waits}
 
--- The entries and outboxes of a post after several calls, before each of which the clock met the stamp of what it takes.
+-- The entries and outboxes of a post after several calls, where before each call the clock was raised to the stamp of what it takes.
 pub record Posted {I : Type 0} (old : Post I) (ns : List (Noted I)) (new : Post I) : Type 0 where
   pub actor : actor_of new ≡ actor_of old
   pub own : AllByRecursion (IsOwn (actor_of old)) (deeds ns)
@@ -14,20 +14,20 @@ pub record Posted {I : Type 0} (old : Post I) (ns : List (Noted I)) (new : Post 
   pub edges : (b : ℕ) → has_edge new b ≡ has_edge old b
   pub boxes : (b : ℕ) → has_edge old b ≡ true → waits new b ≡ waits old b ++ sent_to b ns
 
--- One take after another: the actor before, the events of all, the actor after.
+-- One take after another: the actor before, all their events, the actor after.
 pub data Tooks {A I : Type 0} (took : A → ℕ → I → List (Deed I) → A → Type 0) : A → List (Deed I) → A → Type 0 where
   stays : (a : A) → Tooks took a [] a
   takes : (a b c : A) (ds es : List (Deed I)) (from : ℕ) (x : I) → Tooks took a ds b → took b from x es c → Tooks took a (ds ++ es) c
 
 module _ {A P I : Type 0} (part : A → P) (makes : Makes P I) (took : A → ℕ → I → List (Deed I) → A → Type 0) where
-  -- what several takes leave
+  -- what several takes do
   pub record TookAll (a : A) (old : Post I) (ns : List (Noted I)) (b : A) (new : Post I) : Type 0 where
     pub posted : Posted old ns new
     pub replay : Replay makes (actor_of old) (part a) (deeds ns) (part b)
     pub tooks : Tooks took a (deeds ns) b
 
-  -- The actor of number k in a phase, between two clocks: one take for each item that it took, by rising number
-  -- of the sender and at most 256 of each, and then one turn.
+  -- The actor of number k in a phase, between two clocks: one take for each item that it took, in ascending order of the sender's number and at most
+  -- 256 of each, and then one turn.
   pub record ActorDid (turned : A → List (Deed I) → A → Type 0) (k : ℕ) (old : A) (before : ℕ) (ns : List (Noted I)) (new : A) (after : ℕ) : Type 0 where
     pub mid : A
     pub first : List (Noted I)

@@ -16,10 +16,10 @@ use graft_edge::NoMemory;
 use rtrb::{Consumer, Producer, RingBuffer};
 use std::alloc::Global;
 
-/// How many items a ring has room for.
+/// The number of items that a ring has room for.
 const ROOM: usize = 256;
 
-/// The cell of an actor, with no edge.
+/// Returns the cell of an actor, without an edge.
 fn begin_cell<A: Actor>(alloc: Global, actor: A, number: u16) -> Result<Cell<A>, NoMemory>
     ensures actor { IfOk result (λ c. c.actor ≡ actor) }
     ensures blank { IfOk result (λ c. IsBlank number c) }
@@ -33,7 +33,7 @@ fn begin_cell<A: Actor>(alloc: Global, actor: A, number: u16) -> Result<Cell<A>,
     })
 }
 
-/// The cells of these actors, with no edge.
+/// Returns the cells of these actors, without edges.
 fn begin_cells<A: Actor>(alloc: Global, actors: Vec<A>) -> Result<Vec<Cell<A>>, NoMemory>
     requires { length actors.items ≤ 65536 }
     ensures actors { IfOk result (λ cells. map (λ c. c.actor) cells.items ≡ actors.items) }
@@ -49,7 +49,7 @@ fn begin_cells<A: Actor>(alloc: Global, actors: Vec<A>) -> Result<Vec<Cell<A>>, 
     Ok(cells)
 }
 
-/// Gives a cell an outbox and the end of a ring to the actor b.
+/// Adds to a cell an outbox and the sending end of a ring to the actor `b`.
 fn add_out<A: Actor>(
     alloc: Global,
     cell: &mut Cell<A>,
@@ -62,7 +62,7 @@ fn add_out<A: Actor>(
     cell.rings.put(b, out)
 }
 
-/// Gives a cell the end of a ring from the actor a.
+/// Adds to a cell the receiving end of a ring from the actor `a`.
 fn add_in<A: Actor>(
     cell: &mut Cell<A>,
     a: usize,
@@ -73,7 +73,7 @@ fn add_in<A: Actor>(
     cell.ins.put(a, into)
 }
 
-/// Makes the ring of the edge from the actor a to the actor b.
+/// Creates the ring of the edge from the actor `a` to the actor `b`.
 fn connect<A: Actor>(
     alloc: Global,
     cells: &mut [Cell<A>],
@@ -93,7 +93,7 @@ fn connect<A: Actor>(
 
 ghost use Rattle.ring_net.specs.Fresh.{AreEdges};
 
-/// Makes the rings of all edges.
+/// Creates the rings of all edges.
 fn connect_all<A: Actor>(
     alloc: Global,
     cells: &mut [Cell<A>],
@@ -110,7 +110,7 @@ fn connect_all<A: Actor>(
     Ok(())
 }
 
-/// The cells of these actors, with the rings of these edges.
+/// Returns the cells of these actors, with the rings of these edges.
 pub(crate) fn fresh_cells<A: Actor>(
     alloc: Global,
     actors: Actors<A>,

@@ -14,8 +14,8 @@ use graft_edge::NoMemory;
 use rtrb::{Consumer, Producer};
 use std::collections::VecDeque;
 
-/// An actor with its post, the ends of the rings that lead from it, by the number of the receiver,
-/// and the ends of those that lead to it, by the number of the sender.
+/// An actor with its post, the ends of the rings that lead from it, by the number of the receiver, and
+/// the ends of those that lead to it, by the number of the sender.
 #[derive(Drop)]
 pub struct Cell<A: Actor> {
     pub(crate) actor: A,
@@ -25,11 +25,11 @@ pub struct Cell<A: Actor> {
     pub(crate) has_failed: bool,
 }
 
-/// Pushes what waits until the outbox is empty or the ring is full.
+/// Moves waiting items from an outbox into its ring, until the outbox is empty or the ring is full.
 fn flush<T: Drop>(out: &mut Producer<T>, outbox: &mut VecDeque<T>)
     ensures ring { SameProducer out.old out.new }
     ensures said { sent out.new ++ outbox.new.items ≡ sent out.old ++ outbox.old.items }
-    // At least into the slots that were known to be free.
+    // At least the slots that were known to be free are filled, if items are left.
     ensures pushes { (0 < length outbox.new.items) → length (sent out.old) + known_free out.old ≤ length (sent out.new) }
 {
     let free = out.slots();
@@ -41,7 +41,7 @@ fn flush<T: Drop>(out: &mut Producer<T>, outbox: &mut VecDeque<T>)
     }
 }
 
-/// The same where both are there.
+/// Moves waiting items into a ring as `flush` does, if there are a ring and an outbox.
 fn flush_one<I: Drop>(
     ring: &mut Option<Producer<Stamped<I>>>,
     outbox: &mut Option<VecDeque<Stamped<I>>>,
@@ -57,7 +57,7 @@ fn flush_one<I: Drop>(
     flush(out, queue);
 }
 
-/// The same for the receiver b.
+/// Moves items that wait for `b` into its ring, until it is full.
 fn flush_at<I: Drop>(
     rings: &mut [Option<Producer<Stamped<I>>>],
     boxes: &mut [Option<VecDeque<Stamped<I>>>],
@@ -72,7 +72,7 @@ fn flush_at<I: Drop>(
     }
 }
 
-/// The same for each receiver.
+/// Moves items that wait for each receiver into its ring, until it is full.
 fn flush_each<I: Drop>(
     receivers: &[usize],
     rings: &mut [Option<Producer<Stamped<I>>>],
@@ -86,7 +86,7 @@ fn flush_each<I: Drop>(
     }
 }
 
-/// The same of a cell's ends.
+/// Moves all items that wait in a cell into their rings, until these are full.
 fn flush_all<I: Drop>(
     rings: &mut Ends<Producer<Stamped<I>>>,
     boxes: &mut [Option<VecDeque<Stamped<I>>>],
@@ -120,7 +120,7 @@ fn take_one<A: Actor>(
     actor.take(from, item, post)
 }
 
-/// Takes what is in the ring, up to 256 items.
+/// Takes the items in a ring, at most 256.
 fn take_from<A: Actor>(
     actor: &mut A,
     from: usize,
@@ -140,7 +140,7 @@ fn take_from<A: Actor>(
     Ok(())
 }
 
-/// The same where the ring is there.
+/// Takes the items in a ring as `take_from` does, if there is a ring.
 fn take_maybe<A: Actor>(
     actor: &mut A,
     from: usize,
@@ -157,7 +157,7 @@ fn take_maybe<A: Actor>(
     }
 }
 
-/// The same for the sender `from`.
+/// Takes the items that the sender `from` has put into its ring, at most 256.
 fn take_at<A: Actor>(
     actor: &mut A,
     ins: &mut [Option<Consumer<Stamped<A::Item>>>],
@@ -173,7 +173,7 @@ fn take_at<A: Actor>(
     take_maybe(actor, from, &mut ins[from], post)
 }
 
-/// The same for each sender in turn.
+/// Takes the items of each sender in turn, at most 256 of each.
 fn take_each<A: Actor>(
     actor: &mut A,
     senders: &[usize],
@@ -191,7 +191,7 @@ fn take_each<A: Actor>(
     Ok(())
 }
 
-/// All that an actor does in a phase: its takes, then its turn.
+/// Does all that an actor does in a phase: its takes, then its turn.
 fn act<A: Actor>(
     actor: &mut A,
     ins: &mut Ends<Consumer<Stamped<A::Item>>>,
@@ -205,7 +205,7 @@ fn act<A: Actor>(
     actor.turn(post)
 }
 
-/// A cell acts, and pushes what waits into the rings.
+/// Lets a cell's actor act, and moves waiting items into the rings.
 pub(crate) fn turn<A: Actor>(cell: &mut Cell<A>)
     ensures { CellTurned A.part A.makes A.took A.turned cell.old cell.new }
 {

@@ -1,4 +1,4 @@
-//! Clocks that are levelled, and what an actor does at a mark.
+//! Levelling of clocks, and what an actor does at a mark.
 
 ghost use Rattle.std.specs.Prelude.{◌≡◌, ◌≢◌, ◌≤◌, ◌<◌, ◌+◌, ℕ, List, length, map, slice_index_or, slice_set, OnOk, IfOk};
 ghost use Rattle.ring_net.specs.Posts.{clock_of, SameEdges, Pauses};
@@ -12,7 +12,7 @@ use crate::cell::Cell;
 use crate::looks::greatest_clock;
 use graft_edge::NoMemory;
 
-/// Sets every clock.
+/// Sets every clock to this value.
 fn set_clocks<A: Actor>(cells: &mut [Cell<A>], clock: u64)
     ensures { cells.new ≡ map (with_clock clock) cells.old }
 {
@@ -30,7 +30,7 @@ fn level_clocks<A: Actor>(cells: &mut [Cell<A>])
     set_clocks(cells, clock);
 }
 
-/// What the actor of a cell does at a mark.
+/// Lets the actor of a cell do what it does at a mark.
 fn pause<A: Actor>(cell: &mut Cell<A>) -> Result<bool, NoMemory>
     ensures cell { PausesCell cell.old cell.new }
     ensures pauses { IfOk result (Pauses A.part A.makes A.paused cell.old.actor cell.old.post cell.new.actor cell.new.post) }
@@ -38,7 +38,8 @@ fn pause<A: Actor>(cell: &mut Cell<A>) -> Result<bool, NoMemory>
     cell.actor.between(&mut cell.post)
 }
 
-/// The same of the cell of this number, between two levellings of the clocks.
+/// Lets the actor of the cell of this number do what it does at a mark, between two levellings of the
+/// clocks.
 fn pause_at<A: Actor>(cells: &mut [Cell<A>], k: usize) -> Result<bool, NoMemory>
     requires { k < length cells.old }
     ensures kept { KeepsEnds cells.old cells.new }

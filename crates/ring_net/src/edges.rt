@@ -1,4 +1,4 @@
-//! A mark: with all cells in one thread, both ends of every edge are read.
+//! Reads both ends of every edge at a mark, when all cells are in one thread.
 
 ghost use Rattle.std.specs.Prelude.{◌≡◌, ◌≢◌, ◌≤◌, ◌<◌, ◌+◌, ◌++◌, ℕ, None, Some, length, slice_index_or, slice_get};
 ghost use Rattle.rtrb.specs.Ring.{IsPair, ProducerLooked, ConsumerLooked};
@@ -21,7 +21,7 @@ fn read_ends<T: Drop>(out: &mut Producer<T>, into: &mut Consumer<T>)
     into.slots_beside(out);
 }
 
-/// The same where both are there.
+/// Reads both ends of a ring, if they are there.
 fn read_both<I: Drop>(
     out: &mut Option<Producer<Stamped<I>>>,
     into: &mut Option<Consumer<Stamped<I>>>,
@@ -40,7 +40,7 @@ fn read_both<I: Drop>(
 
 ghost use Rattle.ring_net.specs.Cells.{ring_to, ring_from};
 
-/// The same at the places of two peers.
+/// Reads both ends of the ring between two peers, at their places.
 fn read_slots<I: Drop>(
     rings: &mut Ends<Producer<Stamped<I>>>,
     a: usize,
@@ -57,7 +57,7 @@ fn read_slots<I: Drop>(
     }
 }
 
-/// Reads the ends of the edge from one cell, of number a, to another, of number b.
+/// Reads both ends of the edge from one cell, of number `a`, to another, of number `b`.
 fn read_cells<A: Actor>(from: &mut Cell<A>, a: usize, to: &mut Cell<A>, b: usize)
     requires { (p : _) (c : _) → ring_to from.old b ≡ Some p → ring_from to.old a ≡ Some c → IsPair p c }
     ensures ends { ReadsEnds (ring_to from.old b) (ring_from to.old a) (ring_to from.new b) (ring_from to.new a) }
@@ -67,7 +67,7 @@ fn read_cells<A: Actor>(from: &mut Cell<A>, a: usize, to: &mut Cell<A>, b: usize
     read_slots(&mut from.rings, a, &mut to.ins, b);
 }
 
-/// The same in a list of cells.
+/// Reads both ends of the edge from the cell `a` to the cell `b` in a list of cells.
 fn read_edge<A: Actor>(cells: &mut [Cell<A>], a: usize, b: usize)
     requires apart { a ≢ b }
     requires from { a < length cells.old }

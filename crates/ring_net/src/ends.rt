@@ -6,17 +6,17 @@ ghost use Rattle.ring_net.specs.Peers.{Lists, ListsFrom-prop, Ascends, AddsPeer}
 use graft_edge::NoMemory;
 use std::alloc::Global;
 
-/// Ends of rings, at most one for each peer, found by the peer's number. A walk over the peers that
+/// Ends of rings, at most one for each peer, found by the peer's number. Walking over the peers that
 /// have one costs nothing for those that have none.
 #[derive(Drop)]
 pub struct Ends<T> {
     pub(crate) slots: Vec<Option<T>>,
-    // The places at which an end stands are among these, in ascending order.
+    // These include all places where an end is, in ascending order.
     pub(crate) peers: Vec<usize>,
     ghost listed: { Lists slots.items peers.items } by { ListsFrom-prop slots.items 0 peers.items },
 }
 
-/// Adds a peer to ascending ones, if it is not there.
+/// Adds a peer to peers in ascending order, unless it is there. If memory runs out, nothing changes.
 fn add_peer(peers: &mut Vec<usize>, peer: usize) -> Result<(), NoMemory>
     requires { Ascends peers.old.items }
     ensures ok { OnOk result (AddsPeer peer peers.old.items peers.new.items) }
@@ -29,7 +29,7 @@ fn add_peer(peers: &mut Vec<usize>, peer: usize) -> Result<(), NoMemory>
 }
 
 impl<T: Drop> Ends<T> {
-    /// No ends.
+    /// Returns a set of no ends.
     pub(crate) fn new(alloc: Global) -> Ends<T>
         ensures { result.slots.items ≡ [] }
     {
@@ -51,7 +51,7 @@ impl<T: Drop> Ends<T> {
         Ok(())
     }
 
-    /// Takes the end at this peer's place out.
+    /// Removes and returns the end at this peer's place.
     pub(crate) fn take(&mut self, peer: usize) -> Option<T>
         ensures end { result ≡ slice_index_or self.old.slots.items peer None }
         ensures others { (x : ℕ) → x ≢ peer → slice_index_or self.new.slots.items x None ≡ slice_index_or self.old.slots.items x None }

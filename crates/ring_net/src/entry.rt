@@ -4,10 +4,10 @@ ghost use Rattle.std.specs.Prelude.{◌≡◌, IfOk};
 
 use graft_edge::{NoMemory, TryCopy};
 
-/// One event of one actor. What its kind and its arguments mean is the actor's.
+/// One event of one actor. The meaning of its kind and its arguments is the actor's.
 #[derive(Clone, Copy, Debug, PartialEq, Eq, Hash)]
 pub struct JournalEntry {
-    /// One above the greater of the actor's clock and the stamp of the item that the event took.
+    /// One more than the greater of the actor's clock and the stamp of the item that the event took.
     pub clock: u64,
     pub actor: u16,
     pub kind: u16,
@@ -26,7 +26,7 @@ impl TryCopy for JournalEntry {
 #[derive(Clone, Copy, Debug, PartialEq, Eq, PartialOrd, Ord, Hash)]
 pub struct Stamp(pub u64);
 
-/// An item on its way.
+/// An item in flight, with its stamp.
 #[derive(Debug, Drop)]
 pub struct Stamped<I> {
     pub stamp: Stamp,

@@ -1,4 +1,4 @@
-//! What a net leaves: its actors and journals, and the items that are on their way.
+//! What remains of a net: its actors and journals, and the items in flight.
 
 ghost use Rattle.std.specs.Prelude.{◌≡◌, ◌≢◌, ◌<◌, ◌++◌, ℕ, None, length, map, slice_get, slice_index_or, OnOk, IfOk};
 ghost use Rattle.rtrb.specs.Ring.{known_items};
@@ -18,7 +18,7 @@ use rtrb::Consumer;
 use std::alloc::Global;
 use std::collections::VecDeque;
 
-/// Takes an end of a ring out of a cell: that of the ring from the actor a.
+/// Removes from a cell the end of the ring from the actor `a`, and returns it.
 fn take_ring<A: Actor>(cell: &mut Cell<A>, a: usize) -> Option<Consumer<Stamped<A::Item>>>
     ensures ring { result ≡ ring_from cell.old a }
     ensures rest { WithoutRing a cell.old cell.new }
@@ -26,7 +26,7 @@ fn take_ring<A: Actor>(cell: &mut Cell<A>, a: usize) -> Option<Consumer<Stamped<
     cell.ins.take(a)
 }
 
-/// Takes an outbox out of a cell: that for the actor b.
+/// Removes from a cell the outbox for the actor `b`, and returns it.
 fn take_box<A: Actor>(cell: &mut Cell<A>, b: usize) -> Option<VecDeque<Stamped<A::Item>>>
     ensures items { box_items result ≡ waits cell.old.post b }
     ensures rest { WithoutBox b cell.old cell.new }
@@ -38,7 +38,7 @@ fn take_box<A: Actor>(cell: &mut Cell<A>, b: usize) -> Option<VecDeque<Stamped<A
     }
 }
 
-/// Appends what is known to be in a ring.
+/// Appends the items that are known to be in a ring, if there is a ring.
 fn empty_ring<I: Drop>(
     ring: Option<Consumer<Stamped<I>>>,
     items: &mut Items<I>,
@@ -51,7 +51,7 @@ fn empty_ring<I: Drop>(
     empty(into, items)
 }
 
-/// The same of a ring that is there.
+/// Appends the items that are known to be in a ring.
 fn empty<I: Drop>(mut into: Consumer<Stamped<I>>, items: &mut Items<I>) -> Result<(), NoMemory>
     ensures { OnOk result (items.new ≡ items.old ++ map (λ x. x.item) (known_items into)) }
 {
@@ -63,7 +63,7 @@ fn empty<I: Drop>(mut into: Consumer<Stamped<I>>, items: &mut Items<I>) -> Resul
     Ok(())
 }
 
-/// Appends what waits in an outbox.
+/// Appends the items that wait in an outbox.
 fn empty_box<I: Drop>(
     outbox: Option<VecDeque<Stamped<I>>>,
     items: &mut Items<I>,
@@ -80,7 +80,8 @@ fn empty_box<I: Drop>(
     Ok(())
 }
 
-/// Takes the items that are on their way from the actor a to the actor b, those of the ring first.
+/// Removes and returns the items in flight from the actor `a` to the actor `b`, those of the ring
+/// first.
 fn drain<A: Actor>(
     alloc: Global,
     cells: &mut [Cell<A>],
@@ -100,7 +101,7 @@ fn drain<A: Actor>(
     Ok(items)
 }
 
-/// Takes the items that are on their way, edge by edge.
+/// Removes and returns the items in flight, edge by edge.
 pub(crate) fn drain_all<A: Actor>(
     alloc: Global,
     cells: &mut [Cell<A>],
@@ -124,7 +125,7 @@ pub(crate) fn drain_all<A: Actor>(
     Ok(left)
 }
 
-/// The actors and the journals of cells.
+/// Returns the actors and the journals of cells.
 pub(crate) fn split<A: Actor>(
     alloc: Global,
     cells: Vec<Cell<A>>,

@@ -1,5 +1,5 @@
-//! A net of actors that hand items over rings, turned in phases by workers, each with a journal and
-//! a clock of its own.
+//! A net of actors that send items over rings and make their turns in phases, run by workers. Each
+//! actor has a journal and a clock of its own.
 #![tactic(auto)]
 
 mod actor;

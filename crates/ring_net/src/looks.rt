@@ -1,4 +1,4 @@
-//! What is read of the cells of a net, without a change.
+//! What is read from the cells of a net without changing them.
 
 ghost use Rattle.std.specs.Prelude.{◌≡◌, ◌≤◌, ◌<◌, ◌+◌, ◌-◌, ◌^◌, ℕ, None, length, map, min, sum_by, slice_get, slice_index_or, IfOk};
 ghost use Rattle.ring_net.specs.Posts.{clock_of, entries_in, waits, box_items};
@@ -15,7 +15,7 @@ use rtrb::Consumer;
 use std::alloc::Global;
 use std::collections::VecDeque;
 
-/// The length of each journal. The list is made at its size.
+/// Returns the length of each journal, in a list that is allocated at its size.
 pub(crate) fn lengths<A: Actor>(alloc: Global, cells: &[Cell<A>]) -> Result<Mark, NoMemory>
     ensures { IfOk result (λ mark. mark ≡ map (λ c. length (entries_in c.post)) cells.now) }
 {
@@ -26,7 +26,7 @@ pub(crate) fn lengths<A: Actor>(alloc: Global, cells: &[Cell<A>]) -> Result<Mark
     Ok(Items::from_vec(mark))
 }
 
-/// How many entries there are. The count stands still at its type's end.
+/// Returns the number of entries. The count stops at 2^64 - 1.
 pub(crate) fn entry_count<A: Actor>(cells: &[Cell<A>]) -> u64
     ensures { result ≡ min (sum_by (λ c. length (entries_in c.post)) cells.now) (2 ^ 64 - 1) }
 {
@@ -37,7 +37,7 @@ pub(crate) fn entry_count<A: Actor>(cells: &[Cell<A>]) -> u64
     count
 }
 
-/// How many items are known to be in a ring.
+/// Returns how many items are known to be in a ring.
 fn known_count<I: Drop>(ring: &Option<Consumer<Stamped<I>>>) -> usize
     ensures count { result ≡ length (ring_known ring.now) }
     ensures bound { result < 2 ^ 63 }
@@ -48,7 +48,7 @@ fn known_count<I: Drop>(ring: &Option<Consumer<Stamped<I>>>) -> usize
     }
 }
 
-/// How many items wait in an outbox.
+/// Returns how many items wait in an outbox.
 fn box_count<I: Drop>(outbox: &Option<VecDeque<Stamped<I>>>) -> usize
     ensures count { result ≡ length (box_items outbox.now) }
     ensures bound { result < 2 ^ 63 }
@@ -59,7 +59,7 @@ fn box_count<I: Drop>(outbox: &Option<VecDeque<Stamped<I>>>) -> usize
     }
 }
 
-/// How many items are in the ring from the actor a to this cell.
+/// Returns how many items are in the ring from the actor `a` to this cell.
 fn ring_len<A: Actor>(cell: &Cell<A>, a: usize) -> usize
     ensures count { result ≡ length (ring_known (ring_from cell.now a)) }
     ensures bound { result < 2 ^ 63 }
@@ -71,7 +71,7 @@ fn ring_len<A: Actor>(cell: &Cell<A>, a: usize) -> usize
     }
 }
 
-/// How many items of this cell wait for the actor b.
+/// Returns how many items of this cell wait for the actor `b`.
 fn wait_len<A: Actor>(cell: &Cell<A>, b: usize) -> usize
     ensures count { result ≡ length (waits cell.now.post b) }
     ensures bound { result < 2 ^ 63 }
@@ -83,7 +83,7 @@ fn wait_len<A: Actor>(cell: &Cell<A>, b: usize) -> usize
     }
 }
 
-/// How many items are in the ring from a to b.
+/// Returns how many items are in the ring from `a` to `b`.
 fn ring_count<A: Actor>(cells: &[Cell<A>], a: usize, b: usize) -> usize
     ensures count { result ≡ length (ring_known (in_end cells.now a b)) }
     ensures bound { result < 2 ^ 63 }
@@ -94,7 +94,7 @@ fn ring_count<A: Actor>(cells: &[Cell<A>], a: usize, b: usize) -> usize
     }
 }
 
-/// How many items of a wait for b.
+/// Returns how many items of `a` wait for `b`.
 fn wait_count<A: Actor>(cells: &[Cell<A>], a: usize, b: usize) -> usize
     ensures count { result ≡ length (waits_of (slice_get cells.now a) b) }
     ensures bound { result < 2 ^ 63 }
@@ -105,14 +105,14 @@ fn wait_count<A: Actor>(cells: &[Cell<A>], a: usize, b: usize) -> usize
     }
 }
 
-/// How many items are on their way from a to b.
+/// Returns how many items are in flight from `a` to `b`.
 pub(crate) fn channel_count<A: Actor>(cells: &[Cell<A>], a: usize, b: usize) -> usize
     ensures { result ≡ length (ring_known (in_end cells.now a b)) + length (waits_of (slice_get cells.now a) b) }
 {
     ring_count(cells, a, b) + wait_count(cells, a, b)
 }
 
-/// The greatest clock.
+/// Returns the greatest clock.
 pub(crate) fn greatest_clock<A: Actor>(cells: &[Cell<A>]) -> u64
     requires { 0 < length cells.now }
     ensures bound { (k : ℕ) (d : Cell A A.Item) → k < length cells.now → clock_of (slice_index_or cells.now k d).post ≤ result }

@@ -1,4 +1,4 @@
-//! The net: cells and the edges between them, turned in phases.
+//! The net: cells and the edges between them, which make their turns in phases.
 
 ghost use Rattle.std.specs.Prelude.{◌≡◌, ◌≤◌, ◌<◌, ◌+◌, ◌++◌, ℕ, false, length, map, slice_index_or, slice_get, IfOk, OnOk};
 ghost use Rattle.ring_net.specs.Posts.{entries_in};
@@ -24,7 +24,7 @@ use std::alloc::Global;
 use std::thread;
 use std::thread::Threads;
 
-/// Each cell makes one turn, in threads that own a chunk of cells each. The gate is passed once at
+/// Lets each cell make one turn, in threads that own a chunk of cells each. The gate is passed once at
 /// the start of each turn.
 fn turn_all<R: Threads + Sync, G: Gate, A: Actor + Send>(
     rt: &R,
@@ -51,14 +51,14 @@ where
     );
 }
 
-/// Whether memory was wanting in a cell.
+/// Whether a cell ran out of memory.
 fn any_failed<A: Actor>(cells: &[Cell<A>]) -> bool
     ensures { result ≡ list_any (λ c. c.has_failed) cells.now }
 {
     cells.iter().any(|cell| cell.has_failed)
 }
 
-/// One phase, and a read of both ends of every edge.
+/// Makes one phase, and then reads both ends of every edge.
 fn phase_all<R: Threads + Sync, G: Gate, A: Actor + Send>(
     rt: &R,
     cells: &mut [Cell<A>],
@@ -83,9 +83,9 @@ where
     Ok(())
 }
 
-/// Actors that hand items over. Each edge from one actor to another is a ring with room for 256 items
-/// and, before it, an outbox. Each actor has a journal and a clock of its own. Between two phases,
-/// and at a mark, all of it is in one thread.
+/// Actors that send items to one another. Each edge from one actor to another is a ring with room for
+/// 256 items and, in front of it, an outbox. Each actor has a journal and a clock of its own. Between
+/// two phases, and at a mark, all of it is in one thread.
 #[derive(Drop)]
 pub struct Net<A: Actor> {
     cells: Vec<Cell<A>>,
@@ -105,10 +105,11 @@ impl<A: Actor> Net<A> {
     ghost use Rattle.ring_net.specs.Fresh.{AreEdges};
     ghost use Rattle.ring_net.specs.Left.{HasJournals, left_of};
 
-    /// The net of these actors, numbered from 0, with an edge for each pair of a sender and a receiver.
-    /// There is at least one actor and at most 65,536. Each edge joins two different actors of these,
-    /// and no edge stands twice. The net's memory grows with the square of the number of actors. The
-    /// marks begin with one in which every length is 0.
+    /// Returns the net of these actors, numbered from 0, with an edge for each pair of a sender and a
+    /// receiver. There have to be at least one actor and at most 65,536. Each edge has to join two
+    /// different ones of these actors, and no edge may occur twice. The net's memory grows with the
+    /// square of the number of actors. The marks begin with one in which every length is 0. If memory
+    /// runs out, the actors are lost.
     pub fn build(alloc: Global, actors: Actors<A>, edges: &[(u16, u16)]) -> Result<Net<A>, NoMemory>
         requires count { (1 ≤ length actors) × (length actors ≤ 65536) }
         requires edges { AreEdges (length actors) edges.now }
@@ -128,12 +129,12 @@ impl<A: Actor> Net<A> {
         })
     }
 
-    /// Each actor takes what is in the rings that lead to it, at most 256 items from each, in ascending
-    /// order of the senders' numbers, and then makes one turn, which may push into the rings that lead
-    /// from it. There are 1 to 8 workers: each is a thread that owns a chunk of the actors, as many as
-    /// there are actors over workers, rounded up. The gate is passed once at the start of each actor's
-    /// part. If memory runs out, nothing more is said of the actors, and every later phase answers
-    /// `NoMemory` too.
+    /// Makes a phase: each actor takes the items in the rings that lead to it, at most 256 from each,
+    /// in ascending order of the senders' numbers, and then makes one turn, which may push items into
+    /// the rings that lead from it. There are 1 to 8 workers: each is a thread that owns a chunk of the
+    /// actors, whose size is the number of actors divided by the number of workers, rounded up. The
+    /// gate is passed once at the start of each actor's part. If memory runs out, nothing more is
+    /// promised about the actors, and every later phase returns `NoMemory` too.
     pub fn phase<R: Threads + Sync, G: Gate>(
         &mut self,
         rt: &R,
@@ -164,7 +165,7 @@ impl<A: Actor> Net<A> {
         turned
     }
 
-    /// Appends the length of each journal to the marks. If memory runs out, the marks stay as they are.
+    /// Appends the length of each journal to the marks. If memory runs out, nothing changes.
     pub fn mark(&mut self) -> Result<(), NoMemory>
         ensures marks { OnOk result (Marked (view self.old) (marks self.old) (marks self.new)) }
         ensures err { OnErr result (marks self.new ≡ marks self.old) }
@@ -186,7 +187,8 @@ impl<A: Actor> Net<A> {
     }
 
     /// Levels the clocks, lets the actor of number `k` do what it does at a mark, and levels the clocks
-    /// again. It answers whether the actor made an event. `k` is below the number of actors.
+    /// again. Returns whether the actor made an event. `k` has to be below the number of actors. If
+    /// memory runs out, the net fails from then on.
     pub fn between(&mut self, k: usize) -> Result<bool, NoMemory>
         requires { k < length (view self.old).actors }
         ensures between { IfOk result (Between A.part A.makes A.paused k (view self.old) (view self.new)) }
@@ -205,21 +207,21 @@ impl<A: Actor> Net<A> {
         }
     }
 
-    /// How many items are on their way from one actor to another; 0 where no edge leads there.
+    /// Returns how many items are in flight from one actor to another; 0 if no edge leads there.
     pub fn in_flight(&self, from: usize, to: usize) -> usize
         ensures { result ≡ length ((view self.now).channel from to) }
     {
         channel_count(self.cells.as_slice(), from, to)
     }
 
-    /// How many entries the journals have. The count stands still at its type's end.
+    /// Returns the number of entries in all journals. The count stops at 2^64 - 1.
     pub fn events(&self) -> u64
         ensures { CountsAll (view self.now) result }
     {
         entry_count(self.cells.as_slice())
     }
 
-    /// The actor of number `k`, which is below the number of actors.
+    /// Returns the actor of number `k`, which has to be below the number of actors.
     pub fn actor(&self, k: usize) -> &A
         requires { k < length (view self.now).actors }
         ensures { slice_get (view self.now).actors k ≡ Some result.now }
@@ -227,9 +229,9 @@ impl<A: Actor> Net<A> {
         &self.cells[k].actor
     }
 
-    /// What the net leaves: the actors, their journals and the marks, and for each edge the items that
-    /// are left in its channel, those of the ring first. A net that has failed answers `NoMemory`. If
-    /// memory runs out, the net is gone.
+    /// Returns what remains of the net: the actors, their journals and the marks, and for each edge the
+    /// items that are left in its channel, those of the ring first. A net that has failed returns
+    /// `NoMemory`. If memory runs out, the net is lost.
     pub fn finish(self) -> Result<Parts<A>, NoMemory>
         ensures actors { IfOk result (λ parts. parts.actors ≡ (view self).actors) }
         ensures journals { IfOk result (λ parts. HasJournals (view self) parts.journals) }

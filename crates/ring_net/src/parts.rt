@@ -1,4 +1,4 @@
-//! What a net is made of, and what it leaves.
+//! What a net is made from, and what remains of it.
 
 ghost use Rattle.std.specs.Prelude.{◌≡◌, length};
 ghost use Rattle.ring_net.specs.Journals.{AreJournals};
@@ -14,7 +14,7 @@ pub type Actors<A> = Items<A>;
 /// Entries, in order.
 pub type Journal = Items<JournalEntry>;
 
-/// The journals of actors, by number. The entries of each are its own actor's, and their clocks rise.
+/// The journals of actors, by number. The entries of each are its own actor's, and their clocks ascend.
 #[derive(Debug, Drop)]
 pub struct Journals {
     list: Items<Journal>,
@@ -33,7 +33,7 @@ impl Model for Journals {
 }
 
 impl Journals {
-    /// The journals of this list. It takes no memory.
+    /// Returns the journals of this list. It allocates nothing.
     pub fn from_items(list: Items<Journal>) -> Journals
         requires { AreJournals list }
         ensures { result ≡ list }
@@ -41,7 +41,7 @@ impl Journals {
         Journals { list }
     }
 
-    /// The list of the journals. It takes no memory.
+    /// Returns the list of the journals. It allocates nothing.
     pub fn into_items(self) -> Items<Journal>
         ensures value { result ≡ self }
         ensures journals { AreJournals self }
@@ -83,7 +83,7 @@ pub struct Left<I> {
 /// What is left in each channel, in the order of the edges.
 pub type Lefts<I> = Items<Left<I>>;
 
-/// What a net leaves.
+/// What remains of a net.
 #[derive(Drop)]
 pub struct Parts<A: Actor> {
     pub actors: Actors<A>,

@@ -10,20 +10,20 @@ use graft_edge::{Items, NoMemory};
 use std::alloc::Global;
 use std::collections::VecDeque;
 
-/// What an actor writes while it acts. It keeps the actor's journal and clock, and an outbox for each
+/// What an actor writes while it acts. It holds the actor's journal and clock, and an outbox for each
 /// edge that leads from the actor to another.
 #[derive(Drop)]
 pub struct Post<I> {
     pub(crate) actor: u16,
     pub(crate) clock: u64,
     pub(crate) entries: Vec<JournalEntry>,
-    // By the number of the receiver.
+    // The outboxes, by the number of the receiver.
     pub(crate) boxes: Vec<Option<VecDeque<Stamped<I>>>>,
 }
 
 impl<I: Drop> Post<I> {
-    /// The post of this actor with this last clock and no entry, and an empty outbox to each actor of
-    /// `edges`.
+    /// Returns the post of this actor with this last clock and no entry, and an empty outbox to each
+    /// actor of `edges`.
     pub fn begin(alloc: Global, actor: u16, clock: u64, edges: &[u16]) -> Result<Post<I>, NoMemory>
         ensures actor { IfOk result (λ post. actor_of post ≡ actor) }
         ensures clock { IfOk result (λ post. clock_of post ≡ clock) }
@@ -43,7 +43,7 @@ impl<I: Drop> Post<I> {
         })
     }
 
-    /// Lets the clock be at least this stamp.
+    /// Raises the clock to this stamp, if it is lower.
     pub(crate) fn meet(&mut self, stamp: Stamp)
         ensures { self.new ≡ record self.old { clock = max self.old.clock stamp.0 } }
     {
@@ -52,8 +52,8 @@ impl<I: Drop> Post<I> {
         }
     }
 
-    /// Adds an entry of the actor with the next clock. The end of the clock counts as want of memory:
-    /// no memory holds the entries that are behind it.
+    /// Adds an entry of the actor with the next clock. If memory runs out, nothing changes. Clock
+    /// overflow is `NoMemory` too: there is no memory for that many entries.
     pub fn note(&mut self, kind: u16, a: u32, b: u32, c: u32) -> Result<(), NoMemory>
         ensures ok { OnOk result (Notes self.old
             (record { clock = clock_of self.old + 1; actor = actor_of self.old; kind = kind; a = a; b = b; c = c }) self.new) }
@@ -74,8 +74,9 @@ impl<I: Drop> Post<I> {
         Ok(())
     }
 
-    /// Appends the item to the outbox for its receiver, with the last clock as its stamp. Where no edge
-    /// leads from this actor to `to`, the item is dropped. Where no memory is found, it is handed back.
+    /// Appends the item to the outbox for its receiver, with the last clock as its stamp. If no edge
+    /// leads from this actor to `to`, the item is dropped. If memory runs out, the item is returned and
+    /// nothing changes.
     pub fn send(&mut self, to: usize, item: I) -> Result<(), I>
         ensures ok { OnOk result (SendsItem self.old to item self.new) }
         ensures err { IfErr result (λ back. (back ≡ item) × Wrote self.old [] self.new) }
@@ -87,14 +88,14 @@ impl<I: Drop> Post<I> {
         push_stamped(&mut self.boxes[to], Stamped { stamp, item })
     }
 
-    /// The entries, in order.
+    /// Returns the entries in order.
     pub fn entries(&self) -> &[JournalEntry]
         ensures { result.now ≡ entries_in self.now }
     {
         self.entries.as_slice()
     }
 
-    /// The entries alone. It takes no memory.
+    /// Returns only the entries. It allocates nothing.
     pub(crate) fn into_journal(self) -> Journal
         ensures { result ≡ entries_in self }
     {
@@ -102,8 +103,8 @@ impl<I: Drop> Post<I> {
         Items::from_vec(entries)
     }
 
-    /// Takes the head of the outbox for this receiver. There is none exactly where that outbox is empty
-    /// or no edge leads there.
+    /// Removes and returns the head of the outbox for this receiver. Returns `None` if and only if that
+    /// outbox is empty or no edge leads there.
     pub fn take_sent(&mut self, to: usize) -> Option<(Stamp, I)>
         ensures none { IsNone result ↔ (waits self.old to ≡ []) }
         ensures head { IfSome result (λ sent. waits self.old to ≡ record { stamp = sent.0; item = sent.1 } ∷ waits self.new to) }
@@ -124,7 +125,8 @@ ghost use Rattle.ring_net.specs.Posts.{box_items};
 ghost use Rattle.std.specs.Prelude.{is_some, slice_index_or, if◌then◌else◌, ◌==◌};
 ghost use Rattle.std.specs.Option.{option_to_list};
 
-/// Appends an item to an outbox. Where there is no outbox, the item is dropped.
+/// Appends an item to an outbox. If there is no outbox, the item is dropped. If memory runs out, the
+/// item is returned and nothing changes.
 fn push_stamped<I: Drop>(
     outbox: &mut Option<VecDeque<Stamped<I>>>,
     item: Stamped<I>,
@@ -142,7 +144,7 @@ fn push_stamped<I: Drop>(
     }
 }
 
-/// Takes the head of an outbox.
+/// Removes and returns the head of an outbox.
 fn pop_stamped<I: Drop>(outbox: &mut Option<VecDeque<Stamped<I>>>) -> Option<Stamped<I>>
     ensures edge { is_some outbox.new ≡ is_some outbox.old }
     ensures items { box_items outbox.old ≡ option_to_list result ++ box_items outbox.new }
@@ -154,7 +156,7 @@ fn pop_stamped<I: Drop>(outbox: &mut Option<VecDeque<Stamped<I>>>) -> Option<Sta
     }
 }
 
-/// Makes an empty outbox for this receiver.
+/// Creates an empty outbox for this receiver.
 pub(crate) fn open_box<I: Drop>(
     alloc: Global,
     boxes: &mut Vec<Option<VecDeque<Stamped<I>>>>,

@@ -1,4 +1,4 @@
-//! Nets of toy actors that run in threads, and the merge of journals: what no contract says of them.
+//! Nets of toy actors that run in threads, and the merge of journals: what no contract covers.
 #![tactic(auto)]
 
 #[cfg(test)]

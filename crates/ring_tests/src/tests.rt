@@ -10,7 +10,7 @@ use std::alloc::Global;
 use std::sync::atomic::{AtomicU64, Ordering};
 use std::test::Fail;
 
-/// Sends so many items in its next turn, and passes on what it takes.
+/// An actor that sends a number of items in its next turn, and passes on what it takes.
 #[derive(Drop)]
 struct Toy {
     next: usize,
@@ -19,7 +19,7 @@ struct Toy {
     last: u32,
 }
 
-/// Notes an event and sends an item.
+/// Writes an event to the journal, and sends an item.
 fn event(post: &mut Post<u32>, kind: u16, to: usize, item: u32) -> Result<(), NoMemory>
     ensures ok { OnOk result ((taken : Option (ℕ × ℕ)) → Wrote post.old
         (record { entry = record { clock = clock_of post.old + 1; actor = actor_of post.old; kind = kind; a = item; b = 0; c = 0 }; taken = taken; sent = (to, item) ∷ [] } ∷ []) post.new) }
@@ -76,7 +76,7 @@ fn make_toy(next: usize, to_send: u32) -> Toy {
     }
 }
 
-/// Two toys, of which the second sends so many items to the first, which passes them to nobody.
+/// Returns two toys. The second sends `to_send` items to the first, which passes them on to no actor.
 fn pair(alloc: Global, to_send: u32) -> Result<Net<Toy>, NoMemory> {
     let mut actors = Items::new(alloc);
     actors.push(make_toy(9, 0))?;
@@ -84,7 +84,7 @@ fn pair(alloc: Global, to_send: u32) -> Result<Net<Toy>, NoMemory> {
     Net::build(alloc, actors, &[(0, 1), (1, 0)])
 }
 
-/// An outbox of 1,000 items drains by 256 in a round, and the marks tell how many events stood there.
+/// An outbox of 1,000 items drains by 256 in a round, and the marks tell how many events there were.
 #[test]
 fn an_outbox_drains_by_256(rt: HostRuntime) -> Result<(), Fail> {
     let mut net = pair(rt.alloc(), 1000)?;
@@ -106,7 +106,7 @@ fn an_outbox_drains_by_256(rt: HostRuntime) -> Result<(), Fail> {
     Ok(())
 }
 
-/// Holds one actor until another one has passed, for so many looks at most.
+/// A gate that holds one actor until another one has passed, for a limited number of looks.
 #[derive(Drop)]
 struct Hold {
     held: usize,
@@ -141,7 +141,7 @@ impl Gate for Hold {
     }
 }
 
-/// Four toys, of which the first and the third send one item to one another.
+/// Returns four toys. The first and the third send one item to each other.
 fn four(alloc: Global) -> Result<Net<Toy>, NoMemory> {
     let mut actors = Items::new(alloc);
     actors.push(make_toy(2, 1))?;
@@ -151,8 +151,8 @@ fn four(alloc: Global) -> Result<Net<Toy>, NoMemory> {
     Net::build(alloc, actors, &[(0, 2), (2, 0)])
 }
 
-/// Two workers run at the same time: one of them is held until the other has gone past an actor that
-/// sends. What that actor pushed is taken in the same phase, in either direction.
+/// Two workers run at the same time: one of them is held until the other has gone past an actor that sends. What that
+/// actor pushed is taken in the same phase. This holds in both directions.
 #[test]
 fn two_workers_hand_over(rt: HostRuntime) -> Result<(), Fail> {
     for (held, until) in [(0usize, 3usize), (2, 1)] {
@@ -166,7 +166,7 @@ fn two_workers_hand_over(rt: HostRuntime) -> Result<(), Fail> {
     Ok(())
 }
 
-/// Any number of workers leaves the same actors, where their result doesn't depend on the schedule.
+/// Any number of workers leaves the same actors, if their result doesn't depend on the schedule.
 #[test]
 fn workers_leave_the_same(rt: HostRuntime) -> Result<(), Fail> {
     for workers in [1usize, 2, 3, 8] {
@@ -182,7 +182,7 @@ fn workers_leave_the_same(rt: HostRuntime) -> Result<(), Fail> {
     Ok(())
 }
 
-/// A post keeps what waits for each receiver, with its stamp, and drops what goes nowhere.
+/// A post keeps the pending items of each receiver, with their stamps, and drops items without a receiver.
 #[test]
 fn a_post_keeps_what_was_sent(rt: HostRuntime) -> Result<(), Fail> {
     let mut post = Post::begin(rt.alloc(), 3, 7, &[2, 5])?;
@@ -247,7 +247,7 @@ fn entry(clock: u64, actor: u16) -> JournalEntry
     }
 }
 
-/// A journal of two entries.
+/// Returns a journal of two entries.
 fn two(alloc: Global, first: JournalEntry, second: JournalEntry) -> Result<Journal, NoMemory>
     ensures { IfOk result (λ journal. journal ≡ first ∷ second ∷ []) }
 {
@@ -256,7 +256,7 @@ fn two(alloc: Global, first: JournalEntry, second: JournalEntry) -> Result<Journ
     Ok(journal)
 }
 
-/// The journals of three actors, of which the second has no entry.
+/// Returns the journals of three actors. The second one is empty.
 fn three(alloc: Global) -> Result<Journals, NoMemory> {
     let first = two(alloc, entry(2, 0), entry(5, 0))?;
     let third = two(alloc, entry(1, 2), entry(2, 2))?;
@@ -266,7 +266,7 @@ fn three(alloc: Global) -> Result<Journals, NoMemory> {
     Ok(Journals::from_items(list))
 }
 
-/// The entries stand by clock, and two of one clock by their actors.
+/// The entries are in the order of their clocks, and two with the same clock in the order of their actors.
 #[test]
 fn entries_stand_by_clock_and_actor(rt: HostRuntime) -> Result<(), Fail> {
     let merged = merge(rt.alloc(), three(rt.alloc())?)?;

@@ -22,6 +22,6 @@ begins clock = record { maker = Operator; took = none_of; sent = none_of; begins
 abbrev pub goes_on : ℕ → Clocked
 goes_on clock = record { maker = Router 1; took = none_of; sent = none_of; begins = false; clock = clock }
 
--- the four, with these clocks
+-- the four events, with these clocks
 abbrev pub four_at : (sending taking beginning last : ℕ) → List Clocked
 four_at a b c d = sends a ∷ takes b ∷ begins c ∷ goes_on d ∷ []

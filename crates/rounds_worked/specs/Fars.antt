@@ -1,4 +1,4 @@
--- Rounds of a far side: what all fields of `RealFar` but one say of them, and cases in which this one is false.
+-- Rounds of a far side: `RealFar` without one field, and cases in which only that field is false.
 use Rattle.std.specs.Prelude.{ℕ, ◌≡◌, ◌≢◌, ◌≤◌, ◌+◌, List, [], ◌∷◌, ◌++◌, length, filter, max, false}
 use Rattle.link_bag.specs.declared.plan.Fault.{Fault}
 use Rattle.link_bag.specs.declared.plan.Fate.{Fate}
@@ -36,7 +36,7 @@ pub data Field : Type 0 where
   AreSent : Field
   Home : Field
   Remote : Field
-  -- none is left out
+  -- no field is left out
   NoField : Field
 
 pub record RealFarBut (but : Field) (setup : Setup) (faults : List Fault) (p round : ℕ) (start : FarPart) (before : Links) (events : List FarEvent)
@@ -81,32 +81,32 @@ FalseAlone but setup round start before events end after = RealFarBut but setup 
 
 -- ---- far sides, and their links
 
--- the remote has said two octets, and sent so many of them
+-- the remote has said two octets, and sent this many of them
 abbrev pub saying : ℕ → FarPart
 saying emitted = record idle_far { end = record fresh_endpoint { stream = 1 ∷ 2 ∷ []; emitted = emitted } }
 
--- and it has sent so many octets more from a place on, which lie in the link to home
+-- and it has sent `len` more octets from a place on, which are in the link to home
 abbrev pub sent_by : FarPart → (from len : ℕ) → FarPart
 sent_by part from len = record part {
   end = record part.end { emitted = max part.end.emitted (from + len) };
   homeward = part.homeward ++ slice_at part.end from len ∷ [];
 }
 
--- so many segments were put into a link, and these lie in it, each of this fate, while the link points at this router
+-- this many segments were put into a link, and these are in it, each with this fate, put while the link pointed at this router
 abbrev pub lying : ℕ → Fate → ℕ → List InLink → Lying
 lying put fate router others = record { plans = put_now fate router ∷ others; put = put }
 
 abbrev pub home_links : Lying → Links
 home_links home = record { home = home; remote = nothing_lies }
 
--- the segment that was sent last, or two of them, lie in the link to home
+-- the segment that was sent last, or two of them, are in the link to home
 abbrev pub one_put : Links
 one_put = home_links (lying 1 fate.Pass 0 [])
 
 abbrev pub two_put : Links
 two_put = home_links (lying 2 fate.Pass 0 (put_now fate.Pass 0 ∷ []))
 
--- it lies there to be lost, or it knows another router, or it was never put; or a segment lies in the link to the remote that was never put
+-- it is there to be lost, or records another router, or was never put; or the link to the remote holds a segment that was never put
 abbrev pub one_to_lose : Links
 one_to_lose = home_links (lying 1 fate.Lose 0 [])
 
@@ -119,11 +119,11 @@ one_never_put = home_links (lying 0 fate.Pass 0 [])
 abbrev pub one_to_remote : Links
 one_to_remote = record { home = nothing_lies; remote = lying 0 fate.Pass 0 [] }
 
--- what was put home was delivered
+-- what was put into the link to home was delivered
 abbrev pub one_gone : Links
 one_gone = home_links (record { plans = []; put = 1 })
 
--- a segment of a router lies in the link to the remote; and one was put there and lost
+-- a segment of a router is in the link to the remote; and one was put there and lost
 abbrev pub a_segment : PlacedSegment
 a_segment = record { place = 0; bytes = []; ack = 0 }
 

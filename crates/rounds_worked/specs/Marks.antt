@@ -1,4 +1,4 @@
--- Marks of small laboratories: what all fields of `HasMarks` but one say of them, and cases in which this one is false.
+-- Marks of small laboratories: `HasMarks` without one field, and cases in which only that field is false.
 use Rattle.std.specs.Prelude.{ℕ, ◌≡◌, ◌≢◌, ◌==◌, if◌then◌else◌, List, [], ◌∷◌, length, Some}
 use Rattle.std.specs.List.{AllByRecursion, last_or}
 use Rattle.ring_net.specs.declared.entry.JournalEntry.{JournalEntry}
@@ -24,7 +24,7 @@ pub data Field : Type 0 where
   IsLast : Field
   Whole : Field
   Name : Field
-  -- none is left out
+  -- no field is left out
   NoField : Field
 
 pub record HasMarksBut (but : Field) (setup : Setup) (journal : List JournalEntry) (world : ℕ → World)
@@ -87,7 +87,7 @@ one = record { rounds = 1; least = 0 }
 abbrev pub entry_of : (clock actor : ℕ) → Code → JournalEntry
 entry_of clock actor code = record { clock = clock; actor = actor; kind = code.kind; a = code.a; b = code.b; c = code.c }
 
--- the router hears something; the operator begins a group; the operator notes an outcome, and begins a group behind it
+-- the router hears something; the operator begins a group; the operator notes an outcome, and begins a group after it
 abbrev pub heard : JournalEntry
 heard = entry_of 1 0 (router_code (Hear 0))
 
@@ -100,12 +100,12 @@ noted = entry_of 1 1 (operator_code (Note 0))
 abbrev pub begun_second : JournalEntry
 begun_second = entry_of 2 1 (operator_code Go)
 
--- ---- marks: of the router so many entries, and of the operator so many
+-- ---- marks: the numbers of entries of the router and of the operator
 
 abbrev pub mark_of : ℕ → ℕ → List ℕ
 mark_of r o = r ∷ o ∷ []
 
--- of one round, or two, of which the journal holds nothing; and of two, in the second of which the operator notes an entry, or two
+-- of one round, or two, without entries; and of two rounds, in the second of which the operator writes one entry, or two
 abbrev pub one_round : List (List ℕ)
 one_round = mark_of 0 0 ∷ mark_of 0 0 ∷ []
 

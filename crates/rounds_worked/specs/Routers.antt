@@ -1,4 +1,4 @@
--- Rounds of a router and of the operator: what all fields of `RealRouter` but one say of them, and cases in which this one is false.
+-- Rounds of a router and of the operator: `RealRouter` without one field, and cases in which only that field is false.
 use Rattle.std.specs.Prelude.{ℕ, ◌≡◌, ◌≢◌, ◌≤◌, List, [], ◌∷◌, ◌++◌, length, map, false}
 use Rattle.std.specs.List.{AllByRecursion}
 use Rattle.ring_net.specs.Deeds.{Climbs}
@@ -34,7 +34,7 @@ pub data Field : Type 0 where
   GoesOn : Field
   Numbered : Field
   Ticks : Field
-  -- none is left out
+  -- no field is left out
   NoField : Field
 
 pub record RealRouterBut (but : Field) (setup : Setup) (r round : ℕ) (start : RouterPart) (events : List RouterEvent) (end : RouterPart) : Type 0 where
@@ -65,7 +65,7 @@ FalseAlone but setup round start events end = RealRouterBut but setup 0 round st
 
 -- ---- routers
 
--- nothing happened to the router, and a prefix is to be decided
+-- nothing happened to the router, and a prefix is dirty
 abbrev pub undecided : RouterPart
 undecided = record idle_router { dirty = ten_alone }
 
@@ -88,7 +88,7 @@ timed = a_with timed_session
 
 -- ---- events
 
--- all of the OPEN; its first 10 octets, and the others
+-- all of the OPEN; its first 10 octets; and the remaining ones
 abbrev pub all_octets : RouterEvent
 all_octets = Emit 0 0 29
 

@@ -1,4 +1,4 @@
--- The run of a round, and what it takes: what all fields of `RoundGoes` but one say of it, and cases in which this one is false.
+-- The run of a round, and the items that it takes: `RoundGoes` without one field, and cases in which only that field is false.
 use Rattle.std.specs.Prelude.{ℕ, ◌≢◌, ◌+◌, ◌==◌, if◌then◌else◌, List, [], ◌∷◌}
 use Rattle.ring_net.specs.declared.entry.JournalEntry.{JournalEntry}
 use Rattle.journal_merge.specs.Merges.{Interleaves}
@@ -20,7 +20,7 @@ pub data Field : Type 0 where
   Merged : Field
   EntriesOf : Field
   Runs : Field
-  -- none is left out
+  -- no field is left out
   NoField : Field
 
 pub record RoundGoesBut (but : Field) (setup : Setup) (start : World) (slices : Slices) (events : List Event) (end : World) : Type 0 where
@@ -51,9 +51,9 @@ last_group = next_group (next_group first_group)
 abbrev pub two_gos : List Event
 two_gos = ByOperator Go ∷ ByOperator Go ∷ []
 
--- ---- what an actor noted in a round
+-- ---- the entries of an actor in a round
 
--- nobody noted anything, or only the operator or only the router did
+-- no actor wrote an entry, or only the operator or only the router did
 abbrev pub none_noted : Slices
 none_noted k = []
 

@@ -1,4 +1,4 @@
-//! What holds of the worked marks and rounds.
+//! Laws of the worked marks and rounds.
 
 ghost use Rattle.std.specs.Prelude.{◌≤◌, ℕ, List, [], ◌∷◌, length, map};
 ghost use Rattle.ring_net.specs.declared.entry.JournalEntry.{JournalEntry};
@@ -39,14 +39,15 @@ ghost use Rattle.rounds_worked.specs.Whole.{thrice, first_group, last_group, two
 ghost use Rattle.rounds_worked.specs.Marks as marks;
 ghost use Rattle.rounds_worked.specs.Marks.{once, twice, calm, busy_at, usual, patient, one, busy, heard, begun, noted, begun_second, mark_of, one_round, two_rounds, go_behind, two_behind};
 
-/// Small runs that have their marks: of one round in which nothing happens, and of two groups, the second of which begins behind the first round.
+/// Small runs that have their marks: of one round in which nothing happens, and of two groups, the second of which
+/// begins after the first round.
 pub fn small_runs_have_their_marks()
     ensures one { HasMarks once [] (calm once) (usual ∷ []) one_round (1 ∷ []) Settled }
     ensures two { HasMarks twice (begun ∷ []) (calm twice) (usual ∷ usual ∷ []) go_behind (1 ∷ 1 ∷ []) Settled }
 {}
 
-/// Each field of what is said of marks can be false while all others hold: each of these runs differs in one thing from those of
-/// `small_runs_have_their_marks`. Where no field is left out, that is what is said.
+/// Each field of `HasMarks` can be false while all others hold: each of these runs differs in one thing from those of
+/// `small_runs_have_their_marks`. With no field left out, this is `HasMarks` itself.
 pub fn each_field_of_marks_is_needed()
     ensures all { (setup : Setup) (journal : List JournalEntry) (world : ℕ → World) (budgets : List Budget) (all : List (List ℕ)) (made : List ℕ) (end : RunEnd)
         → marks.HasMarksBut marks.NoField setup journal world budgets all made end → HasMarks setup journal world budgets all made end }
@@ -60,9 +61,9 @@ pub fn each_field_of_marks_is_needed()
     ensures whole { marks.FalseAlone marks.Whole once (heard ∷ []) (calm once) (usual ∷ []) one_round (1 ∷ []) Settled }
 {}
 
-/// Marks that name something else than their worlds are none of a run: a round though all is quiet, or past the budget; Settled while an item is on
-/// its way, or before the least rounds; a count of rounds that is another; Unsettled within the budget; and a limit that isn't met. All else of what
-/// is said of marks holds of them.
+/// Marks whose decisions don't fit their worlds are not those of a run: a round though all is quiet, or past the
+/// budget; Settled while an item is on its way, or before the least number of rounds; a wrong count of rounds;
+/// Unsettled within the budget; and a limit that isn't reached. All other fields of `HasMarks` hold for them.
 pub fn marks_name_what_their_worlds_are()
     ensures round_though_quiet { marks.FalseAlone marks.Name once [] (calm once) (usual ∷ []) two_rounds (2 ∷ []) Settled }
     ensures round_past_budget { marks.FalseAlone marks.Name once [] (busy_at 1 once) (one ∷ []) two_rounds (2 ∷ []) Settled }
@@ -74,8 +75,9 @@ pub fn marks_name_what_their_worlds_are()
     ensures stream_not_full { marks.FalseAlone marks.Name once [] (calm once) (usual ∷ []) one_round (1 ∷ []) (StreamFull (record { 0 = 0 }) 1044500) }
 {}
 
-/// Groups begin behind the mark at which the one before them ended, and nowhere else: no group begins there, or one entry later, or two begin; or one
-/// begins behind a mark of another round. All else of what is said of marks holds of these runs.
+/// A group begins right after the mark at which the previous one ended, and nowhere else. In these runs no group begins
+/// there, or one begins one entry later, or two begin; or one begins after the mark of another round. All other fields
+/// of `HasMarks` hold for them.
 pub fn groups_begin_behind_their_marks()
     ensures none { marks.FalseAlone marks.Name twice [] (calm twice) (usual ∷ usual ∷ []) two_rounds (1 ∷ 1 ∷ []) Settled }
     ensures late { marks.FalseAlone marks.Name twice (noted ∷ begun_second ∷ []) (calm twice) (usual ∷ usual ∷ []) two_behind (1 ∷ 1 ∷ []) Settled }
@@ -94,8 +96,8 @@ pub fn small_rounds_are_real()
     ensures far_sends { RealFar base [] 0 1 (saying 0) empty_links (both_octets ∷ []) (sent_by (saying 0) 0 2) one_put }
 {}
 
-/// Fields of what is said of a router's round that can be false while all others hold: each of these rounds differs in one thing from those of
-/// `small_rounds_are_real`. Where no field is left out, that is what is said.
+/// Fields of `RealRouter` that can be false while all others hold: each of these rounds differs in one thing from those
+/// of `small_rounds_are_real`. With no field left out, this is `RealRouter` itself.
 pub fn fields_of_a_routers_round_are_needed()
     ensures all { (setup : Setup) (r round : ℕ) (start : RouterPart) (events : List RouterEvent) (end : RouterPart)
         → routers.RealRouterBut routers.NoField setup r round start events end → RealRouter setup r round start events end }
@@ -111,15 +113,16 @@ pub fn fields_of_a_routers_round_are_needed()
     ensures ticks { routers.FalseAlone routers.Ticks beating 1 timed [] timed }
 {}
 
-/// Rounds that no router makes, whatever it is at their start and their end: one whose turn begins with the Tick of another round's number, as a
-/// session may close in it; and one in which an old slice is sent twice, behind a segment that may have acknowledged what was before it.
+/// Rounds that no router makes, whatever its parts at their start and end are: one whose turn begins with the Tick of
+/// another round's number, where a session may close; and one in which an old slice is sent twice, after a segment that
+/// may have acknowledged what came before it.
 pub fn some_rounds_are_never_real()
     ensures tick { (start end : RouterPart) (events : List RouterEvent) → ¬ RealRouter base 0 2 start (Tick 0 1 ∷ events) end }
     ensures twice { (start end : RouterPart) → ¬ RealRouter base 0 1 start (Arrive 0 ∷ other_octets ∷ other_octets ∷ []) end }
 {}
 
-/// Each field of what is said of the operator's round can be false while the other holds: what the remote is to say isn't ordered, or a group begins
-/// that the script doesn't have.
+/// Each field of `RealOperator` can be false while the other holds: what the remote is to say isn't ordered, or a group
+/// begins that the script doesn't have.
 pub fn each_field_of_the_operators_round_is_needed()
     ensures all { (setup : Setup) (start : OperatorPart) (events : List OperatorEvent) (end : OperatorPart)
         → routers.RealOperatorBut routers.NoOperatorField setup start events end → RealOperator setup start events end }
@@ -129,8 +132,8 @@ pub fn each_field_of_the_operators_round_is_needed()
     ensures issued { routers.OperatorFalseAlone routers.Issued base operator_first [] operator_first }
 {}
 
-/// Fields of what is said of a far side's round that can be false while all others hold: each of these rounds differs in one thing from those of
-/// `small_rounds_are_real`. Where no field is left out, that is what is said.
+/// Fields of `RealFar` that can be false while all others hold: each of these rounds differs in one thing from those of
+/// `small_rounds_are_real`. With no field left out, this is `RealFar` itself.
 pub fn fields_of_a_far_sides_round_are_needed()
     ensures all { (setup : Setup) (faults : List Fault) (p round : ℕ) (start : FarPart) (before : Links) (events : List FarEvent) (end : FarPart)
         (after : Links)
@@ -155,8 +158,8 @@ pub fn fields_of_a_far_sides_round_are_needed()
     ensures remote { fars.FalseAlone fars.Remote base 1 idle_far empty_links [] idle_far one_to_remote }
 {}
 
-/// That a router or a far side gives at most one answer in a round follows from what else is said of its answers: each is owed, and behind one none
-/// is.
+/// That a router or a far side sends at most one acknowledgement in a round follows from the other conditions on
+/// acknowledgements: each must be owed, and after one has been sent none is.
 pub fn one_answer_follows()
     ensures router { (setup : Setup) (r p : ℕ) (start end : RouterPart) (work : List RouterEvent) (parts : List RouterPart)
         → RouterGoes setup r (Works setup r) start work parts end
@@ -165,9 +168,9 @@ pub fn one_answer_follows()
         → length answers ≤ 1 }
 {}
 
-/// Each field of what is said of a round's run can be false while the others hold: entries that don't stand by their clocks, or one that is no
-/// event's; events that nobody noted; and a world to which no event led. Where no field is left out, that is what is said, and it holds of two groups
-/// that begin one after the other.
+/// Each field of `RoundGoes` can be false while the others hold: entries that aren't in the order of their clocks, or
+/// one that is no event's; events without entries; and a world to which no event led. With no field left out, this is
+/// `RoundGoes` itself, and it holds for two groups that begin one after the other.
 pub fn each_field_of_a_rounds_run_is_needed()
     ensures all { (setup : Setup) (start : World) (slices : Slices) (events : List Event) (end : World)
         → whole.RoundGoesBut whole.NoField setup start slices events end → RoundGoes setup start slices events end }
@@ -180,15 +183,16 @@ pub fn each_field_of_a_rounds_run_is_needed()
     ensures run { whole.FalseAlone whole.Runs once (first_world once) none_noted [] (busy (first_world once)) }
 {}
 
-/// An order on its way to a router is taken in one of two rounds; it isn't left there for both.
+/// An order on its way to a router is taken in one of two rounds; it isn't left in the channel for both.
 pub fn an_order_is_not_left_for_two_rounds()
     ensures taken { Drains once ordered none_noted (noted_by 0 (admitted ∷ [])) }
     ensures left { ¬ Drains once ordered none_noted none_noted }
 {}
 
-/// The clocks of four events: a router sends an item to another, which takes it, then a group begins, and the other router does something. They
-/// follow where they are 1 to 4; and not where all are 0, where the clock of the one that takes isn't above the stamp, where the beginning's isn't
-/// above every clock, or where it didn't level the other router's.
+/// The clocks of four events: a router sends an item to another, which takes it, then a group begins, and the other
+/// router does something. They follow if they are 1 to 4. They don't if all are 0, if the clock of the event that takes
+/// isn't above the stamp, if that of the group's beginning isn't above every clock, or if the beginning didn't level
+/// the other router's clock.
 pub fn each_clock_follows()
     ensures follow { AreClocked (four_at 1 2 3 4) }
     ensures all_zero { ¬ AreClocked (four_at 0 0 0 0) }

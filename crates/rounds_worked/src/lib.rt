@@ -1,4 +1,4 @@
-//! What the headline says of the marks and the rounds of a run, tried field by field.
+//! The headline's claims about the marks and the rounds of a run, tried field by field.
 #![tactic(auto)]
 
 mod laws;

@@ -17,8 +17,8 @@ use Rattle.route_policy.specs.declared.best.Best.{Best}
 use Rattle.route_policy.specs.declared.entry.Entry.{Entry}
 use Rattle.route_policy.specs.declared.rule.Rule.{Rule}
 
--- what a session, or the shadow of one that moved away, gives for a prefix: the identifier of the
--- remote's OPEN, the remote's address, the import policy, and the attributes as they were heard
+-- what a session, or the shadow of one that moved away, gives for a prefix: the identifier in the remote's OPEN, the remote's address, the import
+-- policy, and the attributes as they were heard
 pub record SessionRoute : Type 0 where
   pub peering : PeeringId
   pub remote_as : ℕ
@@ -34,7 +34,7 @@ pub record RouterRoute : Type 0 where
   pub cost : ℕ
   pub told : Option Route
 
--- a candidate: where it comes from and the route, and beside them the rank by which the choice goes
+-- a candidate: its source and its route, together with the rank by which the choice is made
 abbrev pub Candidate : Type 0
 Candidate = Best × Rank
 
@@ -54,7 +54,7 @@ own_rank home_as = record {
   address = 0;
 }
 
--- An absent MED is 0. A count of ASes above 2^32 - 1 is taken as that number.
+-- An absent MED counts as 0. A count of ASes above 2^32 - 1 is taken as that number.
 abbrev pub rank_of : ℕ → Bool → ℕ → ℕ → ℕ → Route → Rank
 rank_of home_as external cost identifier address route = record {
   own = false;
@@ -81,8 +81,8 @@ own_route = record {
 abbrev pub own_candidates : ℕ → Bool → List Candidate
 own_candidates home_as has_network = if has_network then (record { from = Own; route = own_route }, own_rank home_as) ∷ [] else []
 
--- What a session brings in. A route whose path has the home AS would be a loop and is none
--- (section 9.1.2). Preference is 100 where the policy sets none; an absent policy lets all through.
+-- The route that a session gives. A path with the home AS would be a loop and gives none (section 9.1.2). Preference is 100 if the policy sets none;
+-- without a policy all routes pass.
 abbrev pub imported : ℕ → PrefixValue → SessionRoute → Option Attrs → Option Route
 imported home_as prefix session None = None
 imported home_as prefix session (Some heard) =
@@ -94,18 +94,17 @@ session_candidate home_as session None = None
 session_candidate home_as session (Some route) =
     Some (record { from = Peering session.peering; route = route }, rank_of home_as true 0 session.identifier session.address route)
 
--- what an entry of the peering of a number gives
+-- the candidate that the entry of a peering, given by number, makes
 abbrev pub entry_candidate : ℕ → ℕ → Option Entry → Option Candidate
 entry_candidate home_as p entry = option_map (λ e. (record { from = Peering (record { 0 = p }); route = e.route }, rank_of home_as true 0 e.identifier e.address e.route)) entry
 
--- a told route has the telling router's identifier for its identifier and its address
+-- the identifier of the router that told a route counts as the route's identifier and as its address
 abbrev pub router_candidate : ℕ → RouterRoute → Option Route → Option Candidate
 router_candidate home_as teller None = None
 router_candidate home_as teller (Some route) =
     Some (record { from = Router teller.router; route = route }, rank_of home_as false teller.cost teller.identifier teller.identifier route)
 
--- The own network first, then the sessions and shadows by rising peering, then the other routers by
--- rising number.
+-- The own network first, then the sessions and shadows in ascending order of peering, then the other routers in ascending order of number.
 abbrev pub candidates : ℕ → PrefixValue → Bool → List SessionRoute → List RouterRoute → List Candidate
 candidates home_as prefix has_network sessions tellers =
     own_candidates home_as has_network

@@ -13,7 +13,7 @@ abbrev pub with_as : ℕ → PathPart → PathPart
 with_as as_number (Sequence ases) = Sequence (as_number ∷ ases)
 with_as as_number (Set ases) = Set (as_number ∷ ases)
 
--- an AS goes into a leading sequence with room, else into a new sequence in front
+-- an AS is put in a leading sequence with room, else in a new sequence in front
 abbrev pub prepend : ℕ → List PathPart → List PathPart
 prepend as_number [] = Sequence (as_number ∷ []) ∷ []
 prepend as_number (part ∷ parts) =

@@ -14,11 +14,11 @@ use Rattle.route_policy.specs.declared.rule.Rule.{Rule}
 abbrev pub covers : PrefixValue → PrefixValue → Bool
 covers p q = nat_le p.len q.len && (cleared p.len q.address == p.address)
 
--- covered, and of a length within the two bounds
+-- covered, and with a length within the two bounds
 abbrev pub is_in_range : PrefixRange → PrefixValue → Bool
 is_in_range range prefix = covers range.prefix prefix && nat_le range.ge prefix.len && nat_le prefix.len range.le
 
--- the AS stands in some part of the path
+-- the AS is in some part of the path
 abbrev pub holds_as : List PathPart → ℕ → Bool
 holds_as path as_number = list_any (λ part. list_any (λ other. other == as_number) (ases_of part)) path
 

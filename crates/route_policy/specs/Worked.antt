@@ -1,4 +1,4 @@
--- A worked route: heard on a session, decided between, and told. Each value is computed by hand from the sections of RFC 4271 that the definitions name.
+-- A worked route: heard, compared with others, and told. Each value is computed by hand from the sections of RFC 4271 that the definitions name.
 use Rattle.std.specs.Prelude.{ℕ, true, false, List, [], ◌∷◌, Some, None, replicate}
 use Rattle.bgp_types.specs.Prefixes.{PrefixValue}
 use Rattle.bgp_types.specs.declared.attrs.Attrs.{Attrs}
@@ -26,7 +26,7 @@ attrs_heard = record { origin = Igp; path = Sequence (65001 ∷ []) ∷ []; next
 abbrev pub raising_rule : Rule
 raising_rule = record { within = None; has_as = None; origin = None; deny = false; pref = Some 200; med = None; prepend = 1 }
 
--- from peering 3, which brings it in by that rule
+-- from peering 3, whose import policy is that rule
 abbrev pub raising_session : SessionRoute
 raising_session = record { peering = record { 0 = 3 }; remote_as = 65001; identifier = 9; address = 8; import_rules = Some (raising_rule ∷ []); heard = Some attrs_heard }
 
@@ -38,7 +38,7 @@ raised_route = record { attrs = record attrs_heard { path = Sequence (65001 ∷ 
 abbrev pub telling_router : RouterRoute
 telling_router = record { router = record { 0 = 1 }; identifier = 5; cost = 4; told = Some (record { attrs = attrs_heard; pref = 100 }) }
 
--- a best that router 1 told, which isn't told on inside
+-- a best route that router 1 told, which isn't told to other home routers
 abbrev pub interior_best : Best
 interior_best = record { from = Router (record { 0 = 1 }); route = record { attrs = attrs_heard; pref = 100 } }
 
@@ -59,11 +59,11 @@ raising_side = record { peering = record { 0 = 2 }; remote_as = 65002; local_add
 abbrev pub silent_side : OutSide
 silent_side = record raising_side { export_rules = Some (record raising_rule { deny = true } ∷ []) }
 
--- the best is from peering 3, and its unknown attribute has so many octets
+-- the best route is from peering 3, and its unknown attribute has this many octets
 abbrev pub best_of_size : ℕ → Best
 best_of_size n = record { from = Peering (record { 0 = 3 }); route = record { attrs = record attrs_heard { unknown = record { kind = 200; partial = false; bytes = replicate n 1 } ∷ [] }; pref = 200 } }
 
--- the best is from peering 3, with this path
+-- the best route is from peering 3, with this path
 abbrev pub best_over : List PathPart → Best
 best_over path = record { from = Peering (record { 0 = 3 }); route = record { attrs = record attrs_heard { path = path }; pref = 200 } }
 
@@ -79,10 +79,10 @@ best_aggregated = best_over (Sequence (65001 ∷ []) ∷ (Set (65003 ∷ (65002 
 abbrev pub attrs_told : Attrs
 attrs_told = record { origin = Igp; path = Sequence (65000 ∷ (65000 ∷ (65001 ∷ []))) ∷ []; next_hop = 3221225990; med = Some 50; atomic = true; aggregator = None; unknown = record { kind = 200; partial = true; bytes = 1 ∷ [] } ∷ [] }
 
--- with no export policy the home AS once and no MED
+-- without an export policy: the home AS once, and no MED
 abbrev pub attrs_told_plainly : Attrs
 attrs_told_plainly = record attrs_told { path = Sequence (65000 ∷ (65001 ∷ [])) ∷ []; med = None }
 
--- the one through 65002 as the policy leaves it
+-- the route through 65002 as the policy leaves it
 abbrev pub attrs_told_through : Attrs
 attrs_told_through = record attrs_told { path = Sequence (65000 ∷ (65000 ∷ (65001 ∷ (65002 ∷ [])))) ∷ [] }

@@ -1,8 +1,8 @@
-//! What a router decided on.
+//! The best route that a router selected.
 
 use bgp_types::{From, NoMemory, Route, TryCopy};
 
-/// The best route to a prefix, and where it comes from.
+/// The best route to a prefix, and its source.
 #[derive(Debug, PartialEq, Eq, Drop)]
 pub struct Best {
     pub from: From,

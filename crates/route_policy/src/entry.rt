@@ -1,8 +1,8 @@
-//! What a peering brings in.
+//! What a peering gives for a prefix.
 
 use bgp_types::Route;
 
-/// What a peering brought in for a prefix: the route as the import policy left it, and the BGP Identifier and
+/// A route that a peering gives for a prefix, as the import policy left it, with the BGP Identifier and
 /// the address of the remote.
 #[derive(Debug, PartialEq, Eq, Drop)]
 pub struct Entry {

@@ -9,14 +9,14 @@ ghost use Rattle.route_policy.specs.Telling.{OutSide, tell_in, tell_out};
 ghost use Rattle.route_policy.specs.declared.best.Best.{Best};
 ghost use Rattle.route_policy.specs.Worked.{worked_prefix, attrs_heard, raising_session, raised_route, telling_router, interior_best, three_sources, two_ranks, raising_side, silent_side, best_of_size, best_through, best_aggregated, attrs_told, attrs_told_plainly, attrs_told_through};
 
-/// No path that is told on a session has the remote's AS in it, unless that is the home AS.
+/// No path that is told on a session contains the remote's AS, unless that is the home AS.
 pub fn told_paths_avoid_the_remote_as()
     ensures { (home_as : ℕ) (out : OutSide) (prefix : PrefixValue) (best : Option Best) (attrs : Attrs)
         → home_as ≢ out.remote_as → tell_out home_as out prefix best ≡ Some attrs → holds_as attrs.path out.remote_as ≡ false }
 {}
 
-/// A route that is heard: what the import policy makes of it, that a path with the home AS brings nothing in, and the
-/// order and the ranks of the candidates.
+/// A route that is heard: what the import policy makes of it, that a path with the home AS gives no
+/// candidate, and the order and the ranks of the candidates.
 pub fn worked_candidates()
     ensures raised { imported 65000 worked_prefix raising_session raising_session.heard ≡ Some raised_route }
     ensures looped { imported 65001 worked_prefix raising_session raising_session.heard ≡ None }
@@ -24,8 +24,9 @@ pub fn worked_candidates()
     ensures ranks { map (λ c. c.1) (candidates 65000 worked_prefix false (raising_session ∷ []) (telling_router ∷ [])) ≡ two_ranks }
 {}
 
-/// A best route that is told on a session, or isn't: where it came from there, where it went through the remote's AS, where the
-/// policy denies it, where its UPDATE has more than 4,096 octets, and to another router where yet another told it.
+/// A best route that is told on a session, or isn't: because it came from that session, because it went
+/// through the remote's AS, because the policy denies it, or because its UPDATE has more than 4,096
+/// octets. It isn't told to another home router if it was learned from a third one.
 pub fn worked_telling()
     ensures told { tell_out 65000 raising_side worked_prefix (Some (best_of_size 1)) ≡ Some attrs_told }
     ensures plainly { tell_out 65000 (record raising_side { export_rules = None }) worked_prefix (Some (best_of_size 1)) ≡ Some attrs_told_plainly }

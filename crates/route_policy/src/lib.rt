@@ -1,5 +1,5 @@
-//! Routing policies (RFC 4271, sections 9.1.1 and 9.1.3), the ranks of routes, and what a router goes by when
-//! it decides and tells.
+//! Routing policies (RFC 4271, sections 9.1.1 and 9.1.3), the ranks of routes, and what a router's
+//! decisions and advertisements depend on.
 #![tactic(auto)]
 
 mod best;

@@ -5,7 +5,7 @@ ghost use Rattle.route_policy.specs.Paths.{has_room as has_room_lem, with_as, pr
 
 use bgp_types::{AsPath, Items, NoMemory, PathPart};
 
-/// How many ASes a part of a path has at most.
+/// The most ASes of a part of a path.
 const PART_LIMIT: usize = 255;
 
 /// Whether a path begins with a sequence to which an AS can be added.
@@ -18,7 +18,7 @@ fn has_room(parts: &[PathPart]) -> bool
     }
 }
 
-/// A part with one more AS in front.
+/// Returns a part with one more AS in front.
 fn add_in_front(part: PathPart, as_number: u32) -> Result<PathPart, NoMemory>
     ensures { IfOk result (λ longer. longer ≡ with_as as_number part) }
 {
@@ -36,8 +36,8 @@ fn add_in_front(part: PathPart, as_number: u32) -> Result<PathPart, NoMemory>
     }
 }
 
-/// Puts an AS in front of a path: into its leading sequence where that has room, since a part has at
-/// most 255 ASes, else into a new sequence.
+/// Returns a path with an AS put in front: in its leading sequence if that has room, since a part has
+/// at most 255 ASes, else in a new sequence. If memory runs out, the path is lost.
 pub fn prepend(path: AsPath, as_number: u32) -> Result<AsPath, NoMemory>
     ensures { IfOk result (λ longer. longer ≡ prepend_lem as_number path) }
 {
@@ -53,7 +53,7 @@ pub fn prepend(path: AsPath, as_number: u32) -> Result<AsPath, NoMemory>
     Ok(Items::from_vec(parts))
 }
 
-/// Puts an AS in front of a path several times.
+/// Returns a path with an AS put in front `times` times.
 pub(crate) fn prepend_times(path: AsPath, as_number: u32, times: u8) -> Result<AsPath, NoMemory>
     ensures { IfOk result (λ longer. longer ≡ prepend_times_lem times as_number path) }
 {

@@ -8,7 +8,7 @@ use crate::rule::{Rule, Rules, matches};
 use bgp_types::{Attrs, NoMemory, Prefix, Route, TryCopy};
 use std::marker::Model;
 
-/// A list of rules, of which the first that matches a route decides about it.
+/// A list of rules. The first rule that matches a route decides what becomes of it.
 #[derive(Debug, Drop)]
 pub struct Policy {
     rules: Rules,
@@ -27,14 +27,15 @@ impl Policy {
     ghost use Rattle.route_policy.specs.Rules.{matches as matches_lem};
     ghost use Rattle.route_policy.specs.Policies.{policy as policy_lem};
 
-    /// The policy of these rules, which are tried in their order. It takes no memory.
+    /// Returns the policy of these rules, which are tried in their order. It allocates nothing.
     pub fn new(rules: Rules) -> Policy
         ensures { result ≡ rules }
     {
         Policy { rules }
     }
 
-    /// The place of the first rule all of whose parts match, counted from 0. It takes no memory.
+    /// Returns the place, counted from 0, of the first rule all of whose parts match. It allocates
+    /// nothing.
     pub fn matching(&self, prefix: Prefix, route: &Route) -> Option<usize>
         ensures { result ≡ position (λ rule. matches_lem rule prefix route.now) self.now }
     {
@@ -43,10 +44,10 @@ impl Policy {
             .position(|rule| matches(rule, prefix, route))
     }
 
-    /// What becomes of a route. The first rule that matches decides: it refuses the route, and the answer
-    /// is `None`, or else it sets the preference and the MED that it has, and puts `as_number` in front of
-    /// the path as often as it says. If none matches, the route stays as it is. If memory runs out, the
-    /// route is gone.
+    /// Applies the policy to a route. The first rule that matches decides: it refuses the route, which
+    /// returns `None`, or it sets the preference and the MED that it has, and puts `as_number` in front
+    /// of the path as often as it says. If none matches, the route stays as it is. If memory runs out,
+    /// the route is lost.
     pub fn apply(
         &self,
         prefix: Prefix,
@@ -62,7 +63,7 @@ impl Policy {
     }
 }
 
-/// What a rule that matches makes of a route.
+/// Returns what a rule that matches makes of a route.
 fn decide(rule: &Rule, route: Route, as_number: u32) -> Result<Option<Route>, NoMemory>
     ensures { IfOk result (λ answer. answer ≡ decision rule.now as_number route) }
 {

@@ -6,10 +6,10 @@ ghost use Rattle.route_policy.specs.Candidates.{own_rank as own_rank_lem, rank_o
 
 use bgp_types::{Origin, Rank, Route, neighbour, path_len};
 
-/// The preference of a route for which no policy sets one.
+/// The preference of a route if no policy sets one.
 const PREFERENCE: u32 = 100;
 
-/// The number of an ORIGIN, of which the lowest is the best.
+/// Returns the number of an ORIGIN. The lowest is the best.
 fn origin_number(origin: Origin) -> u8
     ensures { result ≡ origin_number_lem origin }
 {
@@ -20,7 +20,7 @@ fn origin_number(origin: Origin) -> u8
     }
 }
 
-/// The rank of a network of the router's own: preference 100, an empty path and ORIGIN IGP.
+/// Returns the rank of a network of the router's own: preference 100, an empty path and ORIGIN IGP.
 pub fn own_rank(home_as: u32) -> Rank
     ensures { result ≡ own_rank_lem home_as }
 {
@@ -38,8 +38,8 @@ pub fn own_rank(home_as: u32) -> Rank
     }
 }
 
-/// The rank of a route that a session brings in, as its import policy left it. `identifier` is that of
-/// the remote's OPEN, and `address` the remote's. An absent MED counts as 0.
+/// Returns the rank of a route from a session, as its import policy left it. `identifier` is the BGP
+/// Identifier in the remote's OPEN, and `address` the remote's address. An absent MED counts as 0.
 pub fn session_rank(home_as: u32, identifier: u32, address: u32, route: &Route) -> Rank
     ensures { result ≡ rank_of home_as true 0 identifier address route.now }
 {
@@ -49,15 +49,16 @@ pub fn session_rank(home_as: u32, identifier: u32, address: u32, route: &Route) 
     }
 }
 
-/// The rank of a route that another home router told. `cost` is the interior cost to that router, and
-/// `identifier` its BGP Identifier, which stands for its address too. An absent MED counts as 0.
+/// Returns the rank of a route that another home router told. `cost` is the interior cost to that
+/// router, and `identifier` its BGP Identifier, which also counts as its address. An absent MED counts
+/// as 0.
 pub fn router_rank(home_as: u32, cost: u32, identifier: u32, route: &Route) -> Rank
     ensures { result ≡ rank_of home_as false cost identifier identifier route.now }
 {
     told_rank(home_as, cost, identifier, identifier, route)
 }
 
-/// The rank of a route that was told inside the home network.
+/// Returns the rank of a route that was told inside the home network.
 fn told_rank(home_as: u32, cost: u32, identifier: u32, address: u32, route: &Route) -> Rank
     ensures { result ≡ rank_of home_as false cost identifier address route.now }
 {

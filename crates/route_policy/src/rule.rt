@@ -5,7 +5,7 @@ ghost use Rattle.route_policy.specs.Rules.{is_in_range as is_in_range_lem, is_in
 
 use bgp_types::{AsPath, Items, NoMemory, Origin, Prefix, Route, TryCopy, holds_as};
 
-/// The prefixes that a prefix covers and whose length is from `ge` to `le`.
+/// The prefixes that a prefix covers, with a length from `ge` to `le`.
 #[derive(Clone, Copy, Debug, PartialEq, Eq, Hash)]
 pub struct PrefixRange {
     pub prefix: Prefix,
@@ -13,10 +13,10 @@ pub struct PrefixRange {
     pub le: u8,
 }
 
-/// A rule of a policy. The first three parts say which routes it matches: a part that is absent
-/// matches every route. The others say what becomes of them: with `deny` they are refused, else the
-/// preference and the MED that are there are set, and an AS is put in front of the path `prepend`
-/// times.
+/// A rule of a policy. The first three parts say which routes it matches: a part that is absent matches
+/// every route. The others say what becomes of these routes: with `deny` they are refused, else the
+/// preference and the MED are set where the rule has them, and an AS is put in front of the path
+/// `prepend` times.
 #[derive(Clone, Copy, Debug, PartialEq, Eq, Hash)]
 pub struct Rule {
     pub within: Option<PrefixRange>,
@@ -37,7 +37,7 @@ impl TryCopy for Rule {
     }
 }
 
-/// Whether a prefix is one of a range.
+/// Whether a prefix is in a range.
 fn is_in_range(range: &PrefixRange, prefix: Prefix) -> bool
     ensures { result ≡ is_in_range_lem range.now prefix }
 {
@@ -45,7 +45,7 @@ fn is_in_range(range: &PrefixRange, prefix: Prefix) -> bool
     range.prefix.covers(&prefix) && range.ge <= len && len <= range.le
 }
 
-/// Whether a rule's range, if it has one, has the prefix.
+/// Whether a prefix is in a rule's range, if it has one.
 fn is_within(range: &Option<PrefixRange>, prefix: Prefix) -> bool
     ensures { result ≡ is_in_some_range range.now prefix }
 {
@@ -55,7 +55,7 @@ fn is_within(range: &Option<PrefixRange>, prefix: Prefix) -> bool
     }
 }
 
-/// Whether the path has a rule's AS, if it has one.
+/// Whether a path contains a rule's AS, if it has one.
 fn has_as(as_number: Option<u32>, path: &AsPath) -> bool
     ensures { result ≡ holds_some_as as_number path.now }
 {
@@ -65,7 +65,7 @@ fn has_as(as_number: Option<u32>, path: &AsPath) -> bool
     }
 }
 
-/// Whether the ORIGIN is a rule's, if it has one.
+/// Whether an ORIGIN is a rule's, if it has one.
 fn has_origin(wanted: Option<Origin>, origin: Origin) -> bool
     ensures { result ≡ has_some_origin wanted origin }
 {

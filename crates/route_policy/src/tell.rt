@@ -1,4 +1,4 @@
-//! What a router tells of its best route (RFC 4271, sections 5.1, 9.1.3 and 9.2).
+//! What a router advertises of its best route (RFC 4271, sections 5.1, 9.1.3 and 9.2).
 
 ghost use Rattle.std.specs.Prelude.{◌≡◌, map, IfOk, None, Some, option_copied, if◌then◌else◌};
 ghost use Rattle.bgp_types.specs.declared.attrs.Attrs as attributes;
@@ -15,23 +15,23 @@ use bgp_types::{
 };
 use std::alloc::Global;
 
-/// What telling on a session goes by.
+/// What an advertisement on a session depends on.
 #[derive(Drop)]
 pub struct OutView<'a> {
     pub peering: PeeringId,
-    /// The AS of the session's remote, which is told no route whose path has it.
+    /// The AS of the session's remote. No route whose path contains it is told.
     pub remote_as: u32,
-    /// The session's own address, which it tells as next hop.
+    /// The session's own address, which is the next hop of the routes that it tells.
     pub local_address: u32,
-    /// The export policy; without one everything is told as it is.
+    /// The export policy. Without one every route is told as it is.
     pub export: Option<&'a Policy>,
 }
 
 /// The greatest number of octets in a message.
 const MESSAGE_LIMIT: usize = 4096;
 
-/// What another home router is told: a copy of the best route where that is the router's own or external,
-/// else that there is none.
+/// Returns what another home router is told: a copy of the best route if it is the router's own or
+/// external, else `None`.
 pub fn tell_in(best: Option<&Best>) -> Result<Option<Route>, NoMemory>
     ensures { IfOk result (λ told. told ≡ tell_in_lem (option_copied best.entry)) }
 {
@@ -54,17 +54,17 @@ fn comes_from(from: From, peering: PeeringId) -> bool
     }
 }
 
-/// Whether a best route isn't told on a session, whatever the export policy makes of it: it came from this peering, or
-/// the remote's AS stands in its path, in a sequence or in a set. The remote would take no route that went through its
-/// own AS (RFC 4271, section 9.1.2).
+/// Whether a best route isn't told on a session, whatever the export policy makes of it: it came from
+/// this peering, or the remote's AS is in its path, in a sequence or in a set. The remote would not
+/// accept a route that went through its own AS (RFC 4271, section 9.1.2).
 pub fn is_kept_back(view: &OutView<'_>, best: &Best) -> bool
     ensures { result ≡ is_kept_back_lem (out_side view.now) best.now }
 {
     comes_from(best.from, view.peering) || holds_as(&best.route.attrs.path, view.remote_as)
 }
 
-/// What the export policy makes of a route. It is given the route without its MED, which isn't passed on from
-/// another AS (RFC 4271, section 5.1.4).
+/// Returns what the export policy makes of a route. The policy gets the route without its MED, which
+/// isn't passed on from another AS (RFC 4271, section 5.1.4).
 fn export(
     home_as: u32,
     view: &OutView<'_>,
@@ -81,7 +81,7 @@ fn export(
     }
 }
 
-/// Attributes of unknown types as they pass on, with Partial set (RFC 4271, section 5).
+/// Returns attributes of unknown types as they are passed on, with Partial set (RFC 4271, section 5).
 fn all_partial(unknown: RawAttrs) -> RawAttrs
     ensures { result ≡ map made_partial unknown }
 {
@@ -92,7 +92,7 @@ fn all_partial(unknown: RawAttrs) -> RawAttrs
     Items::from_vec(unknown)
 }
 
-/// The attributes that are told of a route as the export policy left it.
+/// Returns the attributes that are told for a route as the export policy left it.
 fn told_attrs(home_as: u32, view: &OutView<'_>, route: Route) -> Result<Attrs, NoMemory>
     ensures { IfOk result (λ attrs. attrs ≡ told_attrs_lem home_as (out_side view.now) route) }
 {
@@ -103,14 +103,14 @@ fn told_attrs(home_as: u32, view: &OutView<'_>, route: Route) -> Result<Attrs, N
     Ok(attrs)
 }
 
-/// How many octets a prefix is written in.
+/// Returns the number of octets in which a prefix is written.
 fn prefix_len(prefix: Prefix) -> usize
     ensures { result ≡ prefix_size prefix }
 {
     1 + usize::from(prefix.len()).div_ceil(8)
 }
 
-/// The UPDATE that has these attributes and no prefix.
+/// Returns the UPDATE that has these attributes and no prefix.
 fn announcing(alloc: Global, attrs: Attrs) -> Message
     ensures { result ≡ UpdateMsg (announcing_lem attrs) }
 {
@@ -121,8 +121,8 @@ fn announcing(alloc: Global, attrs: Attrs) -> Message
     })
 }
 
-/// Whether an UPDATE without a prefix would have more than 4,096 octets with this one, in one of the widths of AS
-/// numbers.
+/// Whether an UPDATE without a prefix would have more than 4,096 octets with this prefix, in one of the
+/// widths of AS numbers.
 fn is_too_long(prefix: Prefix, bare: &Message) -> bool
     ensures { (attrs : attributes.Attrs) → bare.now ≡ UpdateMsg (announcing_lem attrs) → result ≡ is_too_long_lem prefix attrs }
 {
@@ -132,7 +132,7 @@ fn is_too_long(prefix: Prefix, bare: &Message) -> bool
     narrow.max(wide) > room
 }
 
-/// The attributes of an UPDATE.
+/// Returns the attributes of an UPDATE.
 fn attrs_of(message: Message) -> Option<Attrs>
     ensures { (attrs : attributes.Attrs) → message ≡ UpdateMsg (announcing_lem attrs) → result ≡ Some attrs }
 {
@@ -142,8 +142,8 @@ fn attrs_of(message: Message) -> Option<Attrs>
     }
 }
 
-/// The attributes where the UPDATE that tells this one prefix has at most 4,096 octets in both widths of AS
-/// numbers, else none.
+/// Returns the attributes if the UPDATE that tells this one prefix has at most 4,096 octets in both
+/// widths of AS numbers, else `None`.
 fn where_it_fits(alloc: Global, prefix: Prefix, attrs: Attrs) -> Option<Attrs>
     ensures { result ≡ (if is_too_long_lem prefix attrs then None else Some attrs) }
 {
@@ -154,10 +154,10 @@ fn where_it_fits(alloc: Global, prefix: Prefix, attrs: Attrs) -> Option<Attrs>
     attrs_of(bare)
 }
 
-/// What is told of a prefix on a session, made of one copy of the best route: nothing where there is none, where it
-/// came from this peering or its path has the remote's AS, where the export policy refuses it, or where its UPDATE
-/// would be longer than 4,096 octets. The path is the one before the export policy, and nothing is copied of a route
-/// that is kept back for it.
+/// Returns what is told of a prefix on a session, made from one copy of the best route. It is nothing
+/// if there is no best route, if that came from this peering or its path contains the remote's AS, if
+/// the export policy refuses it, or if its UPDATE would be longer than 4,096 octets. The path is
+/// checked before the export policy, and nothing is copied of a route that is kept back for it.
 pub fn tell_out(
     alloc: Global,
     home_as: u32,

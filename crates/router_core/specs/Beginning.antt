@@ -8,7 +8,7 @@ use Rattle.router_core.specs.Places.{place_at}
 use Rattle.router_core.specs.declared.place.Place.{Place}
 use Rattle.router_core.specs.declared.place.Place.TheVariants.{Live}
 
--- a session that begins has had no retransmission turn
+-- a session that begins, which has had no retransmission turn
 abbrev pub begins : SessionConfig → RunningSession
 begins config = record { session = begun config; acked_at_turn = 0 }
 
@@ -17,7 +17,7 @@ abbrev pub begun_at : List SessionConfig → ℕ → Option Place
 begun_at [] p = None
 begun_at (config ∷ configs) p = if p == config.peering.0 then Some (Live (begins config) None) else begun_at configs p
 
--- A session can begin at one of so many places.
+-- A session can begin at one of `count` places.
 pub record CanBegin (count : ℕ) (config : SessionConfig) : Type 0 where
   pub there : config.peering.0 < count
   pub valid : IsPeering (peering_of config)

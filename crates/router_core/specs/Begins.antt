@@ -10,7 +10,7 @@ use Rattle.router_core.specs.Places.{RunsAt}
 use Rattle.router_core.specs.declared.config.RouterConfig.{RouterConfig}
 use Rattle.router_core.specs.declared.fields.Fields.{Fields}
 
--- The fields are the router of its number in the first world, before its first turn, and none of its sessions had one.
+-- The fields are the router of its number in the first world, before its first turn, and none of its sessions has had a retransmission turn.
 pub record BeginsAs (setup : Setup) (config : RouterConfig) (f : Fields) : Type 0 where
   pub is : own_part f ≡ record { setup = setup; name = Router config.number.0; part = RouterIs (first_router setup config.number.0) }
   pub turns : f.turns ≡ 0

@@ -21,7 +21,7 @@ rules_at policies name = option_map (λ p. p.policy) (find (λ p. bytes_eq name 
 pub record ArePoliciesOf (setup : Setup) (r : ℕ) (policies : List NamedPolicy) : Type 0 where
   pub each : (name : List ℕ) → rules_at policies name ≡ rules_named setup r name
 
--- the numbers of the first byte that each side of a peering sends
+-- the initial sequence number of each side of a peering
 abbrev pub firsts_at : List Firsts → ℕ → Option (ℕ × ℕ)
 firsts_at firsts p = option_map (λ x. (x.home.0, x.remote.0)) (slice_get firsts p)
 
@@ -37,7 +37,7 @@ pub record IsRibOf (setup : Setup) (r : ℕ) (rib : RibConfig) : Type 0 where
   pub identifiers : (q : ℕ) → of_rib.identifier_of rib q ≡ identifier_of setup q
   pub costs : (q : ℕ) → of_rib.cost_to rib q ≡ cost_between setup r q
 
--- the sessions that start at a router, by rising peering
+-- the sessions that start at a router, in ascending order of peering
 abbrev pub starting_here : Setup → ℕ → List SessionConfig
 starting_here setup r = map (λ peering. peering.config) (filter (λ peering. peering.start == r) setup.peerings)
 

@@ -1,4 +1,4 @@
--- Prefixes are decided, and where another route is best it is due to be told.
+-- Decisions: prefixes are decided, and where the best route changes it is due to be told.
 use Rattle.std.specs.Prelude.{ℕ, ◌≡◌, ◌<◌, ◌≤◌, ◌==◌, ◌&&◌, not, nat_lt, Bool, List, [], ◌∷◌, length}
 use Rattle.std.specs.FinMap as map
 use Rattle.bgp_types.specs.Prefixes.{PrefixValue}
@@ -19,7 +19,7 @@ use Rattle.router_core.specs.Rounds.{Did}
 use Rattle.router_core.specs.Turned.{AreAt}
 use Rattle.router_core.specs.declared.fields.Fields.{Fields}
 
--- At the first so many numbers a prefix is in the sets too, where its number passes the test.
+-- A prefix is added to those of the first n sets whose number passes the test.
 pub record AddsBelow (n : ℕ) (test : ℕ → Bool) (prefix : PrefixValue) (before after : List Prefixes) : Type 0 where
   pub size : length after ≡ length before
   pub below : (k : ℕ) → k < n → Adds (table_at before k) (only prefix (test k)) (table_at after k)
@@ -33,20 +33,20 @@ is_other f q = nat_lt q (routers_in f.known.setup) && not (q == f.number.0)
 abbrev pub is_up_at : Fields → ℕ → Bool
 is_up_at f p = holds_established (place_of (place_at f.places.places p))
 
--- A prefix is due wherever another best route is.
+-- A prefix is due to each other router and on each established session.
 pub record DueToAll (prefix : PrefixValue) (old new : Fields) : Type 0 where
   pub due_in : AddsBelow (length old.due_in) (is_other old) prefix old.due_in new.due_in
   pub due_out : AddsBelow (length old.due_out) (is_up_at old) prefix old.due_out new.due_out
   pub same : new ≡ record old { due_in = new.due_in; due_out = new.due_out }
 
--- A prefix is decided, and dirty no more.
+-- A prefix is decided, and no longer dirty.
 pub record DecidesOne (prefix : PrefixValue) (old : Fields) (before : Post (Item RunningSession)) (new : Fields) (after : Post (Item RunningSession)) : Type 0 where
   pub did : (t : ℕ → Tally) → Did old before t (Decide prefix ∷ []) new after t
   pub dirty : new.rib.dirty ≡ map.remove old.rib.dirty prefix
   pub same : new ≡ record old { rib = new.rib; due_in = new.due_in; due_out = new.due_out }
   pub keeps : Keeps new
 
--- Some prefixes are.
+-- Some prefixes are decided, and no longer dirty.
 pub record DecidesSome (old : Fields) (before : Post (Item RunningSession)) (new : Fields) (after : Post (Item RunningSession)) : Type 0 where
   pub events : List RouterEvent
   pub did : (t : ℕ → Tally) → Did old before t events new after t

@@ -34,18 +34,18 @@ route_here policies session prefix = record {
   heard = map.get session.heard prefix;
 }
 
--- the entry that a router of this AS has of it
+-- the entry that a router of this AS makes of it
 abbrev pub entry_here : ℕ → List NamedPolicy → SessionValue → PrefixValue → Option Entry
 entry_here home_as policies session prefix = option_map
     (λ route. record { route = route; identifier = remote_identifier session; address = session.config.remote_address })
     (imported home_as prefix (route_here policies session prefix) (map.get session.heard prefix))
 
--- It is given for this prefix.
+-- This is the entry that the session brings in for this prefix.
 pub record IsBrought (home_as : ℕ) (policies : List NamedPolicy) (session : SessionValue) (x : PrefixValue) (entry : InEntry) : Type 0 where
   pub prefix : entry.prefix ≡ x
   pub gives : given entry ≡ entry_here home_as policies session x
 
--- A peering has these values for the prefixes of a list, and what it had for the others. The prefixes whose entries changed are dirty.
+-- A peering has these entries for the prefixes of a list, and keeps its entries for the others. The prefixes whose entries changed are dirty.
 pub record EntersAll (before : RibValue) (p : ℕ) (values : PrefixValue → Option Entry) (prefixes : List PrefixValue) (after : RibValue) : Type 0 where
   pub each : (x : PrefixValue) → list_any (same_prefix x) prefixes ≡ true → map.get (after.entries p) x ≡ values x
   pub others : (x : PrefixValue) → list_any (same_prefix x) prefixes ≡ false → map.get (after.entries p) x ≡ map.get (before.entries p) x
@@ -54,7 +54,7 @@ pub record EntersAll (before : RibValue) (p : ℕ) (values : PrefixValue → Opt
 
 -- ---- policies that the router doesn't have
 
--- a session's name for which there is no policy
+-- the policy name of a session, if there is no policy of that name
 abbrev pub unknown_by : List NamedPolicy → Option (List ℕ) → Option (List ℕ)
 unknown_by policies None = None
 unknown_by policies (Some name) = if is_none (rules_at policies name) then Some name else None

@@ -1,4 +1,4 @@
--- That a router is sound has one proof at most.
+-- Proofs that a router is sound are unique.
 use Rattle.std.specs.Prelude.{◌≡◌, false, Bool, ℕ, Some, None, Option}
 use Rattle.std.proofs.Props.{props}
 use Rattle.session_value.specs.Sets.{Entries, Prefixes}

@@ -1,4 +1,4 @@
--- A router as the model has it, and what its fields keep.
+-- A router as the model has it, and the invariant of its fields.
 use Rattle.std.specs.Prelude.{ℕ, ◌≡◌, ◌≢◌, ◌<◌, ◌≤◌, Option, Some, None, true, false, is_some, length}
 use Rattle.std.specs.FinMap as map
 use Rattle.bgp_types.specs.Prefixes.{PrefixValue}
@@ -42,7 +42,7 @@ carried capsule = capsule.session
 
 -- ---- what a place keeps
 
--- A session is its peering's: it has the number of the peering, and the numbers of its first bytes.
+-- A session belongs to its peering: it has the number of the peering, and its initial sequence numbers.
 pub record IsOfPeering (setup : Setup) (p : ℕ) (session : SessionValue) : Type 0 where
   pub peering : session.config.peering.0 ≡ p
   pub sends : session.config.send_first.0 ≡ home_first setup p
@@ -52,13 +52,13 @@ pub record IsOfPeering (setup : Setup) (p : ℕ) (session : SessionValue) : Type
 abbrev pub HasReadAll : SessionValue → Type 0
 HasReadAll session = state session ≢ Closed → BeginsNothing (unread session)
 
--- the graft is one of this router's, for this peering and a router that is there
+-- the graft is one of this router's, for this peering and an existing target
 pub record IsGraftOf (setup : Setup) (r p : ℕ) (ids : GraftIds) : Type 0 where
   pub peering : ids.peering.0 ≡ p
   pub source : ids.source.0 ≡ r
   pub target : ids.target.0 < routers_in setup
 
--- a session of this peering has landed at this router in the graft, from a router that is there
+-- a session of this peering has landed at this router in the graft, from an existing router
 pub record IsLandingOf (setup : Setup) (r p : ℕ) (ids : GraftIds) : Type 0 where
   pub peering : ids.peering.0 ≡ p
   pub source : ids.source.0 < routers_in setup
@@ -80,7 +80,7 @@ IsNothingDue due = (x : PrefixValue) → has due x ≡ false
 abbrev pub IsDueWhileUp : SessionValue → Prefixes → Type 0
 IsDueWhileUp session due = (x : PrefixValue) → has due x ≡ true → state session ≡ Established
 
--- Where nothing is, nothing was brought in and nothing is due; and nothing is due on a shadow.
+-- A vacant place has no entries and nothing is due on it. Nothing is due on a shadow.
 abbrev pub KeepsPlace : Setup → ℕ → ℕ → Entries → Prefixes → Option Place → Type 0
 KeepsPlace setup r p entries due None = HasNoEntry entries × IsNothingDue due
 KeepsPlace setup r p entries due (Some (Live running errand)) =
@@ -90,7 +90,7 @@ KeepsPlace setup r p entries due (Some (Shadow away)) = IsGraftOf setup r p away
 -- ---- what the fields keep
 
 pub record Keeps (f : Fields) : Type 0 where
-  -- what it begins with is its laboratory's
+  -- the configuration is its laboratory's
   pub there : f.number.0 < routers_in f.known.setup
   pub routers : f.routers ≡ routers_in f.known.setup
   pub few_routers : f.routers ≤ 256
@@ -101,7 +101,8 @@ pub record Keeps (f : Fields) : Type 0 where
   pub policies : ArePoliciesOf f.known.setup f.number.0 f.policies
   pub firsts : AreFirstsOf f.known.setup f.firsts
   pub rib : IsRibOf f.known.setup f.number.0 f.rib.config
-  -- there is a place, and a set of what is due, for each peering; a set of what is due for each router; and nothing of routers that aren't there
+  -- there is a place, and a set of what is due, for each peering, and a set of what is due for each router; nothing is kept for routers that don't
+  -- exist
   pub places : length f.places.places ≡ peerings_in f.known.setup
   pub due_in : length f.due_in ≡ routers_in f.known.setup
   pub due_out : length f.due_out ≡ peerings_in f.known.setup

@@ -28,38 +28,38 @@ place_of None = model.Vacant
 place_of (Some (Live running errand)) = model.Live running.session (option_map errand_of errand)
 place_of (Some (Shadow away)) = model.Shadow away.graft
 
--- what is at the place for a peering: nothing behind the last
+-- the content of the place for a peering; none beyond the last one
 abbrev pub place_at : List (Option Place) → ℕ → Option Place
 place_at places p = slice_index_or places p None
 
--- a running session is live there, with this to be done for its graft
+-- a running session is live there, with this errand
 pub record RunsAt (places : List (Option Place)) (p : ℕ) (running : RunningSession) (errand : Option Errand) : Type 0 where
   pub is : place_at places p ≡ Some (Live running errand)
 
--- what is at one place goes on as it is to, and all else stays
+-- the content of one place changes by `Goes`, and all else stays the same
 pub record AtOne (Goes : Option Place → Option Place → Type 0) (old : PlaceList Place) (n : ℕ) (new : PlaceList Place) : Type 0 where
   pub place : Option Place
   pub goes : Goes (place_at old.places n) place
   pub stays : new ≡ with_place old n place
 
--- a session is live there, and nothing is to be done for a graft of it
+-- a session without an errand is live there
 pub record IsFree (place : Option Place) : Type 0 where
   pub session : RunningSession
   pub is : place ≡ Some (Live session None)
 
--- a session has left there in this graft
+-- a session has left this place in this graft
 pub record IsAway (place : Option Place) (k : ℕ) : Type 0 where
   pub away : GraftIds
   pub is : place ≡ Some (Shadow away)
   pub graft : away.graft ≡ k
 
--- the lower of two numbers, where there are any
+-- the lower of two numbers, or the one that there is
 abbrev pub lower_of : Option ℕ → Option ℕ → Option ℕ
 lower_of None other = other
 lower_of (Some n) None = Some n
 lower_of (Some n) (Some m) = Some (min n m)
 
--- the sessions that are held, by rising peering
+-- the sessions that are held, in ascending order of peering
 abbrev pub session_in : Option Place → List RunningSession
 session_in None = []
 session_in (Some (Live running errand)) = running ∷ []

@@ -72,7 +72,7 @@ NextAt setup r part p None batch = ⊥
 NextAt setup r part p (Some (Live s errand)) batch = (state s.session ≡ Established) × IsNextUpdate setup r part p s.session batch
 NextAt setup r part p (Some (Shadow away)) batch = ⊥
 
--- the length at which no round may pass on the session that is live there, if it is so
+-- the length at which no round may pass on the live session there, if it is stuck in this way
 abbrev pub TimeAnswer : Option Place → Option ℕ → Type 0
 TimeAnswer None answer = answer ≡ None
 TimeAnswer (Some (Live s errand)) None = (n : ℕ) → ¬ IsStuckInTime s.session n
@@ -96,7 +96,7 @@ pub record PutsAt (n : ℕ) (old : Fields) (before : Post (Item RunningSession))
   pub some : PutsSomeAt n old before new after
   pub done : IsDone old.known.setup old.number.0 (router_part new) n ((router_part new).places n)
 
--- An UPDATE was put: what is left of a plan that begins with it is the plan of what stands then.
+-- An UPDATE was put: the rest of a plan that begins with it is the plan of the new state.
 pub record LeavesPlan (n : ℕ) (batch : Batch) (old new : Fields) : Type 0 where
   pub rest : (batches : List Batch) → PlannedAt old.known.setup old.number.0 (router_part old) n (place_at old.places.places n) (batch ∷ batches)
       → PlannedAt new.known.setup new.number.0 (router_part new) n (place_at new.places.places n) batches
@@ -105,7 +105,7 @@ abbrev pub PutOrDone : Bool → ℕ → Batch → Fields → Fields → Type 0
 PutOrDone true n batch old new = LeavesPlan n batch old new
 PutOrDone false n batch old new = IsDone old.known.setup old.number.0 (router_part new) n ((router_part new).places n)
 
--- ---- at the first so many
+-- ---- at the first n places
 
 pub record PutsFirst (n : ℕ) (old : Fields) (before : Post (Item RunningSession)) (new : Fields) (after : Post (Item RunningSession)) : Type 0 where
   pub events : List RouterEvent

@@ -1,4 +1,4 @@
--- What sessions take in and read at their places, what is due then, and what a router keeps meanwhile.
+-- What sessions take in and read at their places, what is due then, and the invariant that a router keeps meanwhile.
 use Rattle.std.specs.Prelude.{ℕ, ◌≡◌, ◌≢◌, ◌<◌, ◌≤◌, ◌^◌, ◌||◌, Bool, true, false, List, [], ◌∷◌, length, Option, Some, None, is_some}
 use Rattle.std.specs.FinMap as map
 use Rattle.std.specs.List.{list_any}
@@ -54,7 +54,7 @@ pub record IsDueAgain (told : Routes) (best : BestRoutes) (due : Prefixes) : Typ
 
 -- ---- at a place
 
--- a segment is one of a session's peering, that it can take
+-- a segment is of the session's peering, and the session can take it
 pub record FitsSession (config : SessionConfig) (g : Segment) : Type 0 where
   pub peering : g.peering ≡ config.peering
   pub way : g.way ≡ Home
@@ -66,7 +66,7 @@ FitsPlace None g = Unit {0}
 FitsPlace (Some (Live s errand)) g = FitsSession s.session.config g
 FitsPlace (Some (Shadow away)) g = Unit {0}
 
--- The segment arrives at the live session; where none is, it finds none.
+-- The segment arrives at the live session; if there is none, it strays.
 abbrev pub ArrivesAt : Bool → Option Place → Segment → Option Place → Type 0
 ArrivesAt live None g new = (live ≡ false) × (new ≡ None)
 ArrivesAt live (Some (Live s errand)) g new = (live ≡ true) × (arrival : Arrival) × (u : RunningSession) × Arrives arrival s g u × (new ≡ Some (Live u errand))
@@ -80,7 +80,7 @@ ReadsAt step (Some (Shadow away)) new = (step ≡ None) × (new ≡ Some (Shadow
 
 -- ---- after a message
 
--- the prefixes that have another route than before the message
+-- the prefixes whose routes the message changed
 abbrev pub prefixes_in : ReadStep → List PrefixValue
 prefixes_in steps.Opened = []
 prefixes_in steps.Established = []
@@ -106,14 +106,14 @@ pub record FollowsStep (old : Fields) (p : ℕ) (s : RunningSession) (step : Rea
   pub sets : OneSet old.due_out p new.due_out
   pub due : DueBy step old.rib.best (table_at old.due_out p) (table_at new.due_out p)
 
--- A session is live at a place, with this to be done for its graft, and what was told on it and what is best is due.
+-- A session is live at a place, with this errand, and what was told on it and what is best is due.
 pub record MakesLive (old : Fields) (p : ℕ) (s : RunningSession) (errand : Option Errand) (new : Fields) : Type 0 where
   pub same : new ≡ record old { places = new.places; due_out = new.due_out }
   pub held : new.places ≡ with_place old.places p (Some (Live s errand))
   pub sets : OneSet old.due_out p new.due_out
   pub due : IsDueAgain s.session.told old.rib.best (table_at new.due_out p)
 
--- A session lands in a graft: its routes are taken in, it is live, and routers are to be asked and its source to be told.
+-- A session lands in a graft: its routes are taken in, it is live, and routers are to be asked and then its source told.
 pub record SettlesIn (old : Fields) (s : RunningSession) (landed : Landing) (new : Fields) : Type 0 where
   pub same : new ≡ record old { places = new.places; rib = new.rib; due_out = new.due_out }
   pub entered : EntersAll (rib_of old.rib) s.session.config.peering.0 (entry_here old.home_as old.policies s.session) (map.keys s.session.heard) (rib_of new.rib)
@@ -123,7 +123,7 @@ pub record SettlesIn (old : Fields) (s : RunningSession) (landed : Landing) (new
 
 -- ---- what a router keeps meanwhile
 
--- all that it keeps but what its places do
+-- the invariant without the part that its places keep
 pub record KeepsRest (f : Fields) : Type 0 where
   pub there : f.number.0 < routers_in f.known.setup
   pub routers : f.routers ≡ routers_in f.known.setup
@@ -149,7 +149,7 @@ pub record KeepsLive (f : Fields) (p : ℕ) : Type 0 where
   pub for_graft : IsErrandOf f.known.setup f.number.0 p errand
   pub due : IsDueWhileUp session.session (table_at f.due_out p)
 
--- The router is sound but that this session may have more to read.
+-- The router is sound, except that this session may have more to read.
 pub record KeepsBut (p : ℕ) (f : Fields) : Type 0 where
   pub rest : KeepsRest f
   pub here : KeepsLive f p
@@ -157,7 +157,7 @@ pub record KeepsBut (p : ℕ) (f : Fields) : Type 0 where
 
 -- ---- messages one after another
 
--- how much a session has that it didn't read
+-- the number of bytes that a session has ready and unread
 abbrev pub unread_at : Option Place → ℕ
 unread_at None = 0
 unread_at (Some (Live s errand)) = length (unread s.session)
@@ -183,7 +183,7 @@ pub record ReadsNone (p : ℕ) (old : Fields) (before : Post (Item RunningSessio
   pub post : after ≡ before
   pub none : (s : RunningSession) (o : Option Errand) → RunsAt old.places.places p s o → CantRead s.session
 
--- All is read that can be, so that the router is sound.
+-- All that can be read is read, so the router is sound.
 pub record ReadsAll (p : ℕ) (old : Fields) (before : Post (Item RunningSession)) (new : Fields) (after : Post (Item RunningSession)) : Type 0 where
   pub events : List RouterEvent
   pub did : (t : ℕ → Tally) → Did old before t events new after t

@@ -7,27 +7,27 @@ use Rattle.graft_actors.specs.Emissions.{IsRested}
 use Rattle.router_core.specs.Parts.{HasReadAll}
 use Rattle.router_core.specs.Updates.{IsStuck, IsUnwritable}
 
--- Nothing is due on a live session, unless its next update has no room or can't be written; and nothing is due where no session is.
+-- Nothing is due on a live session, unless its next UPDATE has no room or can't be written. Nothing is due where no session is live.
 abbrev pub IsDone : Setup → ℕ → RouterPart → ℕ → Place → Type 0
 IsDone setup r part p Vacant = part.due_out p ≡ map.empty
 IsDone setup r part p (Live session errand) = (part.due_out p ≡ map.empty) ⊎ (((n : ℕ) × IsStuck setup r part p session n) ⊎ IsUnwritable setup r part p session)
 IsDone setup r part p (Frozen session order) = ⊥
 IsDone setup r part p (Shadow graft) = part.due_out p ≡ map.empty
 
--- Nothing is to be done for a graft of a session, unless the answer of a router is waited for.
+-- A session has no errand, unless the answer of a router is pending.
 abbrev pub AwaitsAtMost : Option Errand → Type 0
 AwaitsAtMost None = Unit {0}
 AwaitsAtMost (Some (Asking word)) = Unit {0}
 AwaitsAtMost (Some errand) = ⊥
 
--- A live session waits at most for an answer in a graft of it, has read all that it can, has emitted all that it may, and owes no answer.
+-- A live session has no errand but a pending answer, has read all that it can, has emitted all that it may, and owes no acknowledgement.
 abbrev pub IsQuietPlace : Place → Type 0
 IsQuietPlace Vacant = Unit {0}
 IsQuietPlace (Live session errand) = AwaitsAtMost errand × HasReadAll session × IsRested session.end
 IsQuietPlace (Frozen session order) = ⊥
 IsQuietPlace (Shadow graft) = Unit {0}
 
--- Nothing is to be decided, and nothing is to be told to another router.
+-- No prefix is dirty, and nothing is due to another router.
 pub record RestedRouter (setup : Setup) (r : ℕ) (part : RouterPart) : Type 0 where
   pub clean : part.dirty ≡ map.empty
   pub due_in : (q : ℕ) → part.due_in q ≡ map.empty

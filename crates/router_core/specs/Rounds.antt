@@ -1,4 +1,4 @@
--- The events of a router one after another: each by its row, with what it emits and puts as a turn has it.
+-- The events of a router one after another: each by its row, where what it emits and puts is what a turn emits and puts.
 use Rattle.std.specs.Prelude.{ℕ, zero, suc, ◌≡◌, true, List, [], ◌∷◌, length, Option}
 use Rattle.std.specs.List.{AllByRecursion}
 use Rattle.ring_net.specs.Deeds.{Deed, Replay, TakesNone}
@@ -27,14 +27,14 @@ use Rattle.router_core.specs.declared.fields.Fields.{Fields}
 
 -- ---- one event
 
--- the session that is live there emits an old slice, a new one or an owed answer
+-- the session that is live there emits an old slice, a new one or an owed acknowledgement
 pub record EmitsCarefully (part : RouterPart) (p from len : ℕ) : Type 0 where
   pub session : SessionValue
   pub errand : Option Errand
   pub live : IsLive part p session errand
   pub careful : IsCareful session.end from len
 
--- so many prefixes are those of the next update of the session that is live there
+-- n is the number of prefixes in the next UPDATE of the live session there
 pub record PutsNext (setup : Setup) (r : ℕ) (part : RouterPart) (p n : ℕ) : Type 0 where
   pub session : SessionValue
   pub errand : Option Errand
@@ -57,7 +57,7 @@ pub record EmitsSome (Kind : Endpoint → ℕ → ℕ → Type 0) (part : Router
   pub live : IsLive part p session errand
   pub kind : Kind session.end from len
 
--- a segment without bytes gives an answer that is owed; one with bytes is new
+-- a segment without bytes is an acknowledgement that is owed; one with bytes is new
 abbrev pub IsNewOrOwed : Endpoint → ℕ → ℕ → Type 0
 IsNewOrOwed e from zero = e.owed ≡ true
 IsNewOrOwed e from (suc n) = IsNew e from (suc n)
@@ -67,13 +67,13 @@ abbrev pub SendsOld : RouterPart → RouterEvent → Type 0
 SendsOld part (Emit p from len) = EmitsSome IsOld part p from len
 SendsOld part event = ⊥
 
--- what is emitted is new, or an answer that is owed; and an UPDATE that is put is the next one
+-- what is emitted is new, or an acknowledgement that is owed; and an UPDATE that is put is the next one
 abbrev pub Works : Setup → ℕ → RouterPart → RouterEvent → Type 0
 Works setup r part (Emit p from len) = EmitsSome IsNewOrOwed part p from len
 Works setup r part (Put p (suc n)) = PutsNext setup r part p (suc n)
 Works setup r part event = Unit {0}
 
--- The events lead from one part to another through these, one behind each event, each by its row, and each is what the stage allows.
+-- The events lead from one part to another through these parts, one after each event. Each event goes by its row, and is one that the stage allows.
 abbrev pub RouterGoes : Setup → ℕ → (RouterPart → RouterEvent → Type 0) → RouterPart → List RouterEvent → List RouterPart → RouterPart → Type 0
 RouterGoes setup r Allowed before [] [] after = after ≡ before
 RouterGoes setup r Allowed before (event ∷ events) (next ∷ parts) after =
@@ -93,14 +93,14 @@ abbrev pub router_tally : RouterPart → RouterEvent → (ℕ → Tally) → ℕ
 router_tally part (Emit p from len) t = at t p (tally_at (part.places p) from len (t p))
 router_tally part event t = t
 
--- the next event is written, whatever it takes
+-- the next event is written, whether it takes an item or not
 abbrev pub Writes : Post (Item RunningSession) → RouterEvent → List (ℕ × Item RunningSession) → Post (Item RunningSession) → Type 0
 Writes before event sent after = WroteOne before (router_code event) sent after
 
 -- ---- events of a part, one after another
 
--- The events lead from one part to another, each by its row; each segment that is emitted is an old slice, a new one or an owed answer; each UPDATE
--- that is put is the next one; and the tallies, one a peering, count the segments.
+-- The events lead from one part to another, each by its row; each segment that is emitted is an old slice, a new one or an owed acknowledgement; each
+-- UPDATE that is put is the next one; and the tallies, one per peering, count the segments.
 abbrev pub RouterRound : Setup → ℕ → RouterPart → (ℕ → Tally) → List RouterEvent → RouterPart → (ℕ → Tally) → Type 0
 RouterRound setup r before t [] after u = (after ≡ before) × (u ≡ t)
 RouterRound setup r before t (event ∷ events) after u =
@@ -113,12 +113,12 @@ AreOf [] [] = Unit {0}
 AreOf (event ∷ events) (deed ∷ deeds) = HasCode (router_code event) deed.entry × AreOf events deeds
 AreOf events deeds = ⊥
 
--- what a router is: its laboratory and its number stay
+-- a router's laboratory and number stay the same
 pub record SameRouter (old new : Fields) : Type 0 where
   pub setup : new.known.setup ≡ old.known.setup
   pub number : new.number ≡ old.number
 
--- What a piece of a call does that takes no item: the events that it made and wrote.
+-- What a part of a call that takes no item does: the events that it made and wrote.
 pub record Did (old : Fields) (before : Post (Item RunningSession)) (t : ℕ → Tally) (events : List RouterEvent) (new : Fields) (after : Post (Item RunningSession)) (u : ℕ → Tally) : Type 0 where
   pub router : SameRouter old new
   pub deeds : List (Deed (Item RunningSession))

@@ -1,4 +1,4 @@
--- A router: how it begins, and what is said of its calls.
+-- A router: how it begins, and the contracts of its calls.
 use Rattle.std.specs.Prelude.{ℕ, ◌≡◌, List, Option, false}
 use Rattle.ring_net.specs.Deeds.{Deed}
 use Rattle.graft_steps.specs.declared.item.Item.{Item}
@@ -15,21 +15,21 @@ use Rattle.router_core.specs.Turned.{Turned}
 use Rattle.router_core.specs.declared.config.RouterConfig.{RouterConfig}
 use Rattle.router_core.specs.declared.router as routers
 
--- the part of the world that a router is, by itself and as an actor
+-- a router's part of the world, by itself and as an actor
 abbrev pub part_in : routers.Router.Router → RouterPart
 part_in r = router_part r.fields
 
 abbrev pub own : routers.Router.Router → OwnPart
 own r = own_part r.fields
 
--- memory never ran out in a call of it
+-- memory never ran out in one of its calls
 abbrev pub Works : routers.Router.Router → Type 0
 Works r = r.has_failed ≡ false
 
 abbrev pub IsNew : Setup → RouterConfig → routers.Router.Router → Type 0
 IsNew setup config router = BeginsAs setup config router.fields × Works router
 
--- what is said of a take and of a turn beside their events
+-- what a take and a turn promise beside their events
 abbrev pub took : routers.Router.Router → ℕ → Item RunningSession → List (Deed (Item RunningSession)) → routers.Router.Router → Type 0
 took old from item deeds new = Took old.fields from item deeds new.fields × Works new
 

@@ -12,7 +12,7 @@ use Rattle.router_core.specs.declared.place.Place.{Place}
 use Rattle.router_core.specs.declared.place.Place.TheVariants.{Live, Shadow}
 use Rattle.router_core.specs.declared.stages.send.Outlet.{Outlet}
 
--- What the session that is live at a place does, with its answer. Where none is there is no answer.
+-- What the live session at a place does, with its result. Without a live session there is no result.
 abbrev pub AtPlace : {A : Type 0} → (RunningSession → Option A → RunningSession → Type 0) → Option Place → Option A → Option Place → Type 0
 AtPlace Does None answer new = (answer ≡ None) × (new ≡ None)
 AtPlace Does (Some (Live s errand)) answer new = (u : RunningSession) × (new ≡ Some (Live u errand)) × Does s answer u
@@ -34,13 +34,13 @@ pub record SentNext (s : RunningSession) (answer : Option Segment) (u : RunningS
   pub slice : EmitsBy EmitsSlice s.session answer u.session
   pub same_turn : u.acked_at_turn ≡ s.acked_at_turn
 
--- the answer, if one is owed
+-- the acknowledgement, if one is owed
 pub record SentAnswer (s : RunningSession) (answer : Option Segment) (u : RunningSession) : Type 0 where
   pub some : IsSome answer ↔ (s.session.end.owed ≡ true)
   pub step : EmitsBy EmitsAnswer s.session answer u.session
   pub same_turn : u.acked_at_turn ≡ s.acked_at_turn
 
--- where the segments go that are emitted on a peering, and the number of the first byte of its home side
+-- where the segments emitted on a peering go, and the initial sequence number of its home side
 pub record IsOutletOf (f : Fields) (p : ℕ) (outlet : Outlet) : Type 0 where
   pub place : outlet.place ≡ p
   pub to : outlet.to ≡ routers_in f.known.setup + p

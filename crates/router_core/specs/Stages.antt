@@ -1,5 +1,5 @@
--- The stages of a router's turn, in their order: segments are sent again, rounds pass, grafts begin, prefixes are decided, routers are told, then routers are asked, or the
--- source is told, of each session that has landed, then the sessions are told, and all is emitted that may be.
+-- The stages of a router's turn, in their order: segments are sent again, rounds pass, grafts begin, prefixes are decided, routers are told, the next
+-- router is asked or the source is told for each session that has landed, the sessions are told, and all that may be emitted is emitted.
 use Rattle.std.specs.Prelude.{ℕ, ◌≡◌, ◌⊎◌, ◌+◌, nat_lt, if◌then◌else◌, false, List, [], ◌∷◌, Some, None, Option}
 use Rattle.std.specs.FinMap as map
 use Rattle.ring_net.specs.declared.post.Post.{Post}
@@ -21,13 +21,13 @@ use Rattle.router_core.specs.declared.place.Place.TheVariants.{Live, Shadow}
 
 -- ---- how places change
 
--- A place stays what it is, but that its session may become another one.
+-- A place stays the same, except that its session may change in this way.
 abbrev pub PlaceGoes : (RunningSession → RunningSession → Type 0) → Option Place → Option Place → Type 0
 PlaceGoes Becomes None new = new ≡ None
 PlaceGoes Becomes (Some (Live s errand)) new = (u : RunningSession) × (new ≡ Some (Live u errand)) × Becomes s u
 PlaceGoes Becomes (Some (Shadow away)) new = new ≡ Some (Shadow away)
 
--- A stored graft is refused, and the session stays; or the session leaves in it. All else stays.
+-- A stored graft is refused, and the session stays; or the session leaves in it. All else stays the same.
 abbrev pub GraftGoes : Option Place → Option Place → Type 0
 GraftGoes None new = new ≡ None
 GraftGoes (Some (Live s None)) new = new ≡ Some (Live s None)
@@ -36,7 +36,7 @@ GraftGoes (Some (Live s (Some (Owing landing)))) new = new ≡ Some (Live s (Som
 GraftGoes (Some (Live s (Some (Asking landing)))) new = new ≡ Some (Live s (Some (Asking landing)))
 GraftGoes (Some (Shadow away)) new = new ≡ Some (Shadow away)
 
--- The next router is asked about a session that has landed; or its source is told, and nothing more is to be done for its graft. All else stays.
+-- The next router is asked about a session that has landed; or its source is told, and it has no errand from then on. All else stays the same.
 abbrev pub WordGoes : Option Place → Option Place → Type 0
 WordGoes None new = new ≡ None
 WordGoes (Some (Live s None)) new = new ≡ Some (Live s None)
@@ -45,7 +45,7 @@ WordGoes (Some (Live s (Some (Owing landing)))) new = ((q : ℕ) × (new ≡ Som
 WordGoes (Some (Live s (Some (Asking landing)))) new = new ≡ Some (Live s (Some (Asking landing)))
 WordGoes (Some (Shadow away)) new = new ≡ Some (Shadow away)
 
--- A session has put more, and all else of its endpoint stays.
+-- A session has put more, and the rest of its endpoint stays the same.
 pub record PutsMore (s u : RunningSession) : Type 0 where
   pub acked : u.session.end.acked ≡ s.session.end.acked
   pub emitted : u.session.end.emitted ≡ s.session.end.emitted
@@ -54,11 +54,11 @@ pub record PutsMore (s u : RunningSession) : Type 0 where
 abbrev pub IsLevel : RunningSession → RunningSession → Type 0
 IsLevel s u = u ≡ record s { acked_at_turn = s.session.end.acked }
 
--- All is emitted that may be, and no answer is owed.
+-- All that may be emitted is emitted, and no acknowledgement is owed.
 abbrev pub EmitsAll : RunningSession → RunningSession → Type 0
 EmitsAll s u = u ≡ record s { session = record s.session { end = record s.session.end { emitted = reach_of s.session.end; owed = false } } }
 
--- a round passed on the session where one may, and no other
+-- the round passed on the session if it may, and no other round did
 abbrev pub PassesWhereItMay : (round : ℕ) → (rounds : List ℕ) → RunningSession → RunningSession → Type 0
 PassesWhereItMay round rounds s u = PutsMore s u
     × ((MayPass s.session round × (rounds ≡ round ∷ [])) ⊎ ((¬ MayPass s.session round) × (rounds ≡ []) × (u ≡ s)))
@@ -133,7 +133,7 @@ pub record ConfirmsAll (old : Fields) (before : Post (Item RunningSession)) (new
   pub same : new ≡ record old { places = new.places }
   pub keeps : Keeps new
 
--- On each session all is put that is to be told, or its next update has no room or can't be written.
+-- On each session all that is to be told is put, or its next UPDATE has no room or can't be written.
 pub record PutsAll (old : Fields) (before : Post (Item RunningSession)) (new : Fields) (after : Post (Item RunningSession)) : Type 0 where
   pub events : List RouterEvent
   pub at : AreAt 6 events

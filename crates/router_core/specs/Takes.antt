@@ -1,4 +1,4 @@
--- What a router says of one take, beside its event.
+-- What a router promises of one take, beside its event.
 use Rattle.std.specs.Prelude.{ℕ, ◌≡◌, ◌≤◌, List, Option}
 use Rattle.ring_net.specs.Deeds.{Deed}
 use Rattle.ring_net.specs.Posts.{TookItem}
@@ -16,7 +16,7 @@ use Rattle.router_core.specs.Rounds.{AreOf, RouterGoes, SameRouter}
 use Rattle.router_core.specs.Turned.{Takes}
 use Rattle.router_core.specs.declared.fields.Fields.{Fields}
 
--- The session of a peering that stays live through a take emits nothing, and its retransmission turn is what it was.
+-- The session of a peering that stays live through a take emits nothing, and its retransmission turn stays the same.
 pub record Stays (old new : RunningSession) : Type 0 where
   pub acked : old.session.end.acked ≤ new.session.end.acked
   pub emitted : new.session.end.emitted ≡ old.session.end.emitted

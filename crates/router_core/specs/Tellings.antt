@@ -15,7 +15,7 @@ use Rattle.router_core.specs.Rounds.{Did}
 use Rattle.router_core.specs.Turned.{AreAt}
 use Rattle.router_core.specs.declared.fields.Fields.{Fields}
 
--- A router is told a prefix, which is due to it no more.
+-- A router is told a prefix, which is no longer due to it.
 pub record TellsOne (q : ℕ) (prefix : PrefixValue) (old : Fields) (before : Post (Item RunningSession)) (new : Fields) (after : Post (Item RunningSession)) : Type 0 where
   pub did : (t : ℕ → Tally) → Did old before t (Tell q prefix ∷ []) new after t
   pub due : table_at new.due_in ≡ at (table_at old.due_in) q (map.remove (table_at old.due_in q) prefix)
@@ -31,12 +31,12 @@ pub record TellsSome (q : ℕ) (old : Fields) (before : Post (Item RunningSessio
   pub same : new ≡ record old { due_in = new.due_in }
   pub keeps : Keeps new
 
--- Nothing is due to it any more.
+-- A router is told all that is due to it, and nothing is left.
 pub record TellsRouter (q : ℕ) (old : Fields) (before : Post (Item RunningSession)) (new : Fields) (after : Post (Item RunningSession)) : Type 0 where
   pub told : TellsSome q old before new after
   pub none : table_at new.due_in q ≡ map.empty
 
--- The first so many routers are told all that is due to them.
+-- The first n routers are told all that is due to them.
 pub record TellsFirst (n : ℕ) (old : Fields) (before : Post (Item RunningSession)) (new : Fields) (after : Post (Item RunningSession)) : Type 0 where
   pub events : List RouterEvent
   pub did : (t : ℕ → Tally) → Did old before t events new after t

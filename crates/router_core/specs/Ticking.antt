@@ -1,4 +1,4 @@
--- A round passes on the session that is live at a place, where one may.
+-- A round passes on the live session at a place, if one may.
 use Rattle.std.specs.Prelude.{ℕ, ◌≡◌, Option, Some, None}
 use Rattle.session_value.specs.Ties.{IsTied}
 use Rattle.bgp_session.specs.Running.{RunningSession}
@@ -12,7 +12,7 @@ abbrev pub Ticked : ℕ → RunningSession → Option TickStep → RunningSessio
 Ticked round s None u = (¬ MayPass s.session round) × (u ≡ s)
 Ticked round s (Some step) u = MayPass s.session round × IsTied s.session × Ticks step s round u
 
--- what the router follows then: the end of the session, or nothing
+-- the change that the router follows then: the end of the session, or none
 abbrev pub followed : TickStep → ReadStep
 followed Plain = reads.Opened
 followed Beat = reads.Opened

@@ -1,4 +1,4 @@
--- What a router says of one turn.
+-- What a router promises of one turn.
 use Rattle.std.specs.Prelude.{ℕ, zero, ◌≡◌, ◌≤◌, ◌<◌, ◌+◌, ◌==◌, ◌⊎◌, List, [], ◌∷◌, ◌++◌, map, count_by, Option, Bool, false, if◌then◌else◌}
 use Rattle.std.specs.List.{AllByRecursion, flat_map}
 use Rattle.ring_net.specs.Deeds.{Deed, Climbs}
@@ -65,16 +65,16 @@ Takes part event = stage_of event ≡ 0
 abbrev pub AreAt : ℕ → List RouterEvent → Type 0
 AreAt stage events = AllByRecursion (λ event. stage_of event ≡ stage) events
 
--- The session of a peering that stays live through a turn: what is acknowledged stays; what was outstanding is sent again where nothing was acknowledged since the last
--- turn; and one round passes where one may.
+-- The session of a peering that stays live through a turn: what is acknowledged stays the same, what was outstanding is sent again if nothing was
+-- acknowledged since the last turn, and one round passes if one may.
 pub record TurnsSession (round : ℕ) (p : ℕ) (resent work : List RouterEvent) (old new : RunningSession) : Type 0 where
   pub acked : new.session.end.acked ≡ old.session.end.acked
   pub at_turn : new.acked_at_turn ≡ old.session.end.acked
   pub again : old.acked_at_turn ≡ old.session.end.acked → old.session.end.acked < old.session.end.emitted → emits_on p resent ≡ 1
   pub ticked : (MayPass old.session round × (rounds_on p work ≡ round ∷ [])) ⊎ ((¬ MayPass old.session round) × (rounds_on p work ≡ []))
 
--- One turn: old segments are sent again, and then it works stage by stage. At its end the router is at rest. At most one segment of each session is sent again, and at
--- most one answers.
+-- One turn: old segments are sent again, and then it works stage by stage. At its end the router is at rest. At most one segment of each session is
+-- sent again, and at most one acknowledgement of each is sent.
 pub record Turned (old : Fields) (deeds : List (Deed (Item RunningSession))) (new : Fields) : Type 0 where
   pub router : SameRouter old new
   pub turns : new.turns ≡ old.turns + 1
@@ -89,7 +89,7 @@ pub record Turned (old : Fields) (deeds : List (Deed (Item RunningSession))) (ne
   pub in_order : Climbs 1 (map stage_of work)
   pub rested : RestedRouter old.known.setup old.number.0 (router_part new)
   pub few : (p : ℕ) → (emits_on p again ≤ 1) × (answers_on p work ≤ 1)
-  -- one round passes on each session that runs at the start, where one may, and else none
+  -- one round passes on each session that runs at the start, if one may, and none otherwise
   pub passes : (p : ℕ) (s : RunningSession) (o : Option Errand) → RunsAt old.places.places p s o
       → (MayPass s.session new.turns × (rounds_on p work ≡ new.turns ∷ [])) ⊎ ((¬ MayPass s.session new.turns) × (rounds_on p work ≡ []))
   pub sessions : (p : ℕ) (s u : RunningSession) (o q : Option Errand) → RunsAt old.places.places p s o → RunsAt new.places.places p u q → TurnsSession new.turns p again work s u

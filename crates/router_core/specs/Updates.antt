@@ -1,4 +1,4 @@
--- What is put next on a session, and why it may not be.
+-- What is put next on a session, and why it may be impossible.
 use Rattle.std.specs.Prelude.{ℕ, ◌≡◌, ◌≢◌, ◌<◌, ◌+◌, ◌⊎◌, length, Option, Some, None}
 use Rattle.bgp_types.specs.declared.message.Message.TheVariants.{UpdateMsg}
 use Rattle.bgp_types.specs.declared.message.SessionState.TheVariants.{Established, Closed}
@@ -13,7 +13,8 @@ use Rattle.graft_model.specs.Parts.{RouterPart, Errand}
 use Rattle.graft_model.specs.RouterRows.{IsLive, IsToTell}
 use Rattle.graft_model.specs.Decisions.{to_tell}
 
--- The next update of a session: the prefixes that are to be told the same as the first of all that are to be told, as many as one message of 4,096 octets holds.
+-- The next UPDATE of a session: the prefixes that are to be told the same as the first of all that are to be told, as many as one message of 4,096
+-- octets holds.
 abbrev pub IsNextUpdate : Setup → ℕ → RouterPart → ℕ → SessionValue → Batch → Type 0
 IsNextUpdate setup r part p session batch =
     IsNext (IsToTell setup r part p session) (to_tell setup r part session) (is_wide (peering_of session.config) session.story) batch
@@ -21,7 +22,7 @@ IsNextUpdate setup r part p session batch =
 abbrev pub length_with : SessionValue → Batch → ℕ
 length_with session batch = length session.end.stream + length (spell (UpdateMsg (update_for batch.attrs batch.prefixes)) (is_wide (peering_of session.config) session.story))
 
--- An established session is stuck at a length: its next update would take what was put to that length, above 1,044,480.
+-- An established session is stuck at a length: with its next UPDATE its stream would have that length, above 1,044,480.
 pub record IsStuck (setup : Setup) (r : ℕ) (part : RouterPart) (p : ℕ) (session : SessionValue) (n : ℕ) : Type 0 where
   pub established : state session ≡ Established
   pub batch : Batch
@@ -30,14 +31,15 @@ pub record IsStuck (setup : Setup) (r : ℕ) (part : RouterPart) (p : ℕ) (sess
   pub size : n ≡ length_with session batch
   pub above : 1044480 < n
 
--- A session whose hold time runs is stuck at a length: a KEEPALIVE of 19 bytes would take what was put to that length, above 1,044,480, so that no round may pass.
+-- A session whose hold time runs is stuck at a length: with a KEEPALIVE of 19 bytes its stream would have that length, above 1,044,480, so no round
+-- may pass.
 pub record IsStuckInTime (session : SessionValue) (n : ℕ) : Type 0 where
   pub unclosed : state session ≢ Closed
   pub runs : 0 < hold_time session
   pub size : n ≡ length session.end.stream + 19
   pub above : 1044480 < n
 
--- Its next update has attributes that no message has.
+-- A session's next UPDATE has attributes that no message can have.
 pub record IsUnwritable (setup : Setup) (r : ℕ) (part : RouterPart) (p : ℕ) (session : SessionValue) : Type 0 where
   pub established : state session ≡ Established
   pub batch : Batch
@@ -46,7 +48,7 @@ pub record IsUnwritable (setup : Setup) (r : ℕ) (part : RouterPart) (p : ℕ) 
 
 -- ---- a session without room
 
--- the next update of the live session of a peering has no room: it would take what was put to this length
+-- there is no room for the next UPDATE of the live session of a peering: its stream would have this length
 pub record HasNoRoomAt (setup : Setup) (r : ℕ) (part : RouterPart) (p n : ℕ) : Type 0 where
   pub session : SessionValue
   pub errand : Option Errand
@@ -57,7 +59,7 @@ abbrev pub RoomAnswer : Setup → ℕ → RouterPart → ℕ → Option ℕ → 
 RoomAnswer setup r part p None = (n : ℕ) → ¬ HasNoRoomAt setup r part p n
 RoomAnswer setup r part p (Some n) = HasNoRoomAt setup r part p n
 
--- The live session of a peering is stuck at a length: its next update has no room; or else no round may pass on it.
+-- The live session of a peering is stuck at a length: its next UPDATE has no room; or else no round may pass on it.
 pub record IsStuckAt (setup : Setup) (r : ℕ) (part : RouterPart) (p n : ℕ) : Type 0 where
   pub session : SessionValue
   pub errand : Option Errand
@@ -69,7 +71,7 @@ abbrev pub IsFirstStuck : Setup → ℕ → RouterPart → Option (ℕ × ℕ) �
 IsFirstStuck setup r part None = (p n : ℕ) → ¬ IsStuckAt setup r part p n
 IsFirstStuck setup r part (Some x) = IsStuckAt setup r part x.0 x.1 × ((p n : ℕ) → p < x.0 → ¬ IsStuckAt setup r part p n)
 
--- the length at which the live session of a peering is stuck, or it isn't
+-- the length at which the live session of a peering is stuck, or none if it isn't
 abbrev pub StuckAnswer : Setup → ℕ → RouterPart → ℕ → Option ℕ → Type 0
 StuckAnswer setup r part p None = (n : ℕ) → ¬ IsStuckAt setup r part p n
 StuckAnswer setup r part p (Some n) = IsStuckAt setup r part p n

@@ -1,4 +1,4 @@
--- A stage that goes over the places: what it does at one of them, and what it has done at the first so many.
+-- A stage that goes over the places: what it does at one place, and what it has done after the first n places.
 use Rattle.std.specs.Prelude.{ℕ, ◌≡◌, ◌≢◌, ◌<◌, ◌≤◌, ◌+◌, nat_lt, if◌then◌else◌, List, [], false, Option, Some, None}
 use Rattle.ring_net.specs.declared.post.Post.{Post}
 use Rattle.graft_steps.specs.declared.item.Item.{Item}
@@ -27,14 +27,14 @@ events_on p events = record { rounds = rounds_on p events; emits = emits_on p ev
 abbrev pub none_on : OnPeering
 none_on = record { rounds = []; emits = 0; answers = 0 }
 
--- the number of a stage, what becomes of a place with these events on it, what is counted there, and what else of the router may change
+-- the number of a stage, how a place changes with these events on it, what is counted there, and what else of the router may change
 pub record Stage : Type 1 where
   pub number : ℕ
   pub Goes : OnPeering → Option Place → Option Place → Type 0
   pub count : Option Place → Tally → Tally
   pub Same : Fields → Fields → Type 0
 
--- The stage is at one place.
+-- The stage handles one place.
 pub record Visits (stage : Stage) (p : ℕ) (old : Fields) (before : Post (Item RunningSession)) (new : Fields) (after : Post (Item RunningSession)) : Type 0 where
   pub events : List RouterEvent
   pub did : (t : ℕ → Tally) → Did old before t events new after (at t p (stage.count (place_at old.places.places p) (t p)))
@@ -44,7 +44,7 @@ pub record Visits (stage : Stage) (p : ℕ) (old : Fields) (before : Post (Item 
   pub same : stage.Same old new
   pub keeps : Keeps new
 
--- It has been at the first so many.
+-- The stage has handled the first n places.
 pub record Visited (stage : Stage) (n : ℕ) (old : Fields) (before : Post (Item RunningSession)) (new : Fields) (after : Post (Item RunningSession)) : Type 0 where
   pub events : List RouterEvent
   pub did : (t : ℕ → Tally) → Did old before t events new after (λ p. if nat_lt p n then stage.count (place_at old.places.places p) (t p) else t p)
@@ -64,17 +64,17 @@ AllNewOut None = Unit {0}
 AllNewOut (Some (Live s errand)) = s.session.end.emitted ≡ reach_of s.session.end
 AllNewOut (Some (Shadow away)) = Unit {0}
 
--- All is emitted that may be.
+-- All that may be emitted is emitted.
 abbrev pub EmitsNew : RunningSession → RunningSession → Type 0
 EmitsNew s u = u ≡ record s { session = record s.session { end = record s.session.end { emitted = reach_of s.session.end } } }
 
--- No answer is owed.
+-- No acknowledgement is owed.
 abbrev pub Answers : RunningSession → RunningSession → Type 0
 Answers s u = u ≡ record s { session = record s.session { end = record s.session.end { owed = false } } }
 
 -- ---- the stages
 
--- the places alone change
+-- only the places change
 abbrev pub SameButPlaces : Fields → Fields → Type 0
 SameButPlaces old new = new ≡ record old { places = new.places }
 
@@ -116,7 +116,7 @@ confirming = record {
   Same = SameButPlaces;
 }
 
--- some new slices, which no tally counts
+-- emits some new slices, which no tally counts
 abbrev pub slicing : Stage
 slicing = record {
   number = 7;
@@ -125,7 +125,7 @@ slicing = record {
   Same = SameButPlaces;
 }
 
--- all of them
+-- emits all new slices
 abbrev pub sending_new : Stage
 sending_new = record {
   number = 7;
@@ -134,7 +134,7 @@ sending_new = record {
   Same = SameButPlaces;
 }
 
--- the owed answer
+-- emits the owed acknowledgement
 abbrev pub answering : Stage
 answering = record {
   number = 7;
@@ -143,7 +143,7 @@ answering = record {
   Same = SameButPlaces;
 }
 
--- both
+-- emits all new slices and the owed acknowledgement
 abbrev pub emitting : Stage
 emitting = record {
   number = 7;

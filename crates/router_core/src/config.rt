@@ -1,4 +1,4 @@
-//! What a router begins with.
+//! The configuration with which a router begins.
 
 use bgp_types::Items;
 use graft_edge::{Name, RouterId};
@@ -17,25 +17,25 @@ pub struct NamedPolicy {
 /// A router's policies. A session names those that it uses, and each router resolves the names by itself.
 pub type Policies = Items<NamedPolicy>;
 
-/// The sequence numbers of the first bytes that the two sides of a peering send.
+/// The initial sequence numbers of a peering: those of the first bytes that its two sides send.
 #[derive(Clone, Copy, Debug)]
 pub struct Firsts {
     pub home: Seq,
     pub remote: Seq,
 }
 
-/// What a router begins with.
+/// The configuration with which a router begins.
 #[derive(Drop)]
 pub struct RouterConfig {
     pub number: RouterId,
-    /// How many routers there are.
+    /// The number of routers.
     pub routers: u32,
-    /// For how many sessions there is room, those counted that are away in a graft.
+    /// The number of sessions for which there is room, including those that are away in a graft.
     pub room: u32,
     pub policies: Policies,
     pub rib: RibConfig,
-    /// For each peering of the laboratory, by number: whichever session comes here, and whichever segment, is told by them.
+    /// For each peering of the laboratory, by number. Each session and segment that comes here is checked against them.
     pub firsts: Items<Firsts>,
-    /// What the sessions begin with that start here, by rising peering.
+    /// The configurations of the sessions that start here, in ascending order of peering.
     pub sessions: Items<SessionConfig>,
 }

@@ -1,4 +1,4 @@
-//! What is due to be told, by number.
+//! Prefixes that are due to be told, as sets by number.
 
 ghost use Rattle.std.specs.Prelude.{ℕ, ◌≡◌, ◌<◌, None, length, IfOk, OnOk, OnErr};
 ghost use Rattle.std.specs.FinMap as map;
@@ -33,7 +33,7 @@ impl Model for DueSets {
 }
 
 impl DueSets {
-    /// So many empty sets.
+    /// Returns `count` empty sets.
     pub(crate) fn new(alloc: Global, count: usize) -> Result<DueSets, NoMemory>
         ensures count { IfOk result (λ due. length due ≡ count) }
         ensures empty { IfOk result (λ due. (n : ℕ) → table_at due n ≡ map.empty) }
@@ -45,14 +45,14 @@ impl DueSets {
         Ok(DueSets { sets })
     }
 
-    /// How many sets there are.
+    /// Returns the number of sets.
     pub(crate) fn len(&self) -> usize
         ensures { result ≡ length self.now }
     {
         self.sets.len()
     }
 
-    /// The set of a number, which there is.
+    /// Returns set `n`, which must exist.
     pub(crate) fn set(&self, n: usize) -> &DueSet
         requires { n < length self.now }
         ensures { result.now ≡ table_at self.now n }
@@ -60,7 +60,7 @@ impl DueSets {
         &self.sets[n]
     }
 
-    /// The least prefix that is due.
+    /// Returns the least prefix of set `n`.
     pub(crate) fn first(&self, n: usize) -> Option<Prefix>
         requires { n < length self.now }
         ensures { result ≡ first_above None (map.keys (table_at self.now n)) }
@@ -68,7 +68,7 @@ impl DueSets {
         self.sets[n].first()
     }
 
-    /// Makes a prefix due. If memory runs out, nothing changes.
+    /// Adds a prefix to set `n`. If memory runs out, nothing changes.
     pub(crate) fn add(&mut self, n: usize, prefix: Prefix) -> Result<(), NoMemory>
         requires { n < length self.old }
         ensures length { length self.new ≡ length self.old }
@@ -78,7 +78,7 @@ impl DueSets {
         self.sets[n].insert(prefix)
     }
 
-    /// A prefix is due no more.
+    /// Removes a prefix from set `n`.
     pub(crate) fn remove(&mut self, n: usize, prefix: Prefix)
         requires { n < length self.old }
         ensures length { length self.new ≡ length self.old }
@@ -87,7 +87,7 @@ impl DueSets {
         self.sets[n].remove(prefix);
     }
 
-    /// Another set is due.
+    /// Replaces set `n`.
     pub(crate) fn put(&mut self, n: usize, set: DueSet)
         requires { n < length self.old }
         ensures length { length self.new ≡ length self.old }
@@ -96,7 +96,7 @@ impl DueSets {
         self.sets[n] = set;
     }
 
-    /// Nothing is due any more. It asks for no memory.
+    /// Empties set `n`. It takes no memory.
     pub(crate) fn clear(&mut self, n: usize)
         requires { n < length self.old }
         ensures length { length self.new ≡ length self.old }

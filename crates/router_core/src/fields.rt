@@ -14,7 +14,7 @@ use std::alloc::Global;
 #[derive(Drop)]
 pub struct Fields {
     pub(crate) alloc: Global,
-    /// The laboratory, which only proofs read.
+    /// The laboratory, which is only for proofs.
     pub(crate) known: Known,
     pub(crate) number: RouterId,
     pub(crate) routers: u32,
@@ -22,14 +22,14 @@ pub struct Fields {
     /// The AS of the home network.
     pub(crate) home_as: u32,
     pub(crate) policies: Policies,
-    /// The numbers of the first bytes, by peering.
+    /// The initial sequence numbers, by peering.
     pub(crate) firsts: Items<Firsts>,
     pub(crate) rib: Rib,
     /// The place for each peering.
     pub(crate) places: Places<Place>,
-    /// What is due to be told to each router, and on each peering.
+    /// The prefixes that are due to each router, and those that are due on each peering.
     pub(crate) due_in: DueSets,
     pub(crate) due_out: DueSets,
-    /// How many turns were made. Each is a round of one second.
+    /// The number of turns made. Each is a round of one second.
     pub(crate) turns: u32,
 }

@@ -1,4 +1,5 @@
-//! A home router: it takes segments, messages, routes, orders and sessions in, decides, tells, and moves sessions, each as a named event.
+//! A home router: it takes in segments, messages, routes, orders and sessions, decides, tells, and moves sessions. Each
+//! of these is a named event.
 #![tactic(auto)]
 
 mod config;

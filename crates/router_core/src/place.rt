@@ -14,21 +14,23 @@ use session_places::Places;
 use std::alloc::Global;
 use tcp_seq::Segment;
 
-/// What is still to be done for a graft whose session is live here.
+/// What remains to be done for a graft whose session is live here.
 #[derive(Drop)]
 pub(crate) enum Errand {
-    /// The session is to go to another router, as it was ordered.
+    /// The session is to leave for another router, as ordered.
     Leaving(Ordered),
-    /// The session has landed here: the next router is to be asked, or where all have answered, the source is to be told.
+    /// The session has landed here. The next router is to be asked or, once all have answered, the source is to be
+    /// told.
     Owing(Landed),
-    /// The session has landed here, and a router was asked that hasn't answered.
+    /// The session has landed here, and a router that was asked hasn't answered yet.
     Asking(Landed),
 }
 
-/// What is at a router's place for the session of a peering. A session that moves is taken out of one router's place and put into another's: no call of it takes memory.
+/// The content of a router's place for the session of a peering. A session that moves is taken out of one router's
+/// place and put into another's, which takes no memory.
 #[derive(Drop)]
 pub(crate) enum Place {
-    /// The session, and what is to be done for its graft.
+    /// A live session, and what remains to be done for its graft.
     Live {
         session: Session,
         errand: Option<Errand>,
@@ -40,7 +42,7 @@ pub(crate) enum Place {
 }
 
 impl Place {
-    /// Stores a graft with the session, for which nothing is to be done.
+    /// Stores a graft with the live session, which must have no errand.
     fn store(&mut self, ordered: Ordered)
         ensures { (s : RunningSession) → self.old ≡ Place.Live s None → self.new ≡ Place.Live s (Some (Errand.Leaving ordered)) }
     {
@@ -49,7 +51,8 @@ impl Place {
         }
     }
 
-    /// A router has answered in this graft. Where the session that is live there waits for that, the next router may be asked.
+    /// Notes that a router has answered in this graft. If the live session waits for that answer, the next router may
+    /// be asked.
     fn hear_answer(&mut self, graft: u32, router: u32)
         requires { router < 2 ^ 32 - 1 }
         ensures { HearsAnswer graft router (Some self.old) (Some self.new) }
@@ -65,7 +68,7 @@ impl Place {
         };
     }
 
-    /// A session is live there, and nothing is to be done for a graft of it.
+    /// Makes a session live at the place, without an errand.
     pub(crate) fn set_live(&mut self, session: Session)
         ensures { self.new ≡ Place.Live session None }
     {
@@ -75,7 +78,7 @@ impl Place {
         };
     }
 
-    /// A segment arrives at the session, if one is live there. It answers whether one is.
+    /// Lets a segment arrive at the session, if one is live. Returns whether one is.
     fn arrive(&mut self, segment: &Segment) -> Result<bool, NoMemory>
         requires { FitsPlace (Some self.old) segment.now }
         ensures { IfOk result (λ live. ArrivesAt live (Some self.old) segment.now (Some self.new)) }
@@ -89,7 +92,7 @@ impl Place {
         }
     }
 
-    /// The session reads one message, if one is live there and can.
+    /// Lets the session read one message, if one is live and can.
     fn read(&mut self) -> Result<Option<ReadStep>, NoMemory>
         ensures { IfOk result (λ step. ReadsAt step (Some self.old) (Some self.new)) }
     {
@@ -103,14 +106,14 @@ impl Place {
     }
 }
 
-/// Whether nothing is at a place.
+/// Returns whether a place is vacant.
 pub(crate) fn is_vacant(places: &Places<Place>, n: usize) -> bool
     ensures { MatchBool result (place_at places.now.places n ≡ None) (place_at places.now.places n ≢ None) }
 {
     places.get(n).is_none()
 }
 
-/// Whether a session is live at a place, and nothing is to be done for a graft of it.
+/// Returns whether a session without an errand is live at a place.
 pub(crate) fn is_free(places: &Places<Place>, n: usize) -> bool
     ensures { MatchBool result (IsFree (place_at places.now.places n)) (¬ IsFree (place_at places.now.places n)) }
 {
@@ -120,7 +123,7 @@ pub(crate) fn is_free(places: &Places<Place>, n: usize) -> bool
     }
 }
 
-/// Whether a session has left a place in this graft.
+/// Returns whether the place is a shadow of this graft: its session has left in it.
 pub(crate) fn is_away(places: &Places<Place>, n: usize, graft: u32) -> bool
     ensures { MatchBool result (IsAway (place_at places.now.places n) graft) (¬ IsAway (place_at places.now.places n) graft) }
 {
@@ -130,7 +133,7 @@ pub(crate) fn is_away(places: &Places<Place>, n: usize, graft: u32) -> bool
     }
 }
 
-/// Stores a graft with the session at a place, for which nothing is to be done.
+/// Stores a graft with the live session at a place, which must have no errand.
 pub(crate) fn store(places: &mut Places<Place>, n: usize, ordered: Ordered)
     ensures { (s : RunningSession) → place_at places.old.places n ≡ Some (Place.Live s None)
         → places.new ≡ with_place places.old n (Some (Place.Live s (Some (Errand.Leaving ordered)))) }
@@ -140,7 +143,8 @@ pub(crate) fn store(places: &mut Places<Place>, n: usize, ordered: Ordered)
     }
 }
 
-/// A router has answered in this graft. Where the session of a place waits for that, the next router may be asked.
+/// Notes that a router has answered in this graft. If the session at a place waits for that answer, the next router may
+/// be asked.
 pub(crate) fn hear_answer(places: &mut Places<Place>, n: usize, graft: u32, router: u32)
     requires { router < 2 ^ 32 - 1 }
     ensures { AtOne (HearsAnswer graft router) places.old n places.new }
@@ -150,7 +154,7 @@ pub(crate) fn hear_answer(places: &mut Places<Place>, n: usize, graft: u32, rout
     }
 }
 
-/// A segment arrives at the session of a place, if one is live there. It answers whether one is.
+/// Lets a segment arrive at the session at a place, if one is live there. Returns whether one is.
 pub(crate) fn arrive(
     places: &mut Places<Place>,
     n: usize,
@@ -165,7 +169,7 @@ pub(crate) fn arrive(
     }
 }
 
-/// The session of a place reads one message, if one is live there and can.
+/// Lets the session at a place read one message, if one is live there and can.
 pub(crate) fn read(places: &mut Places<Place>, n: usize) -> Result<Option<ReadStep>, NoMemory>
     ensures { IfOk result (λ step. AtOne (ReadsAt step) places.old n places.new) }
 {
@@ -185,7 +189,7 @@ fn push_session(sessions: &mut Items<Session>, place: Place) -> Result<(), NoMem
     }
 }
 
-/// The sessions that are held at places, in the order of the places.
+/// Returns the sessions held at places, in the order of the places.
 pub(crate) fn sessions_of(alloc: Global, places: Places<Place>) -> Result<Items<Session>, NoMemory>
     ensures { IfOk result (λ sessions. sessions ≡ sessions_in places.places) }
 {

@@ -16,7 +16,7 @@ use graft_edge::{PeeringId, RouterId};
 use graft_steps::RouterRest;
 use session_places::Places;
 
-/// The lowest number for which something is due.
+/// Returns the lowest number whose set isn't empty.
 fn first_due(due: &DueSets) -> Option<u8>
     requires { length due.now ≤ 256 }
     ensures { IsLowestOf (λ n. HasSome (table_at due.now n)) result }
@@ -29,7 +29,7 @@ fn first_due(due: &DueSets) -> Option<u8>
     None
 }
 
-/// The graft of which something is to be done.
+/// Returns the graft of an errand.
 fn graft_of(errand: &Errand) -> u32
     ensures { result ≡ graft_of_lem (errand_of errand.now) }
 {
@@ -39,7 +39,7 @@ fn graft_of(errand: &Errand) -> u32
     }
 }
 
-/// The graft at a place.
+/// Returns the graft at a place, if there is one.
 fn graft_at(places: &Places<Place>, n: usize) -> Option<u32>
     ensures { result ≡ graft_lem (place_of (place_at places.now.places n)) }
 {
@@ -52,7 +52,7 @@ fn graft_at(places: &Places<Place>, n: usize) -> Option<u32>
     }
 }
 
-/// The lower of two numbers, where there are any.
+/// Returns the lower of two numbers, or the one that is given.
 fn lower(one: Option<u32>, other: Option<u32>) -> Option<u32>
     ensures { result ≡ lower_of one other }
 {
@@ -63,7 +63,7 @@ fn lower(one: Option<u32>, other: Option<u32>) -> Option<u32>
     }
 }
 
-/// The lowest number of a graft at one of the places.
+/// Returns the lowest number of a graft at one of the places.
 fn lowest_graft(places: &Places<Place>) -> Option<u32>
     ensures { IsLowestOf (λ k. (p : ℕ) × (graft_lem (place_of (place_at places.now.places p)) ≡ Some k)) result }
 {
@@ -74,7 +74,7 @@ fn lowest_graft(places: &Places<Place>) -> Option<u32>
     lowest
 }
 
-/// Whether bytes of a session aren't acknowledged, or it has something to read.
+/// Returns whether the live session at a place has unacknowledged bytes, or something to read.
 fn has_stream(places: &Places<Place>, n: usize) -> bool
     ensures { MatchBool result (HasStream (place_of (place_at places.now.places n))) (¬ HasStream (place_of (place_at places.now.places n))) }
 {
@@ -84,7 +84,7 @@ fn has_stream(places: &Places<Place>, n: usize) -> bool
     }
 }
 
-/// The lowest peering with such a session.
+/// Returns the lowest peering whose live session has unacknowledged bytes, or something to read.
 fn first_stream(places: &Places<Place>) -> Option<u8>
     requires { length places.now.places ≤ 256 }
     ensures { IsLowestOf (λ p. HasStream (place_of (place_at places.now.places p))) result }
@@ -97,7 +97,7 @@ fn first_stream(places: &Places<Place>) -> Option<u8>
     None
 }
 
-/// That nothing is left, which is said of no router that works.
+/// Returns the answer that nothing is left to do. No router that works gives it.
 pub(crate) fn nothing_left(number: RouterId) -> RouterRest {
     RouterRest {
         number,
@@ -109,7 +109,7 @@ pub(crate) fn nothing_left(number: RouterId) -> RouterRest {
     }
 }
 
-/// The router of a number, where there is one.
+/// Returns the router of a number, if one is given.
 fn router_of(number: Option<u8>) -> Option<RouterId>
     ensures { option_map (λ q. q.0) result ≡ number }
 {
@@ -119,7 +119,7 @@ fn router_of(number: Option<u8>) -> Option<RouterId>
     }
 }
 
-/// The peering of a number, where there is one.
+/// Returns the peering of a number, if one is given.
 fn peering_of(number: Option<u8>) -> Option<PeeringId>
     ensures { option_map (λ p. p.0) result ≡ number }
 {
@@ -129,7 +129,7 @@ fn peering_of(number: Option<u8>) -> Option<PeeringId>
     }
 }
 
-/// What is left to do.
+/// Returns what is left to do.
 pub(crate) fn rest(router: &Fields) -> RouterRest
     requires { Keeps router.now }
     ensures { IsRouterRest router.now.number.0 (router_part router.now) result }

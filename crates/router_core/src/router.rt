@@ -42,8 +42,8 @@ impl Router {
     ghost use Rattle.router_core.specs.Routers.{own, part_in, IsNew, IsHeldAt, Works, took, turned};
     ghost use Rattle.router_core.specs.Updates.{IsFirstStuck};
 
-    /// The router that begins with this configuration, in the laboratory that it is of: its own networks are to be decided, and the sessions that start here
-    /// have put their OPENs.
+    /// Returns a router that begins with this configuration, in its laboratory. Its own networks are dirty, and the
+    /// sessions that start here have put their OPENs.
     pub fn new(alloc: Global, known: Known, config: RouterConfig) -> Result<Router, NoMemory>
         requires setup { IsSetup known.setup }
         requires config { IsConfigOf known.setup config }
@@ -56,11 +56,14 @@ impl Router {
         })
     }
 
-    /// Takes an item that the actor of number `from` sent, and then reads what a session can read that took a segment or came here. It notes at least one event, the
-    /// first of which takes the item, or an entry that is no event's where it drops it: an item that no router takes from that actor; a segment of another peering, that
-    /// goes to the remote, that has more than 65,535 bytes, or whose numbers are of no place in a stream; an order for a peering whose session isn't
-    /// live here or has something to be done for a graft, or to a router that isn't there; a session that comes where the place is taken, that isn't established, or that has other first numbers than
-    /// its peering; and one that comes back, or word of a landing, where no shadow is of that graft. Once memory ran out it answers `NoMemory` to every call.
+    /// Takes an item that the actor of number `from` sent, and then lets the session that took a segment, or came here,
+    /// read all that it can. It writes at least one event to the journal, the first of which takes the item. If it
+    /// drops the item, it writes an entry that is no event instead. These items are dropped: an item that no router
+    /// takes from that actor; a segment of an unknown peering, one on its way to the remote, one with more than 65,535
+    /// bytes, or one whose numbers are outside the stream; an order for a peering whose session isn't live here or has
+    /// an errand, or with an unknown target; a session whose place here is taken, that isn't established, or that has
+    /// other initial sequence numbers than its peering; and a session that comes back, or word of a landing, if there
+    /// is no shadow of that graft. Once memory ran out, every take and turn returns `NoMemory`.
     pub fn take(
         &mut self,
         from: usize,
@@ -78,8 +81,11 @@ impl Router {
         taken
     }
 
-    /// Makes the retransmission turn of each session, lets a round pass on each whose hold time runs, refuses the stored grafts or sends their sessions
-    /// away, decides every dirty prefix, tells the other routers what is due, then the sources of sessions that have landed, then the sessions, and emits what may be emitted and the answers that are owed.
+    /// Makes the retransmission turn of each session, lets a round pass on each whose hold time runs, refuses the
+    /// stored grafts or sends their sessions away, and decides every dirty prefix. It then tells the other routers what
+    /// is due, asks the next router or tells the source of each session that has landed, and tells the sessions. Last,
+    /// it emits what may be emitted, and the acknowledgements that are owed. Once memory ran out, every take and turn
+    /// returns `NoMemory`.
     pub fn turn(&mut self, post: &mut Post<Item<Capsule>>) -> Result<(), NoMemory>
         ensures turned { OnOk result (Moved own (acts carried) turned self.old post.old self.new post.new) }
         ensures edges { SameEdges post.old post.new }
@@ -92,7 +98,7 @@ impl Router {
         turned
     }
 
-    /// Does nothing at a mark.
+    /// Does nothing at a mark, and returns false.
     pub fn between(&mut self, _post: &mut Post<Item<Capsule>>) -> Result<bool, NoMemory>
         ensures nothing { IfOk result (λ made. made ≡ false) }
         ensures same { (self.new ≡ self.old) × (_post.new ≡ _post.old) }
@@ -100,8 +106,10 @@ impl Router {
         Ok(false)
     }
 
-    /// The lowest peering whose live session is stuck, and a length above 1,044,480 bytes: that to which its next UPDATE would take what it put; or else, where the session isn't closed and its hold
-    /// time runs, that to which a KEEPALIVE would, so that no round may pass on it. None where no session is stuck.
+    /// Returns the lowest peering whose live session is stuck, with a length above 1,044,480 bytes, or `None` if no
+    /// session is stuck. The length is that which its stream would reach with its next UPDATE; or else, if the session
+    /// isn't closed and its hold time runs, that which it would reach with a KEEPALIVE, so that no round may pass on
+    /// it.
     pub fn stuck(&self) -> Result<Option<(PeeringId, usize)>, NoMemory>
         ensures { IfOk result (λ answer. IsFirstStuck (own self.now).setup self.now.fields.number.0 (part_in self.now) (option_map (λ x. (x.0.0, x.1)) answer)) }
     {
@@ -111,7 +119,7 @@ impl Router {
         stuck(&self.fields)
     }
 
-    /// The session of a peering, where it is held here. Between calls none is frozen.
+    /// Returns the session of a peering, if it is held here. Between calls none is frozen.
     pub fn session(&self, peering: PeeringId) -> Option<&Session>
         ensures some { IfSome result (λ session. IsHeldAt self.now peering.0 session.now) }
         ensures none { IfNone result ((s : RunningSession) → ¬ IsHeldAt self.now peering.0 s) }
@@ -122,7 +130,7 @@ impl Router {
         }
     }
 
-    /// The routes of the router: what each peering and each other router gave, and the best of them.
+    /// Returns the routes of the router: what each peering and each other router gave, and the best of them.
     pub fn rib(&self) -> &Rib
         ensures entries { (rib_of result.now).entries ≡ (part_in self.now).entries }
         ensures tellings { (rib_of result.now).tellings ≡ (part_in self.now).tellings }
@@ -132,7 +140,7 @@ impl Router {
         &self.fields.rib
     }
 
-    /// What is left to do.
+    /// Returns what is left to do.
     pub fn rest(&self) -> RouterRest
         ensures { Works self.now → IsRouterRest self.now.fields.number.0 (part_in self.now) result }
     {
@@ -142,7 +150,7 @@ impl Router {
         rest(&self.fields)
     }
 
-    /// The sessions that are held here, by rising peering, of a router that is wanted no more.
+    /// Consumes the router, and returns the sessions that it holds, in ascending order of peering.
     pub fn into_sessions(self, alloc: Global) -> Result<Items<Session>, NoMemory>
         ensures { IfOk result (λ sessions. sessions ≡ sessions_in self.fields.places.places) }
     {

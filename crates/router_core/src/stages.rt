@@ -24,7 +24,7 @@ use graft_steps::Item;
 pub(crate) use put::stuck;
 use ring_net::Post;
 
-/// One turn, stage by stage. At 2^32 turns it answers `NoMemory`.
+/// Makes one turn, stage by stage. Returns `NoMemory` at 2^32 turns.
 pub(crate) fn turn(router: &mut Fields, post: &mut Post<Item<Capsule>>) -> Result<(), NoMemory>
     requires { Keeps router.old }
     ensures edges { SameEdges post.old post.new }

@@ -1,4 +1,4 @@
-//! What a router takes.
+//! The items that a router takes.
 
 mod graft;
 mod heard;
@@ -21,7 +21,7 @@ use graft_steps::Item;
 pub(crate) use reads::follow;
 use ring_net::Post;
 
-/// Takes an item of the actor of this number.
+/// Takes an item that the actor `from` sent.
 pub(crate) fn take(
     router: &mut Fields,
     from: usize,

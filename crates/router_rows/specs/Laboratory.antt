@@ -20,14 +20,14 @@ out_name = 111 ∷ 117 ∷ 116 ∷ []
 abbrev pub prefers : Rule
 prefers = record { within = None; has_as = None; origin = None; deny = false; pref = Some 200; med = None; prepend = 0 }
 
--- the first numbers of each peering
+-- the initial sequence numbers of each peering
 abbrev pub first_numbers : Firsts
 first_numbers = record { home = record { 0 = 1000 }; remote = record { 0 = 5000 } }
 
 abbrev pub all_firsts : List Firsts
 all_firsts = first_numbers ∷ first_numbers ∷ first_numbers ∷ first_numbers ∷ first_numbers ∷ []
 
--- what the session of a peering begins with, by its number, its identifier, its hold time and its policies
+-- the configuration of a peering's session, by its number, its identifier, its hold time and its policies
 abbrev pub session_of : (p identifier hold : ℕ) → (import export : Option (List ℕ)) → SessionConfig
 session_of p identifier hold import export = record {
   peering = record { 0 = p };
@@ -45,7 +45,7 @@ session_of p identifier hold import export = record {
   export = export;
 }
 
--- what a router begins with, by its number, its room, its policies, its networks and the sessions that start there
+-- the configuration of a router, by its number, its room, its policies, its networks and the sessions that start there
 abbrev pub config_with : (number room : ℕ) → List NamedPolicy → List PrefixValue → List SessionConfig → RouterConfig
 config_with number room policies networks sessions = record {
   number = record { 0 = number };
@@ -57,7 +57,7 @@ config_with number room policies networks sessions = record {
   sessions = sessions;
 }
 
--- a peering by the router at which its session starts, with what the session begins with; its remote says nothing by itself
+-- a peering by the router at which its session starts, with the configuration of the session; its remote says nothing by itself
 abbrev pub peering : ℕ → SessionConfig → PeeringSetup
 peering start config = record { start = start; config = config; opening = []; hold = 180; beats = false }
 

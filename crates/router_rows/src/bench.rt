@@ -13,10 +13,10 @@ use std::alloc::Global;
 use tcp_end::End;
 use tcp_seq::Segment;
 
-/// The number of the first far side's actor.
+/// The actor number of the first far side.
 const FIRST_FAR: usize = 3;
 
-/// How many items are carried at once at most.
+/// The limit of items that are carried at once.
 const MOST: u32 = 2_000;
 
 /// The routers, and the remotes.
@@ -26,7 +26,7 @@ pub struct Bench {
     remotes: Vec<End>,
 }
 
-/// A segment comes to the remote, if it is one for it.
+/// Lets a segment arrive at the remote, if it is for it.
 fn reach(remote: &mut End, segment: &Segment) -> Result<(), NoMemory> {
     if segment.peering != remote.peering() {
         return Ok(());
@@ -41,8 +41,8 @@ fn reach(remote: &mut End, segment: &Segment) -> Result<(), NoMemory> {
     Ok(())
 }
 
-/// The UPDATE of this number that the remote of a peering says: 3,998 octets that announce a /24 with its AS as path, its address as next
-/// hop, and an unknown transitive attribute of 3,949 octets, of which the first two are the number.
+/// Returns UPDATE `n` of the remote of a peering: 3,998 octets that announce a /24 with its AS as path, its address as
+/// next hop, and an unknown transitive attribute of 3,949 octets, the first two of which are the number.
 fn long_update(alloc: Global, peering: u8, n: u32) -> Result<Vec<u8>> {
     let number = [(n / 256 % 256) as u8, (n % 256) as u8];
     let remote = peering % 8;
@@ -60,7 +60,7 @@ fn long_update(alloc: Global, peering: u8, n: u32) -> Result<Vec<u8>> {
 }
 
 impl Bench {
-    /// The laboratory at its beginning, with nothing said by any remote.
+    /// Returns the laboratory at its beginning. No remote has said anything.
     pub fn begin(alloc: Global) -> Result<Bench, NoMemory> {
         let mut stations = Vec::new(alloc);
         stations.push(Station::new(alloc, 0, router_0(alloc)?)?)?;
@@ -73,19 +73,19 @@ impl Bench {
         Ok(Bench { stations, remotes })
     }
 
-    /// The router whose number stands at a place of a row.
+    /// Returns the router whose number is at a place of a row.
     fn station(&mut self, words: &[&str], place: usize) -> Result<&mut Station> {
         let n = number(words, place)?;
         self.stations.get_mut(n as usize).context("a router")
     }
 
-    /// The remote of the peering whose number stands at a place of a row.
+    /// Returns the remote of the peering whose number is at a place of a row.
     fn remote(&mut self, words: &[&str], place: usize) -> Result<&mut End> {
         let n = number(words, place)?;
         self.remotes.get_mut(n as usize).context("a peering")
     }
 
-    /// A router takes what the far side of a peering sends: `.. ROUTER PEERING`.
+    /// Lets a router take a segment that the far side of a peering sends: `.. ROUTER PEERING`.
     fn arrive(&mut self, words: &[&str], segment: Segment) -> Result<()> {
         let far = FIRST_FAR + small(words, 2)? as usize;
         let station = self.station(words, 1)?;
@@ -93,7 +93,7 @@ impl Bench {
         Ok(())
     }
 
-    /// The remote of a peering says bytes, and all its segments arrive at a router: `.. ROUTER PEERING`.
+    /// Lets the remote of a peering say bytes, and all its segments arrive at a router: `.. ROUTER PEERING`.
     fn send(&mut self, words: &[&str], bytes: &[u8]) -> Result<()> {
         self.remote(words, 2)?.send(bytes)?;
         for _n in 0..MOST {
@@ -105,14 +105,14 @@ impl Bench {
         Ok(())
     }
 
-    /// The remote of a peering says bytes, which arrive at a router: `say ROUTER PEERING OCTETS ..`.
+    /// Lets the remote of a peering say bytes, which arrive at a router: `say ROUTER PEERING OCTETS ..`.
     fn say(&mut self, alloc: Global, words: &[&str]) -> Result<String> {
         let bytes = octets(alloc, words, 3)?;
         self.send(words, bytes.as_slice())?;
         self.station(words, 1)?.news(alloc)
     }
 
-    /// The remote's answer arrives at a router, if one is owed: `answer ROUTER PEERING`.
+    /// Lets the remote's acknowledgement arrive at a router, if one is owed: `answer ROUTER PEERING`.
     fn answer_of_remote(&mut self, alloc: Global, words: &[&str]) -> Result<String> {
         if let Some(segment) = self.remote(words, 2)?.answer() {
             self.arrive(words, segment)?;
@@ -120,7 +120,8 @@ impl Bench {
         self.station(words, 1)?.news(alloc)
     }
 
-    /// The remote of a peering sends again what isn't acknowledged: `again ROUTER PEERING`. At first it may have heard of an acknowledgement.
+    /// Lets the remote of a peering send again what isn't acknowledged: `again ROUTER PEERING`. The first try may only
+    /// note an acknowledgement.
     fn again(&mut self, alloc: Global, words: &[&str]) -> Result<String> {
         for _n in 0..2u32 {
             if let Some(segment) = self.remote(words, 2)?.turn()? {
@@ -131,7 +132,7 @@ impl Bench {
         self.station(words, 1)?.news(alloc)
     }
 
-    /// What a router sent to a far side; its segments reach the remote: `reach ROUTER PEERING`.
+    /// Returns what a router sent to a far side, and lets its segments reach the remote: `reach ROUTER PEERING`.
     fn reach(&mut self, alloc: Global, words: &[&str]) -> Result<String> {
         let far = FIRST_FAR + small(words, 2)? as usize;
         let mut text = String::new(alloc);
@@ -153,7 +154,7 @@ impl Bench {
         Ok(text)
     }
 
-    /// All that one router sent another comes there: `pass ROUTER ROUTER`.
+    /// Lets a router take all that another one sent it: `pass ROUTER ROUTER`.
     fn pass(&mut self, alloc: Global, words: &[&str]) -> Result<String> {
         let from = number(words, 1)? as usize;
         let to = number(words, 2)? as usize;
@@ -166,7 +167,8 @@ impl Bench {
         self.station(words, 2)?.news(alloc)
     }
 
-    /// The next item that a router sent an actor comes to some router, as from some actor: `carry ROUTER ACTOR ROUTER ACTOR`.
+    /// Lets some router take the next item that a router sent an actor, as if from some actor: `carry ROUTER ACTOR
+    /// ROUTER ACTOR`.
     fn carry(&mut self, alloc: Global, words: &[&str]) -> Result<String> {
         let item = self.next_sent(words)?.context("an item")?;
         let from = number(words, 4)? as usize;
@@ -174,13 +176,13 @@ impl Bench {
         self.station(words, 3)?.news(alloc)
     }
 
-    /// The next item that a router sent an actor: `.. ROUTER ACTOR`.
+    /// Returns the next item that a router sent an actor: `.. ROUTER ACTOR`.
     fn next_sent(&mut self, words: &[&str]) -> Result<Option<Item<Capsule>>> {
         let to = number(words, 2)? as usize;
         Ok(self.station(words, 1)?.take_sent(to))
     }
 
-    /// The same as a text.
+    /// Returns the next item that a router sent an actor, as a text.
     fn sent(&mut self, alloc: Global, words: &[&str]) -> Result<String> {
         match self.next_sent(words)? {
             Some(item) => item_text(alloc, &item),
@@ -188,7 +190,7 @@ impl Bench {
         }
     }
 
-    /// What the remote of a peering received, from a place on: `received PEERING PLACE`.
+    /// Returns what the remote of a peering received, from a place on: `received PEERING PLACE`.
     fn received(&mut self, alloc: Global, words: &[&str]) -> Result<String> {
         let place = number(words, 2)? as usize;
         let remote = self.remote(words, 1)?;
@@ -197,7 +199,7 @@ impl Bench {
         Ok(hex::encode_upper(alloc, behind)?)
     }
 
-    /// A router takes an item of a row: `take ROUTER ACTOR ITEM ..`.
+    /// Lets a router take the item of a row: `take ROUTER ACTOR ITEM ..`.
     fn take(&mut self, alloc: Global, words: &[&str]) -> Result<String> {
         let from = number(words, 2)? as usize;
         let item = item_of(alloc, words)?;
@@ -206,7 +208,7 @@ impl Bench {
         station.news(alloc)
     }
 
-    /// A router makes so many turns: `turn ROUTER`, or `turn ROUTER COUNT`.
+    /// Lets a router make one turn or several: `turn ROUTER`, or `turn ROUTER COUNT`.
     fn turn(&mut self, alloc: Global, words: &[&str]) -> Result<String> {
         let turns = if words.len() > 2 {
             number(words, 2)?
@@ -220,7 +222,8 @@ impl Bench {
         station.news(alloc)
     }
 
-    /// The remote of a peering says bytes, and a router that took them turns; what it sent to the far side comes there: `.. ROUTER PEERING`.
+    /// Lets the remote of a peering say bytes, and a router take them and make a turn. What the router sent to the far
+    /// side arrives there: `.. ROUTER PEERING`.
     fn send_and_turn(&mut self, alloc: Global, words: &[&str], bytes: &[u8]) -> Result<()> {
         self.send(words, bytes)?;
         self.station(words, 1)?.turn()?;
@@ -228,15 +231,15 @@ impl Bench {
         Ok(())
     }
 
-    /// Which session of a router is stuck, with the events so far passed over: `.. ROUTER`.
+    /// Returns which session of a router is stuck, and skips the events so far: `.. ROUTER`.
     fn stuck_now(&mut self, alloc: Global, words: &[&str]) -> Result<String> {
         let station = self.station(words, 1)?;
         station.news(alloc)?;
         stuck_text(alloc, &station.router.stuck()?)
     }
 
-    /// The remote of a peering says the UPDATEs from one number to another, each of which a router takes and tells: `flood ROUTER PEERING
-    /// FIRST END`. What is answered is which session is stuck then.
+    /// Lets the remote of a peering say the UPDATEs from one number to another, each of which a router takes and tells:
+    /// `flood ROUTER PEERING FIRST END`. The answer is which session is stuck then.
     fn flood(&mut self, alloc: Global, words: &[&str]) -> Result<String> {
         let peering = small(words, 2)?;
         for n in number(words, 3)?..number(words, 4)? {
@@ -246,8 +249,8 @@ impl Bench {
         self.stuck_now(alloc, words)
     }
 
-    /// A router makes so many turns, and before each the remote of a peering says a KEEPALIVE: `keep ROUTER PEERING COUNT`. What is
-    /// answered is which session is stuck then.
+    /// Lets a router make `COUNT` turns, before each of which the remote of a peering says a KEEPALIVE: `keep ROUTER
+    /// PEERING COUNT`. The answer is which session is stuck then.
     fn keep(&mut self, alloc: Global, words: &[&str]) -> Result<String> {
         let keepalive = hex::decode(alloc, "FFFFFFFFFFFFFFFFFFFFFFFFFFFFFFFF001304")?;
         for _n in 0..number(words, 3)? {
@@ -256,7 +259,7 @@ impl Bench {
         self.stuck_now(alloc, words)
     }
 
-    /// What is done at a mark, and its events.
+    /// Calls a router at a mark, and returns the outcome and its events.
     fn between(&mut self, alloc: Global, words: &[&str]) -> Result<String> {
         let station = self.station(words, 1)?;
         let made = station.between()?;
@@ -264,7 +267,7 @@ impl Bench {
         Ok(format!(in alloc; "{made}, {news}")?)
     }
 
-    /// What a row that looks at a router gives.
+    /// Returns the answer to a row that looks at a router.
     fn look(&mut self, alloc: Global, words: &[&str]) -> Result<String> {
         let station = self.station(words, 1)?;
         match word(words, 0) {
@@ -279,7 +282,7 @@ impl Bench {
         }
     }
 
-    /// What a row gives.
+    /// Returns the answer to a row.
     pub fn answer(&mut self, alloc: Global, words: &[&str]) -> Result<String> {
         match word(words, 0) {
             "begin" => {

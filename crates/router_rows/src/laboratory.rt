@@ -1,5 +1,5 @@
-//! The laboratory of the rows, of home AS 65000: three routers, 0 to 2, whose identifiers are 10.255.0.1 to 10.255.0.3; five peerings, 0 to 4,
-//! whose far sides are actors 3 to 7; and the operator, actor 8.
+//! The laboratory of the rows, of home AS 65000: three routers, 0 to 2, whose identifiers are 10.255.0.1 to
+//! 10.255.0.3; five peerings, 0 to 4, whose far sides are actors 3 to 7; and the operator, actor 8.
 //!
 //! | Router | Room | Policies | Networks | Sessions that start there |
 //! |---|---|---|---|---|
@@ -7,8 +7,8 @@
 //! | 1 | 4 | `in`, which sets preference 200, and `out`, without rules | none | 3, by `in` and `out`; 4, by `in`, which offers a hold time of 90 seconds |
 //! | 2 | 2 | none | 198.51.100.0/24 | 2, without policies |
 //!
-//! The remote of peering p has AS 65001 + p and the address 192.0.2.(4p + 1); the home side has the next one. Its first byte has the number 5000,
-//! and the first of the home side 1000. All hold times but that of peering 4 are 0.
+//! The remote of peering p has AS 65001 + p and the address 192.0.2.(4p + 1); the home side has the next address. The
+//! remote's initial sequence number is 5000, and the home side's 1000. All hold times but that of peering 4 are 0.
 
 ghost use Rattle.std.specs.Prelude.{◌≡◌, ◌∷◌, [], false, None, Some, IfOk};
 ghost use Rattle.router_core.specs.Configs.{starting_here};
@@ -27,7 +27,7 @@ use std::alloc::Global;
 /// The identifiers of the routers: 10.255.0.1 to 10.255.0.3.
 const FIRST_IDENTIFIER: u32 = 0x0AFF_0001;
 
-/// A policy of a name.
+/// Returns a policy with this name.
 fn named(alloc: Global, text: &str, policy: Policy) -> Result<NamedPolicy, NoMemory>
     ensures { IfOk result (λ named. named ≡ record { name = text.now; policy = policy }) }
 {
@@ -35,14 +35,14 @@ fn named(alloc: Global, text: &str, policy: Policy) -> Result<NamedPolicy, NoMem
     Ok(NamedPolicy { name, policy })
 }
 
-/// The policies of router 0.
+/// Returns the policies of router 0.
 fn policies_of_0(alloc: Global) -> Result<Policies, NoMemory>
     ensures { IfOk result (λ policies. policies ≡ record { name = in_name; policy = [] } ∷ []) }
 {
     Items::one(alloc, named(alloc, "in", Policy::new(Items::new(alloc)))?)
 }
 
-/// The policy of one rule, which sets a preference.
+/// Returns the policy of one rule, which sets a preference.
 fn preferring(alloc: Global, pref: Option<u32>) -> Result<Policy, NoMemory>
     ensures { IfOk result (λ policy. policy ≡ record { within = None; has_as = None; origin = None; deny = false; pref = pref; med = None; prepend = 0 } ∷ []) }
 {
@@ -61,7 +61,7 @@ fn preferring(alloc: Global, pref: Option<u32>) -> Result<Policy, NoMemory>
     Ok(Policy::new(rules))
 }
 
-/// The policies of router 1.
+/// Returns the policies of router 1.
 fn policies_of_1(alloc: Global) -> Result<Policies, NoMemory>
     ensures { IfOk result (λ policies. policies ≡ record { name = in_name; policy = prefers ∷ [] } ∷ record { name = out_name; policy = [] } ∷ []) }
 {
@@ -72,7 +72,7 @@ fn policies_of_1(alloc: Global) -> Result<Policies, NoMemory>
     Ok(policies)
 }
 
-/// The networks of router 2.
+/// Returns the networks of router 2.
 fn networks_of_2(alloc: Global) -> Result<Items<Prefix>, NoMemory>
     ensures { IfOk result (λ networks. networks ≡ record { address = 0xC6336400; len = 24 } ∷ []) }
 {
@@ -82,7 +82,7 @@ fn networks_of_2(alloc: Global) -> Result<Items<Prefix>, NoMemory>
     }
 }
 
-/// What the sessions begin with that start at router 0.
+/// Returns the configurations of the sessions that start at router 0.
 fn sessions_of_0(alloc: Global) -> Result<Items<SessionConfig>, NoMemory>
     ensures { IfOk result (λ sessions. sessions ≡ starting_here laboratory 0) }
 {
@@ -91,7 +91,7 @@ fn sessions_of_0(alloc: Global) -> Result<Items<SessionConfig>, NoMemory>
     Ok(sessions)
 }
 
-/// The same at router 1.
+/// Returns the configurations of the sessions that start at router 1.
 fn sessions_of_1(alloc: Global) -> Result<Items<SessionConfig>, NoMemory>
     ensures { IfOk result (λ sessions. sessions ≡ starting_here laboratory 1) }
 {
@@ -105,14 +105,15 @@ fn sessions_of_1(alloc: Global) -> Result<Items<SessionConfig>, NoMemory>
     Ok(sessions)
 }
 
-/// The same at router 2.
+/// Returns the configurations of the sessions that start at router 2.
 fn sessions_of_2(alloc: Global) -> Result<Items<SessionConfig>, NoMemory>
     ensures { IfOk result (λ sessions. sessions ≡ starting_here laboratory 2) }
 {
     Items::one(alloc, session(2, FIRST_IDENTIFIER + 2, 0, None, None))
 }
 
-/// What a router begins with: its number, its room, its policies, its networks and the sessions that start there.
+/// Returns the configuration of a router: its number, its room, its policies, its networks and the sessions that start
+/// there.
 fn config(
     alloc: Global,
     number: u8,
@@ -145,7 +146,7 @@ fn config(
     })
 }
 
-/// Router 0 at its beginning.
+/// Returns router 0 at its beginning.
 pub fn router_0(alloc: Global) -> Result<Router, NoMemory> {
     let known = Known::new();
     let policies = policies_of_0(alloc)?;
@@ -155,7 +156,7 @@ pub fn router_0(alloc: Global) -> Result<Router, NoMemory> {
     Router::new(alloc, known, config)
 }
 
-/// Router 1 at its beginning.
+/// Returns router 1 at its beginning.
 pub fn router_1(alloc: Global) -> Result<Router, NoMemory> {
     let known = Known::new();
     let policies = policies_of_1(alloc)?;
@@ -165,7 +166,7 @@ pub fn router_1(alloc: Global) -> Result<Router, NoMemory> {
     Router::new(alloc, known, config)
 }
 
-/// Router 2 at its beginning.
+/// Returns router 2 at its beginning.
 pub fn router_2(alloc: Global) -> Result<Router, NoMemory> {
     let known = Known::new();
     let policies = Items::new(alloc);

@@ -1,5 +1,5 @@
-//! Turns of routers, worked out by hand. Reads rows from standard input, each a call and what it gives, prints each that gives
-//! something else, and how many there are.
+//! Turns of routers, worked out by hand. Reads rows from standard input, each a call and its expected answer, prints
+//! each row whose answer differs, and then how many rows there are.
 #![tactic(auto)]
 
 mod bench;
@@ -14,7 +14,7 @@ use anyhow::{Context, Result};
 use std::alloc::Global;
 use std::io;
 
-/// What a row gives, where that is something else than the row says.
+/// Returns the answer to a row, if it differs from the expected one.
 fn other_answer(alloc: Global, bench: &mut Bench, line: &str) -> Result<Option<String>> {
     let (call, expected) = line.split_once(" => ").context("a row")?;
     let words: Vec<&str> = call.split(' ').collect(alloc)?;

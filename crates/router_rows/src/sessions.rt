@@ -10,12 +10,12 @@ use std::alloc::Global;
 use tcp_end::End;
 use tcp_seq::{Seq, Way};
 
-/// The number of the first byte that each home side sends, and that each remote sends.
+/// The initial sequence numbers: of each home side, and of each remote.
 const OURS: u32 = 1_000;
 
 const THEIRS: u32 = 5_000;
 
-/// The first numbers of a peering.
+/// Returns the initial sequence numbers of a peering.
 fn first_numbers() -> Firsts
     ensures { result ≡ first_numbers_lem }
 {
@@ -25,7 +25,7 @@ fn first_numbers() -> Firsts
     }
 }
 
-/// The first numbers of all five peerings.
+/// Returns the initial sequence numbers of all five peerings.
 pub fn firsts(alloc: Global) -> Result<Items<Firsts>, NoMemory>
     ensures { IfOk result (λ firsts. firsts ≡ all_firsts) }
 {
@@ -34,8 +34,8 @@ pub fn firsts(alloc: Global) -> Result<Items<Firsts>, NoMemory>
     Ok(Items::from_vec(firsts))
 }
 
-/// What the session of a peering begins with. Its remote has AS 65001 + `peering`, and the address 192.0.2.1 + 4 `peering`; the home side has
-/// the next address.
+/// Returns the configuration of a peering's session. Its remote has AS 65001 + `peering`, and the address 192.0.2.1 + 4
+/// `peering`; the home side has the next address.
 pub fn session(
     peering: u8,
     identifier: u32,
@@ -63,7 +63,7 @@ pub fn session(
     }
 }
 
-/// The endpoint of a peering's remote.
+/// Returns the endpoint of a peering's remote.
 pub fn remote(alloc: Global, peering: u8) -> Result<End, NoMemory> {
     End::new(alloc, Way::Home, PeeringId(peering), Seq(THEIRS), Seq(OURS))
 }

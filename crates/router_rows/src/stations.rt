@@ -9,7 +9,7 @@ use ring_net::{JournalEntry, Post};
 use router_core::Router;
 use std::alloc::Global;
 
-/// A router, its post, and how many of its entries were looked at.
+/// A router, its post, and how many of its journal entries were already shown.
 #[derive(Drop)]
 pub struct Station {
     pub router: Router,
@@ -17,7 +17,7 @@ pub struct Station {
     seen: usize,
 }
 
-/// A router's event by its name and its three arguments.
+/// Appends a router's event by its name and its three arguments.
 fn put_entry(alloc: Global, text: &mut String, entry: &JournalEntry) -> Result<()> {
     let code = Code {
         kind: entry.kind,
@@ -36,7 +36,7 @@ fn put_entry(alloc: Global, text: &mut String, entry: &JournalEntry) -> Result<(
 }
 
 impl Station {
-    /// A router of this number, at its beginning.
+    /// Returns a router of this number, at its beginning.
     pub fn new(alloc: Global, number: u16, router: Router) -> Result<Station, NoMemory> {
         Ok(Station {
             router,
@@ -55,18 +55,18 @@ impl Station {
         self.router.turn(&mut self.post)
     }
 
-    /// Whether anything was done at a mark.
+    /// Calls the router at a mark. Returns whether it did anything.
     pub fn between(&mut self) -> Result<bool, NoMemory> {
         self.router.between(&mut self.post)
     }
 
-    /// The next item that was sent to an actor.
+    /// Removes and returns the next item that was sent to an actor.
     pub fn take_sent(&mut self, to: usize) -> Option<Item<Capsule>> {
         let (_stamp, item) = self.post.take_sent(to)?;
         Some(item)
     }
 
-    /// The events since the last look, each by its kind and its three arguments.
+    /// Returns the events since the last look, each by its kind and its three arguments.
     pub fn news(&mut self, alloc: Global) -> Result<String> {
         let mut news = String::new(alloc);
         for entry in self.post.entries().iter().skip(self.seen) {

@@ -8,7 +8,7 @@ use graft_steps::{Item, Outcome, Refusal, RouterRest};
 use rib_stages::Rib;
 use std::alloc::Global;
 
-/// The ASes of a part of a path, with a space before each.
+/// Appends the AS numbers of a part of a path, with a space before each.
 fn put_part(text: &mut String, part: &PathPart) -> Result<()> {
     let ases = match part {
         PathPart::Set(ases) | PathPart::Sequence(ases) => ases,
@@ -19,7 +19,7 @@ fn put_part(text: &mut String, part: &PathPart) -> Result<()> {
     Ok(())
 }
 
-/// A route: its preference, and the ASes of its path.
+/// Appends a route: its preference, and the AS numbers of its path.
 fn put_route(text: &mut String, route: &Route) -> Result<()> {
     write!(text, "pref {} path", route.pref)?;
     for part in &route.attrs.path {
@@ -31,7 +31,7 @@ fn put_route(text: &mut String, route: &Route) -> Result<()> {
     Ok(())
 }
 
-/// Why a graft was refused.
+/// Returns the text of a refusal.
 fn refusal_text(alloc: Global, refusal: &Refusal) -> Result<String> {
     match refusal {
         Refusal::PolicyMissing(name) => Ok(format!(in alloc; "PolicyMissing({name})")?),
@@ -39,7 +39,7 @@ fn refusal_text(alloc: Global, refusal: &Refusal) -> Result<String> {
     }
 }
 
-/// How a graft ended.
+/// Returns the text of an outcome.
 fn outcome_text(alloc: Global, outcome: &Outcome) -> Result<String> {
     match outcome {
         Outcome::Accepted => Ok(format!(in alloc; "accepted")?),
@@ -50,7 +50,7 @@ fn outcome_text(alloc: Global, outcome: &Outcome) -> Result<String> {
     }
 }
 
-/// An item.
+/// Returns the text of an item.
 pub fn item_text(alloc: Global, item: &Item<Capsule>) -> Result<String> {
     match item {
         Item::Seg(segment) => {
@@ -92,7 +92,7 @@ pub fn item_text(alloc: Global, item: &Item<Capsule>) -> Result<String> {
     }
 }
 
-/// The best routes, by rising prefix.
+/// Returns the best routes, in ascending order of prefix.
 pub fn best_text(alloc: Global, rib: &Rib) -> Result<String> {
     let mut text = String::new(alloc);
     let mut place = rib.next_best(None);
@@ -115,7 +115,7 @@ pub fn best_text(alloc: Global, rib: &Rib) -> Result<String> {
     Ok(text)
 }
 
-/// A session: its state, and how many routes it heard and told.
+/// Returns the text of a session: its state, and how many routes it heard and told.
 pub fn session_text(alloc: Global, session: Option<&Session>) -> Result<String> {
     let Some(session) = session else {
         return Ok(format!(in alloc; "none")?);
@@ -125,7 +125,7 @@ pub fn session_text(alloc: Global, session: Option<&Session>) -> Result<String> 
     Ok(format!(in alloc; "{state:?} heard {heard} told {told} put {put} waits {waits}")?)
 }
 
-/// What is left to do.
+/// Returns the text of what is left to do.
 pub fn rest_text(alloc: Global, rest: &RouterRest) -> Result<String> {
     let due_in = rest.due_in.map(|q| q.0);
     let due_out = rest.due_out.map(|p| p.0);
@@ -136,7 +136,7 @@ pub fn rest_text(alloc: Global, rest: &RouterRest) -> Result<String> {
     )?)
 }
 
-/// The session that is stuck, and at which length.
+/// Returns the session that is stuck, and at which length.
 pub fn stuck_text(alloc: Global, stuck: &Option<(PeeringId, usize)>) -> Result<String> {
     match stuck {
         Some((peering, length)) => Ok(format!(in alloc; "peering {} length {length}", peering.0)?),

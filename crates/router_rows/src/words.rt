@@ -1,4 +1,4 @@
-//! The words of a row: octets, and items that are taken.
+//! The words of a row: octets, and items to be taken.
 
 use anyhow::{Context, Result, bail};
 use bgp_session::Capsule;
@@ -8,22 +8,23 @@ use graft_steps::{Item, Outcome};
 use std::alloc::Global;
 use tcp_seq::{Segment, Seq, Way};
 
-/// The word at a place of a row; empty behind its end.
+/// Returns the word at a place of a row; empty past its end.
 pub fn word<'a>(words: &[&'a str], place: usize) -> &'a str {
     words.get(place).copied().unwrap_or("")
 }
 
-/// The number at a place of a row.
+/// Returns the number at a place of a row.
 pub fn number(words: &[&str], place: usize) -> Result<u32> {
     Ok(word(words, place).parse::<u32>()?)
 }
 
-/// The number of a router or a peering at a place of a row.
+/// Returns the number of a router or a peering at a place of a row.
 pub fn small(words: &[&str], place: usize) -> Result<u8> {
     Ok(word(words, place).parse::<u8>()?)
 }
 
-/// The octets that the words of a row spell from a place on, in hexadecimal; `*` stands for sixteen octets of all ones.
+/// Returns the octets that the words of a row spell in hexadecimal, from a place on; `*` stands for sixteen octets of
+/// all ones.
 pub fn octets(alloc: Global, words: &[&str], place: usize) -> Result<Vec<u8>> {
     let mut text = String::new(alloc);
     for word in words.iter().skip(place) {
@@ -43,7 +44,7 @@ fn way_of(word: &str) -> Option<Way> {
     }
 }
 
-/// A segment: `PEERING WAY SEQ ACK LENGTH` from the fifth word on.
+/// Returns a segment: `PEERING WAY SEQ ACK LENGTH` from the fifth word on.
 fn segment_of(alloc: Global, words: &[&str]) -> Result<Segment> {
     let peering = small(words, 4)?;
     let way = way_of(word(words, 5)).context("a way")?;
@@ -60,7 +61,7 @@ fn segment_of(alloc: Global, words: &[&str]) -> Result<Segment> {
     })
 }
 
-/// An item of a graft: its name stands in the fourth word, and the graft's number in the fifth.
+/// Returns an item of a graft: its name is the fourth word, and the graft's number the fifth.
 fn item_of_graft(words: &[&str]) -> Result<Item<Capsule>> {
     let graft = number(words, 4)?;
     Ok(match word(words, 3) {
@@ -91,7 +92,7 @@ fn item_of_graft(words: &[&str]) -> Result<Item<Capsule>> {
     })
 }
 
-/// The item that a row has a router take: `take ROUTER FROM ITEM ..`.
+/// Returns the item that a row has a router take: `take ROUTER FROM ITEM ..`.
 pub fn item_of(alloc: Global, words: &[&str]) -> Result<Item<Capsule>> {
     match word(words, 3) {
         "segment" => Ok(Item::Seg(segment_of(alloc, words)?)),

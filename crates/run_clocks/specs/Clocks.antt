@@ -17,7 +17,7 @@ pub record Clocked : Type 0 where
   pub begins : Bool
   pub clock : ℕ
 
--- how many items are on their way from one actor to another
+-- the number of items on their way from one actor to another
 abbrev pub on_way : World → ActorName → ActorName → ℕ
 on_way w x y = length (channel_of w (Some x) (Some y))
 
@@ -31,7 +31,7 @@ clocked event entry w u = record {
   clock = entry.clock;
 }
 
--- the events of a run so, with the clocks of their entries
+-- the events of a run in this form, with the clocks of their entries
 abbrev pub clocked_in : (setup : Setup) (w : World) (events : List Event) (entries : List JournalEntry) (v : World) → Run setup w events v → List Clocked
 clocked_in setup w [] entries v run = []
 clocked_in setup w (event ∷ events) [] v run = []
@@ -49,11 +49,12 @@ same_name x y = false
 abbrev pub stamps_sent : ActorName → ActorName → List Clocked → List ℕ
 stamps_sent x y events = flat_map (λ e. if same_name x e.maker then replicate (e.sent y) e.clock else []) events
 
--- how many items one actor took that another one sent
+-- the number of items that one actor took from another
 abbrev pub number_taken : (from by : ActorName) → List Clocked → ℕ
 number_taken x y events = sum_by (λ e. if same_name y e.maker then e.took x else 0) events
 
--- The stamp of what an event takes is the clock of the event that sent it: of the items from one actor to another the first is taken first. It is 0 where nothing is taken.
+-- The stamp of what an event takes is the clock of the event that sent it, where the items from one actor to another are taken in the order of
+-- sending. It is 0 if nothing is taken.
 abbrev pub IsStamp : (earlier : List Clocked) → Clocked → ℕ → Type 0
 IsStamp earlier e stamp =
     (((x : ActorName) → e.took x ≡ 0) × (stamp ≡ 0))
@@ -64,11 +65,12 @@ IsStamp earlier e stamp =
 abbrev pub greatest : List ℕ → ℕ
 greatest clocks = fold max 0 clocks
 
--- the clock of an actor behind events: that of its last one, or of the last beginning of a group, if that is greater
+-- the clock of an actor after some events: that of its last one, or of the last beginning of a group, if that is greater
 abbrev pub clock_behind : ActorName → List Clocked → ℕ
 clock_behind x earlier = greatest (map (λ e. e.clock) (filter (λ e. same_name x e.maker || e.begins) earlier))
 
--- A clock is one above the greater of its actor's clock and the stamp of what is taken; that of a group's beginning is one above every clock.
+-- A clock is one above the greater of its actor's previous clock and the stamp of what is taken; that of a group's beginning is one above every
+-- earlier clock.
 pub record FollowsClocks (earlier : List Clocked) (e : Clocked) : Type 0 where
   pub stamp : ℕ
   pub is_stamp : IsStamp earlier e stamp

@@ -7,8 +7,9 @@ use graft_runs::an_entry_is_of_one_event;
 use world_nodes::the_way_is_a_run;
 use world_runs::{an_act_is_a_step, worlds_are_on_the_way};
 
-/// In the merged journal of a laboratory's net each clock is one above the greater of its actor's clock and the stamp of the item that is taken, which is the clock of the
-/// event that sent it; and the clock at which a group begins is one above every clock.
+/// In the merged journal of a laboratory's net each clock is one above the greater of its actor's previous clock and
+/// the stamp of the item that is taken, which is the clock of the event that sent it. The clock at which a group begins
+/// is one above every clock.
 pub fn journals_are_clocked()
     ensures { WaysAreClocked }
 {

@@ -1,4 +1,4 @@
-//! Marks, worlds and groups.
+//! Laws: marks, worlds and groups.
 
 ghost use Rattle.std.specs.Prelude.{ℕ, ◌≡◌, List};
 ghost use Rattle.ring_net.specs.declared.entry.JournalEntry.{JournalEntry};
@@ -11,12 +11,13 @@ ghost use Rattle.run_marks.specs.Marks.{IsWorldAtMark, MarksStandForWorlds, Grou
 use graft_laws::runs_lead_to_one_world;
 use graft_runs::an_entry_is_of_one_event;
 
-/// What stands before a mark in the merged journal of a net is that of a run, to a world that the net was seen as at the mark.
+/// The entries before a mark in the merged journal of a net are those of a run, to a world as which the net was seen at
+/// the mark.
 pub fn marks_stand_for_worlds<A, C>()
     ensures { (own : A → OwnPart) (session : C → SessionValue) → MarksStandForWorlds own session }
 {}
 
-/// There is one world at a mark: whatever run what stands before it is of, it leads there.
+/// There is only one world at a mark: every run whose entries are those before the mark leads there.
 pub fn marks_stand_for_one_world()
     ensures { (setup : Setup) (journal : List JournalEntry) (mark : List ℕ) (u v : World) → IsSetup setup → IsWorldAtMark setup journal mark u
         → IsWorldAtMark setup journal mark v → v ≡ u }
@@ -25,9 +26,10 @@ pub fn marks_stand_for_one_world()
     runs_lead_to_one_world();
 }
 
-/// The group that is at work is the number of groups that the operator's entries begin. Between two marks a group is seen to begin at once and no
-/// other, or none at all, exactly where this is so of what the operator's journal got between them. In a quiet world no step of the group at work is left, and
-/// what the operator does by itself is to begin the next one.
+/// The number of the current group is the number of groups that the operator's entries begin. Between two marks one
+/// group begins, with the first entry, or none does, exactly if this holds for the entries that the operator's journal
+/// gained between them. In a quiet world no step of the current group is left, and all that the operator does by itself
+/// is to begin the next one.
 pub fn groups_are_counted<C>()
     ensures counted { GroupsAreCounted }
     ensures seen { GroupsAreSeen }

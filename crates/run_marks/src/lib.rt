@@ -1,4 +1,4 @@
-//! What the marks of a net's run tell: the world that stands behind the entries before a mark, and where groups of the script begin.
+//! What the marks of a net's run tell: the world after the entries before a mark, and where groups of the script begin.
 #![tactic(auto)]
 
 mod laws;

@@ -16,11 +16,11 @@ use std::str::SplitWhitespace;
 use tcp_end::{Arrival, End};
 use tcp_seq::{Segment, Seq, Way};
 
-/// The number of the first byte that the remote sends.
+/// The initial sequence number of the remote.
 pub const THEIRS: u32 = 5_000;
 
-/// How a session begins: the number of its first byte, whether it offers four-octet AS numbers, whether its OPEN has the capability of
-/// IPv4 unicast, and its hold time.
+/// How a session begins: its initial sequence number, whether it offers four-octet AS numbers, whether its OPEN has the
+/// capability of IPv4 unicast, and its hold time.
 #[derive(Clone, Copy, Debug)]
 pub struct Opening {
     pub first: u32,
@@ -30,7 +30,7 @@ pub struct Opening {
 }
 
 impl Opening {
-    /// The opening that a line's next words say.
+    /// Reads the opening that the next words of a line say.
     pub fn read(words: &mut SplitWhitespace<'_>) -> Result<Opening> {
         let first = number(words)?;
         let (offered, unicast) = capabilities(words)?;
@@ -43,7 +43,7 @@ impl Opening {
     }
 }
 
-/// A session of home AS 65000 with a remote of AS 65001.
+/// Returns a session of home AS 65000 with a remote of AS 65001.
 pub fn begin(alloc: Global, opening: Opening) -> Result<Session> {
     let hold = opening.hold;
     if hold > 65_535 || hold == 1 || hold == 2 {
@@ -70,7 +70,7 @@ pub fn begin(alloc: Global, opening: Opening) -> Result<Session> {
     Ok(session)
 }
 
-/// The remote's endpoint.
+/// Returns the remote's endpoint.
 pub fn remote(alloc: Global, opening: Opening) -> Result<End> {
     let end = End::new(
         alloc,
@@ -82,7 +82,7 @@ pub fn remote(alloc: Global, opening: Opening) -> Result<End> {
     Ok(end)
 }
 
-/// A segment arrives at the session.
+/// Lets a segment arrive at the session.
 pub fn arrive(session: &mut Session, segment: &Segment) -> Result<Arrival> {
     let config = session.config();
     if segment.peering != config.peering || segment.way != Way::Home {
@@ -96,7 +96,7 @@ pub fn arrive(session: &mut Session, segment: &Segment) -> Result<Arrival> {
     Ok(session.arrive(segment)?)
 }
 
-/// A segment arrives at the remote.
+/// Lets a segment arrive at the remote.
 pub fn reach(end: &mut End, segment: &Segment) -> Result<Arrival> {
     if segment.peering != end.peering() || segment.way == end.way() {
         bail!("a segment of another connection");
@@ -107,7 +107,7 @@ pub fn reach(end: &mut End, segment: &Segment) -> Result<Arrival> {
     Ok(end.arrive(segment)?)
 }
 
-/// The session puts an UPDATE of prefixes that it didn't tell yet.
+/// Puts an UPDATE on the session, of prefixes that it hasn't told yet.
 fn put(session: &mut Session, update: Update) -> Result<Result<(), OfferStop>>
     requires one_way { IsOneWay update (is_wide (peering_of session.old.session.config) session.old.session.story) }
     requires announces { update.withdrawn ≡ [] }
@@ -121,13 +121,13 @@ fn put(session: &mut Session, update: Update) -> Result<Result<(), OfferStop>>
     Ok(session.offer(update))
 }
 
-/// The session puts the UPDATE that octets spell.
+/// Puts on the session the UPDATE that octets spell.
 pub fn offer(alloc: Global, session: &mut Session, octets: &[u8]) -> Result<Result<(), OfferStop>> {
     let update = announcement_of(alloc, octets, session.wide())?;
     put(session, update)
 }
 
-/// A round passes.
+/// Lets a round pass.
 pub fn tick(session: &mut Session, round: u32) -> Result<TickStep> {
     if !session.may_pass(round) {
         bail!("a round that may pass");
@@ -135,7 +135,7 @@ pub fn tick(session: &mut Session, round: u32) -> Result<TickStep> {
     Ok(session.tick(round)?)
 }
 
-/// The session after it moved, where it is established.
+/// Returns the session after a move, if it is established, or else unmoved.
 pub fn moved(session: Session) -> Session {
     if session.state() != SessionState::Established {
         return session;

@@ -12,15 +12,15 @@ use std::str::SplitWhitespace;
 use tcp_end::End;
 use tcp_seq::Segment;
 
-/// How many steps an exchange has, and after how many the session moves.
+/// The number of steps of an exchange, and the number after which the session moves.
 const STEPS: u32 = 2_000;
 
 const MOVE: u32 = 10;
 
-/// How many UPDATEs each side has.
+/// The number of UPDATEs of each side.
 const UPDATES: u32 = 60;
 
-/// What the sides say: octets of their messages, of which an UPDATE is ended by the number that makes its prefix.
+/// What the sides say: octets of their messages. An UPDATE ends with the number that makes its prefix.
 #[derive(Debug, Drop)]
 pub struct Plan {
     opening: Opening,
@@ -48,8 +48,8 @@ fn plan_of(alloc: Global, words: &mut SplitWhitespace<'_>) -> Result<Plan> {
     })
 }
 
-/// What stands beside a session: the remote, the links, what the session is to have put, how many messages both said, and the rounds
-/// that passed.
+/// What surrounds a session: the remote, the links, what the session should have put, how many messages both said, and
+/// the rounds that passed.
 #[derive(Drop)]
 struct Rest {
     far: End,
@@ -77,7 +77,7 @@ fn rest_of(alloc: Global, plan: &Plan, seed: u32) -> Result<Rest> {
     })
 }
 
-/// A message that ends in a number.
+/// Returns a message that ends in a number.
 fn numbered(alloc: Global, octets: &[u8], number: u32) -> Result<Vec<u8>> {
     let mut bytes = Vec::new(alloc);
     bytes.extend_from_slice(octets)?;
@@ -112,7 +112,7 @@ fn tell(alloc: Global, session: &mut Session, rest: &mut Rest, plan: &Plan) -> R
     Ok(())
 }
 
-/// A segment of the session, of one kind of three.
+/// Emits a segment of the session, of one of three kinds.
 fn home_segment(session: &mut Session, kind: u32) -> Result<Option<Segment>, NoMemory> {
     match kind {
         0 => session.turn(),
@@ -121,7 +121,7 @@ fn home_segment(session: &mut Session, kind: u32) -> Result<Option<Segment>, NoM
     }
 }
 
-/// The same of the remote.
+/// Emits a segment of the remote, of one of three kinds.
 fn far_segment(far: &mut End, kind: u32) -> Result<Option<Segment>, NoMemory> {
     match kind {
         0 => far.turn(),
@@ -139,7 +139,7 @@ fn emit(session: &mut Session, rest: &mut Rest) -> Result<()> {
     Ok(())
 }
 
-/// A segment arrives at each side.
+/// Lets a segment arrive at each side.
 fn deliver(session: &mut Session, rest: &mut Rest) -> Result<()> {
     if let Some(segment) = rest.homeward.next(&mut rest.random) {
         arrive(session, &segment)?;
@@ -150,7 +150,7 @@ fn deliver(session: &mut Session, rest: &mut Rest) -> Result<()> {
     Ok(())
 }
 
-/// The session reads, and answers as it is to.
+/// Lets the session read, and appends the answer that it should put to `put`.
 fn take(session: &mut Session, put: &mut Vec<u8>, plan: &Plan) -> Result<()> {
     match session.read()? {
         Some(ReadStep::Opened) => put.extend_from_slice(&plan.keepalive)?,
@@ -160,7 +160,7 @@ fn take(session: &mut Session, put: &mut Vec<u8>, plan: &Plan) -> Result<()> {
     Ok(())
 }
 
-/// A round passes where a hold time runs.
+/// Lets a round pass if a hold time runs.
 fn pass(session: &mut Session, rest: &mut Rest, plan: &Plan) -> Result<()> {
     if !session.may_pass(rest.round.saturating_add(1)) {
         return Ok(());
@@ -174,7 +174,7 @@ fn pass(session: &mut Session, rest: &mut Rest, plan: &Plan) -> Result<()> {
     Ok(())
 }
 
-/// A step: messages are said and told, each side sends, a segment arrives at each, and the session reads.
+/// Makes a step: messages are said and told, each side sends, a segment arrives at each, and the session reads.
 fn step(alloc: Global, session: &mut Session, rest: &mut Rest, plan: &Plan) -> Result<()> {
     match rest.random.below(16) {
         0 => say(alloc, rest, plan)?,
@@ -187,7 +187,7 @@ fn step(alloc: Global, session: &mut Session, rest: &mut Rest, plan: &Plan) -> R
     take(session, &mut rest.put, plan)
 }
 
-/// Whether the session put what it is to have put, and all of it, or its first part, was received.
+/// Returns whether the session put what it should have put, and all of it, or its first part, was received.
 fn is_right(session: &Session, rest: &Rest, whole: bool) -> bool {
     let received = rest.far.ready();
     let put = rest.put.as_slice();
@@ -196,7 +196,7 @@ fn is_right(session: &Session, rest: &Rest, whole: bool) -> bool {
         && (!whole || received.len() == put.len() && session.all_acked())
 }
 
-/// An exchange of one seed: whether all is right at each move and at its end.
+/// Runs the exchange of one seed. Returns whether all is right at each move and at the end.
 fn exchange(alloc: Global, plan: &Plan, seed: u32) -> Result<bool> {
     let mut session = begin(alloc, plan.opening)?;
     let mut rest = rest_of(alloc, plan, seed)?;
@@ -212,7 +212,7 @@ fn exchange(alloc: Global, plan: &Plan, seed: u32) -> Result<bool> {
     Ok(is_right(&session, &rest, true))
 }
 
-/// The exchanges of seeds from one to another: how many are right.
+/// Runs the exchanges of a range of seeds, and reports how many are right.
 pub fn exchanges(alloc: Global, words: &mut SplitWhitespace<'_>) -> Result<String> {
     let (first, end) = (number(words)?, number(words)?);
     let plan = plan_of(alloc, words)?;

@@ -1,16 +1,16 @@
-//! A link that loses, repeats and reorders what is put on it.
+//! A link that loses, repeats and reorders the segments put on it.
 
 use graft_edge::{NoMemory, TryCopy};
 use std::alloc::Global;
 use tcp_seq::Segment;
 
-/// How many segments a link has room for.
+/// The number of segments for which a link has room.
 const ROOM: usize = 40;
 
-/// How many of the first ones may come next.
+/// The number of first segments among which the next one is chosen.
 const REACH: usize = 8;
 
-/// Numbers that look random: a linear congruence modulo 2^64.
+/// A linear congruential generator modulo 2^64.
 #[derive(Debug, Drop)]
 pub struct Random(u64);
 
@@ -19,7 +19,7 @@ impl Random {
         Random(u64::from(seed))
     }
 
-    /// A number below `n`.
+    /// Returns a number below `n`.
     pub fn below(&mut self, n: u32) -> u32 {
         self.0 = self
             .0
@@ -57,7 +57,7 @@ impl Link {
         Ok(())
     }
 
-    /// One of the first segments, which leaves the link.
+    /// Removes and returns one of the first segments.
     pub fn next(&mut self, random: &mut Random) -> Option<Segment> {
         let first = self.segments.len().min(REACH);
         let place = random.below(first as u32) as usize;

@@ -1,5 +1,5 @@
-//! Sessions worked by hand. Reads lines from standard input, of which each says what is done with a session and what is answered
-//! then, and prints each that is answered otherwise, and how many there are.
+//! Sessions worked out by hand. Reads lines from standard input, each of which says what is done with a session and the
+//! expected answer, prints each line whose answer differs, and then how many lines there are.
 #![tactic(auto)]
 
 mod calls;
@@ -16,7 +16,7 @@ use std::alloc::Global;
 use std::io;
 use std::str::SplitWhitespace;
 
-/// Does what a line says with the session that there is. The session after it, and what is answered.
+/// Does what a line says with the current session. Returns the session after it, and the answer.
 fn act(
     alloc: Global,
     side: Option<Side>,

@@ -8,7 +8,7 @@ use std::alloc::Global;
 use std::str::SplitWhitespace;
 use tcp_end::End;
 
-/// The two ends of a connection, without a link between them: what one emits arrives at the other where a line says so.
+/// The two ends of a connection, without a link between them: what one emits arrives at the other if a line says so.
 #[derive(Drop)]
 pub struct Side {
     session: Session,
@@ -24,7 +24,7 @@ impl Side {
         })
     }
 
-    /// What all looks say.
+    /// Returns the text of all looks.
     pub fn looks(&self, alloc: Global) -> Result<String> {
         let session = &self.session;
         let (state, hold, put) = (session.state(), session.hold(), session.put_len());
@@ -40,7 +40,7 @@ impl Side {
         )?)
     }
 
-    /// The remote says something, which arrives.
+    /// Lets the remote say bytes, which arrive.
     fn say(&mut self, alloc: Global, bytes: &[u8]) -> Result<String> {
         self.far.send(bytes)?;
         let segment = self.far.next_segment()?.context("what is said")?;
@@ -48,7 +48,7 @@ impl Side {
         Ok(format!(in alloc; "{arrival:?}")?)
     }
 
-    /// The session emits something, which arrives at the remote.
+    /// Lets the session emit its next segment, which arrives at the remote.
     fn emit(&mut self, alloc: Global) -> Result<String> {
         let segment = self.session.next_segment()?;
         if let Some(segment) = &segment {
@@ -57,7 +57,7 @@ impl Side {
         segment_text(alloc, &segment)
     }
 
-    /// The remote answers, which arrives.
+    /// Lets the remote acknowledge, which arrives.
     fn acknowledge(&mut self, alloc: Global) -> Result<String> {
         let answer = self.far.answer().context("an answer that is owed")?;
         let arrival = arrive(&mut self.session, &answer)?;
@@ -72,7 +72,7 @@ impl Side {
         }
     }
 
-    /// The rounds from one to another pass.
+    /// Lets the rounds from `first` to `last` pass.
     fn tick(&mut self, alloc: Global, first: u32, last: u32) -> Result<String> {
         let mut text = String::new(alloc);
         for round in first..=last {
@@ -82,7 +82,7 @@ impl Side {
         Ok(format!(in alloc; "{}", text.as_str().trim_start())?)
     }
 
-    /// The session moves. What is answered is the peering of its capsule, and how many lines its story has.
+    /// Moves the session. The answer is the peering of its capsule, and how many lines its story has.
     pub fn moved(self, alloc: Global) -> Result<(Side, String)> {
         let Side { session, far } = self;
         let session = moved(session);

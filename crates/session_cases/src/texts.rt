@@ -11,7 +11,7 @@ pub fn number(words: &mut SplitWhitespace<'_>) -> Result<u32> {
     Ok(words.next().context("a number")?.parse::<u32>()?)
 }
 
-/// Octets in hexadecimal; `-` for none.
+/// Reads octets in hexadecimal; `-` for none.
 pub fn octets(alloc: Global, words: &mut SplitWhitespace<'_>) -> Result<Vec<u8>> {
     match words.next().context("octets")? {
         "-" => Ok(Vec::new(alloc)),
@@ -19,7 +19,8 @@ pub fn octets(alloc: Global, words: &mut SplitWhitespace<'_>) -> Result<Vec<u8>>
     }
 }
 
-/// The capabilities of the OPEN: whether it has that of four-octet AS numbers, and whether that of IPv4 unicast.
+/// Reads the capabilities of the OPEN: whether it has that for four-octet AS numbers, and whether that for IPv4
+/// unicast.
 pub fn capabilities(words: &mut SplitWhitespace<'_>) -> Result<(bool, bool)> {
     match words.next().context("capabilities")? {
         "narrow" => Ok((false, false)),
@@ -56,7 +57,7 @@ pub fn tick_text(alloc: Global, step: &TickStep) -> Result<String> {
     }
 }
 
-/// The number and the acknowledgement of a segment, and its octets in hexadecimal.
+/// Returns the sequence number and the acknowledgement of a segment, and its octets in hexadecimal.
 pub fn segment_text(alloc: Global, segment: &Option<Segment>) -> Result<String> {
     match segment {
         None => listed(alloc, "none", &[]),

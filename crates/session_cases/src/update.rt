@@ -16,12 +16,12 @@ use bgp_types::{Expected, Message, NoMemory, Prefix, SessionState, Update, messa
 use bgp_wire::{CodecFault, read_message, read_message_is_writable};
 use std::alloc::Global;
 
-/// How many octets an OPEN is written in at most, and another message.
+/// The limits of the written form in octets: of an OPEN, and of any other message.
 const LONGEST_OPEN: usize = 284;
 
 const LONGEST: usize = 4_096;
 
-/// Whether the written form of a message fits.
+/// Returns whether the written form of a message fits.
 fn fits(message: &Message, wide: bool) -> bool
     ensures { IsTrue result ↔ (length (spell message.now wide) ≤ written_limit message.now) }
 {
@@ -32,7 +32,7 @@ fn fits(message: &Message, wide: bool) -> bool
     message_len(message, wide) <= limit
 }
 
-/// The message that a frame spells.
+/// Returns the message that a frame spells.
 fn message_in(alloc: Global, frame: &[u8], expected: &Expected) -> Result<Message>
     requires { frame_at frame.now ≡ Some (frame.now, []) }
     ensures { IfOk result (λ message. IsWritable message expected.now.wide) }
@@ -49,7 +49,7 @@ fn message_in(alloc: Global, frame: &[u8], expected: &Expected) -> Result<Messag
     Ok(message)
 }
 
-/// The UPDATE that octets spell in a width. It announces, and withdraws nothing.
+/// Returns the UPDATE that octets spell in a width. It announces, and withdraws nothing.
 pub fn announcement_of(alloc: Global, octets: &[u8], wide: bool) -> Result<Update>
     ensures one_way { IfOk result (λ update. IsOneWay update wide) }
     ensures announces { IfOk result (λ update. update.withdrawn ≡ []) }
@@ -74,7 +74,7 @@ pub fn announcement_of(alloc: Global, octets: &[u8], wide: bool) -> Result<Updat
     }
 }
 
-/// Whether no prefix has a route.
+/// Returns whether no prefix has a route.
 pub fn is_new(told: &AdjRib, prefixes: &[Prefix]) -> bool
     ensures { OnTrue result (All (λ prefix. map.get told.now prefix ≡ None) prefixes.now) }
 {

@@ -4,7 +4,7 @@ use Rattle.slab.specs.Slab.{Slab, get, slab_len, ContainsKey}
 use Rattle.session_places.specs.Places.{PlaceList}
 
 module _ {V : Type 0} where
-  -- the value under a key, where there is a key
+  -- the value under a key, if there is a key
   abbrev pub value_under : Slab V → Option ℕ → Option V
   value_under slab None = None
   value_under slab (Some key) = get slab key
@@ -21,7 +21,7 @@ module _ {V : Type 0} where
 abbrev pub HasKey : List (Option ℕ) → ℕ → ℕ → Type 0
 HasKey keys n key = slice_index_or keys n None ≡ Some key
 
--- each key has a value, no key stands at two places, and there is memory for `room` values
+-- each key has a value, no key is at two places, and there is memory for `room` values
 pub record IsSound {V : Type 0} (slab : Slab V) (keys : List (Option ℕ)) (room : ℕ) : Type 0 where
   pub named : (n key : ℕ) → HasKey keys n key → ContainsKey slab key
   pub apart : (n m key : ℕ) → HasKey keys n key → HasKey keys m key → n ≡ m

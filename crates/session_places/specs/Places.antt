@@ -2,7 +2,7 @@
 use Rattle.std.specs.Prelude.{ℕ, List, Option, None, filter_map, slice_index_or, slice_set, refl}
 use Rattle.std.specs.Coded.{Coded, code_by, coded×, coded_ℕ, coded_list, coded_option}
 
--- the value or nothing at each place, and how many places may be taken at once
+-- the value at each place, or none, and how many places may be taken at once
 pub record PlaceList (V : Type 0) : Type 0 where
   pub places : List (Option V)
   pub room : ℕ
@@ -18,14 +18,14 @@ place_list_code {V} code =
     (λ _. refl)
 
 module _ {V : Type 0} where
-  -- the value at a place: none behind the last
+  -- the value at a place: none past the last place
   abbrev pub value_at : PlaceList V → ℕ → Option V
   value_at p n = slice_index_or p.places n None
 
-  -- the same with this at a place
+  -- the same with this value at a place
   abbrev pub with_place : PlaceList V → ℕ → Option V → PlaceList V
   with_place p n value = record p { places = slice_set p.places n value }
 
-  -- the values that are there, in the order of their places
+  -- the values present, in the order of their places
   abbrev pub values_in : PlaceList V → List V
   values_in p = filter_map (λ value. value) p.places

@@ -1,4 +1,4 @@
-//! Numbered places for values, of which only so many may be taken at once.
+//! Numbered places for values. Only a limited number of them may be taken at once.
 #![tactic(auto)]
 
 ghost use Rattle.std.specs.Prelude.{◌≡◌, ◌≤◌, ◌<◌, None, Some, IfOk, count_by, is_some, length, option_copied, replicate, slice_index_or};
@@ -11,8 +11,8 @@ use slab::Slab;
 use std::alloc::Global;
 use std::marker::Model;
 
-/// Numbered places, each vacant or taken by a value. At most `room` of them are taken at once, and the memory
-/// for `room` values is reserved when the places are made.
+/// Numbered places, each vacant or taken by a value. At most `room` of them are taken at once, and the
+/// memory for `room` values is reserved when the places are created.
 #[derive(Drop)]
 pub struct Places<V> {
     /// The key of the value at each place.
@@ -35,7 +35,7 @@ impl<V> Model for Places<V> {
     ghost invariant = { λ p. IsSound p.values p.keys.items p.room };
 }
 
-/// The key at a place, where there is one.
+/// Returns the key at a place, if there is one.
 fn key_at(keys: &[Option<usize>], n: usize) -> Option<usize>
     ensures { result ≡ slice_index_or keys.now n None }
 {
@@ -45,7 +45,7 @@ fn key_at(keys: &[Option<usize>], n: usize) -> Option<usize>
 impl<V> Places<V> {
     ghost use Rattle.session_places.specs.Lends.{lends_place};
 
-    /// `count` vacant places. This is the only call that takes memory for them.
+    /// Returns `count` vacant places. This is the only call that allocates memory for them.
     pub fn new(alloc: Global, count: usize, room: usize) -> Result<Places<V>, NoMemory>
         ensures places { IfOk result (λ made. made.places ≡ replicate count None) }
         ensures room { IfOk result (λ made. made.room ≡ room) }
@@ -57,21 +57,21 @@ impl<V> Places<V> {
         })
     }
 
-    /// The number of places.
+    /// Returns the number of places.
     pub fn len(&self) -> usize
         ensures { result ≡ length self.now.places }
     {
         self.keys.len()
     }
 
-    /// How many places may be taken at once.
+    /// Returns how many places may be taken at once.
     pub fn room(&self) -> usize
         ensures { result ≡ self.now.room }
     {
         self.room
     }
 
-    /// How many places are taken.
+    /// Returns how many places are taken.
     pub fn taken(&self) -> usize
         ensures count { result ≡ count_by is_some self.now.places }
         ensures within_room { result ≤ self.now.room }
@@ -79,7 +79,7 @@ impl<V> Places<V> {
         self.values.len()
     }
 
-    /// The value at a place. There is none beyond the last place.
+    /// Returns the value at a place, or `None` if the place is vacant or doesn't exist.
     pub fn get(&self, n: usize) -> Option<&V>
         ensures { option_copied result ≡ value_at self.now n }
     {
@@ -87,7 +87,7 @@ impl<V> Places<V> {
         self.values.get(key)
     }
 
-    /// The value at a place, for writing. What is written stays at that place.
+    /// Returns the value at a place, for writing. What is written stays at that place.
     pub fn get_mut(&mut self, n: usize) -> Option<&mut V>
         ensures* writes_back { sem 𝓛 (lends_place V.row self.entry n result) }
         ensures value { option_copied_mut result ≡ value_at self.old n }
@@ -96,7 +96,7 @@ impl<V> Places<V> {
         self.values.get_mut(key)
     }
 
-    /// Takes the value out of a place, which is vacant then.
+    /// Removes and returns the value at a place, which is vacant then.
     pub fn remove(&mut self, n: usize) -> Option<V>
         ensures value { result ≡ value_at self.old n }
         ensures vacant { self.new ≡ with_place self.old n None }
@@ -105,7 +105,8 @@ impl<V> Places<V> {
         self.values.try_remove(key)
     }
 
-    /// Puts a value into a vacant place, with the memory that was reserved.
+    /// Puts a value into a vacant place, using the reserved memory. Fewer than `room` places may be
+    /// taken.
     pub fn put(&mut self, n: usize, value: V)
         requires there { n < length self.old.places }
         requires vacant { value_at self.old n ≡ None }
@@ -117,7 +118,7 @@ impl<V> Places<V> {
 }
 
 impl<V: Drop> Places<V> {
-    /// The values that are there, in the order of their places.
+    /// Returns the values in the order of their places. If memory runs out, the places are lost.
     pub fn into_values(mut self, alloc: Global) -> Result<Items<V>, NoMemory>
         ensures { IfOk result (λ values. values ≡ values_in self) }
     {
@@ -131,10 +132,10 @@ impl<V: Drop> Places<V> {
     }
 }
 
-/// Asks of a type that its values may go to another thread.
+/// Requires of a type that its values may be sent to another thread.
 fn goes_to_threads<T: Send>() {}
 
-/// Places may go to another thread where their values may.
+/// Places may be sent to another thread if their values may.
 pub fn places_go_to_threads<V: Send>() {
     goes_to_threads::<Places<V>>()
 }

@@ -1,4 +1,4 @@
--- The cases in which a session changes. In each what isn't named stays.
+-- The cases in which a session changes. What a case doesn't name stays as it is.
 use Rattle.std.specs.Prelude.{◌≡◌, ◌≢◌, ℕ, ◌+◌, ◌≤◌, ◌<◌, List, [], ◌∷◌, ◌++◌, length, All, Option, Some, None, true}
 use Rattle.std.specs.List.{flat_map}
 use Rattle.std.specs.FinMap as map
@@ -17,19 +17,19 @@ use Rattle.bgp_story.specs.Legal.{IsGot, IsOneWay, IsEarlier, expected_next, is_
 use Rattle.bgp_story.specs.Readings.{Routes, apply, apply_if, put_in, unless_closed, update_in}
 use Rattle.session_value.specs.Sessions.{SessionValue, peering_of, state, unread, hold_time}
 
--- the endpoint with bytes at the end of its stream, and with bytes that were read
+-- the endpoint with further bytes at the end of its stream, and with bytes that were read
 abbrev pub sending : List ℕ → Endpoint → Endpoint
 sending bytes e = record e { stream = e.stream ++ bytes }
 
 abbrev pub reading : ℕ → Endpoint → Endpoint
 reading n e = record e { read = e.read + n }
 
--- the bytes of the messages that lines put, in the width of a story that has them at its end
+-- the bytes of the messages that lines put, in the width of AS numbers of a story that ends with them
 abbrev pub put_by : SessionValue → List Line → List Line → List ℕ
 put_by session story lines = flat_map (put_in (is_wide (peering_of session.config) story)) lines
 
--- The whole message with a sound header, or the faulty header, at the front of what is unread is got and answered (RFC 4271, sections
--- 6 and 8.2.2). An UPDATE changes the routes that were heard; a session that is closed has none (section 3.1).
+-- The whole message with a sound header, or the faulty header, at the front of what is unread is got and answered (RFC 4271, sections 6 and 8.2.2).
+-- An UPDATE changes the routes that were heard; a closed session has none (section 3.1).
 pub record GetsFrame (before : SessionValue) (bytes : List ℕ) (after : SessionValue) : Type 0 where
   pub unclosed : state before ≢ Closed
   pub rest : List ℕ
@@ -45,17 +45,17 @@ pub record GetsFrame (before : SessionValue) (bytes : List ℕ) (after : Session
     end = sending (put_by before (before.story ++ Got bytes ∷ answer) answer) (reading (length bytes) before.end);
   }
 
--- the UPDATE that tells this of prefixes: that they have these attributes, or none
+-- the UPDATE that says that prefixes have these attributes, or that they have none
 abbrev pub update_for : Option Attrs → List PrefixValue → Update
 update_for None prefixes = record { withdrawn = prefixes; attrs = None; nlri = [] }
 update_for (Some attrs) prefixes = record { withdrawn = []; attrs = Some attrs; nlri = prefixes }
 
--- each prefix of the UPDATE has another value in the table after it
+-- each prefix of the UPDATE has another value in the table after it than before
 abbrev pub Changes : Routes → Update → Type 0
 Changes table update = All (λ prefix. map.get (apply table update) prefix ≢ map.get table prefix) (update.withdrawn ++ update.nlri)
 
--- In Established an UPDATE is put that either withdraws or announces and changes what was told for each of its prefixes. What is put
--- stays at 1,044,480 bytes at most, so that a NOTIFICATION has room in the stream of 1 MiB behind it.
+-- In Established an UPDATE is put that either withdraws or announces and changes what was told for each of its prefixes. At most 1,044,480 bytes are
+-- put, so that a NOTIFICATION fits behind them in the stream of 1 MiB.
 pub record PutsUpdate (before : SessionValue) (update : Update) (after : SessionValue) : Type 0 where
   pub established : state before ≡ Established
   pub one_way : IsOneWay update (is_wide (peering_of before.config) before.story)
@@ -67,8 +67,8 @@ pub record PutsUpdate (before : SessionValue) (update : Update) (after : Session
     end = sending (spell (UpdateMsg update) (is_wide (peering_of before.config) before.story)) before.end;
   }
 
--- A round passes in OpenConfirm or Established while a hold time runs, and is answered: by a KEEPALIVE, by the end of the session, or not at
--- all (RFC 4271, sections 4.4, 6.5 and 10). A KEEPALIVE has 19 bytes, and a NOTIFICATION still has room behind it.
+-- A round passes in OpenConfirm or Established while the hold timer runs, and is answered: by a KEEPALIVE, by the end of the session, or not at all
+-- (RFC 4271, sections 4.4, 6.5 and 10). A KEEPALIVE has 19 octets, and a NOTIFICATION still fits behind it.
 pub record PassesRound (before : SessionValue) (round : ℕ) (after : SessionValue) : Type 0 where
   pub up : is_up (state before) ≡ true
   pub runs : 0 < hold_time before

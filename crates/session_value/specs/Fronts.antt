@@ -1,12 +1,12 @@
--- What stands at the front of bytes.
+-- What bytes begin with.
 use Rattle.std.specs.Prelude.{ℕ, ◌≡◌, List, ◌++◌}
 use Rattle.bgp_story.specs.Legal.{IsGot}
 
--- Some bytes are the first of others.
+-- Other bytes begin with these bytes.
 pub record AreFirst (first bytes : List ℕ) : Type 0 where
   pub rest : List ℕ
   pub is : bytes ≡ first ++ rest
 
--- no whole message and no faulty header stands at the front of bytes
+-- bytes begin with no whole message and no faulty header
 abbrev pub BeginsNothing : List ℕ → Type 0
 BeginsNothing bytes = (front rest : List ℕ) → bytes ≡ front ++ rest → IsGot front → ⊥

@@ -1,4 +1,4 @@
--- Functions of numbers that have another value at one place.
+-- Functions of numbers that are changed at one place.
 use Rattle.std.specs.Prelude.{ℕ, ◌==◌, if◌then◌else◌}
 
 abbrev pub at : {A : Type 0} → (ℕ → A) → ℕ → A → ℕ → A

@@ -14,8 +14,8 @@ use Rattle.bgp_story.specs.Readings.{Routes, put_bytes}
 use Rattle.bgp_story.specs.States.{state_of}
 use Rattle.session_value.specs.declared.config.SessionConfig.{SessionConfig}
 
--- what a session begins with; its story; the routes that it heard and told, its Adj-RIB-In and Adj-RIB-Out; and its endpoint, whose
--- stream is what it put, and of whose received bytes it has read those that it got
+-- what a session begins with; its story; the routes that it heard and told, its Adj-RIB-In and Adj-RIB-Out; and its endpoint, whose stream is what it
+-- put, and which has read as much of the received bytes as it got
 pub record SessionValue : Type 0 where
   pub config : SessionConfig
   pub story : List Line
@@ -30,22 +30,22 @@ peering_of config = record { first = home_open config.home_as config.home_hold c
 abbrev pub state : SessionValue → SessionState
 state session = state_of session.story
 
--- what is told on a session in this state: nothing unless it is established
+-- what is told on a session in this state: nothing unless the session is established
 abbrev pub while_established : SessionState → Option Attrs → Option Attrs
 while_established OpenSent attrs = None
 while_established OpenConfirm attrs = None
 while_established Established attrs = attrs
 while_established Closed attrs = None
 
--- the bytes that were received and not got yet
+-- the bytes that were received and aren't got yet
 abbrev pub unread : SessionValue → List ℕ
 unread session = ready_bytes session.end
 
--- the hold time in force: the smaller of the two that the OPENs offer, 0 before the remote's was got (RFC 4271, section 4.2)
+-- the hold time in force: the smaller one of the two OPENs, 0 before the remote's was got (RFC 4271, section 4.2)
 abbrev pub hold_time : SessionValue → ℕ
 hold_time session = hold (peering_of session.config) session.story
 
--- The session has put its OPEN, and nothing of it was emitted.
+-- The session has put its OPEN, and none of it was emitted.
 abbrev pub begun : SessionConfig → SessionValue
 begun config = let story : List Line = Put (OpenMsg (peering_of config).first) ∷ [] in record {
   config = config;

@@ -1,4 +1,4 @@
-//! What holds of every session that its cases lead to.
+//! What holds of every session that the cases of this crate lead to.
 
 ghost use Rattle.std.specs.Prelude.{ℕ, ◌≡◌, ◌≢◌, ◌≤◌, ◌<◌, ◌+◌, ◌++◌, ◌⊎◌, ◌∷◌, [], List, Bool, true, length, Some};
 ghost use Rattle.bgp_types.specs.declared.fault.Expected.{Expected};
@@ -22,8 +22,9 @@ ghost use Rattle.session_value.specs.Fronts.{AreFirst};
 ghost use Rattle.session_value.specs.Sessions.{SessionValue, peering_of, state, unread, hold_time, begun};
 ghost use Rattle.session_value.specs.Ties.{IsTied, IsOfStory, most_put};
 
-/// The messages that a session puts of itself are short: a KEEPALIVE has 19 bytes, its OPEN at most 45, the NOTIFICATION that the hold
-/// time expired 21, and one for a fault at most 4,096 (RFC 4271, section 4).
+/// The messages that a session puts by itself are short: a KEEPALIVE has 19 octets, its OPEN at most
+/// 45, the NOTIFICATION that the hold timer expired 21, and one for a fault at most 4,096 (RFC 4271,
+/// section 4).
 pub fn own_messages_are_short()
     ensures keepalive { (wide : Bool) → length (spell KeepaliveMsg wide) ≡ 19 }
     ensures open { (first : open_type.OpenMsg) (wide : Bool) → IsHomeOpen first → length (spell (OpenMsg first) wide) ≤ 45 }
@@ -31,7 +32,7 @@ pub fn own_messages_are_short()
     ensures fault { (bytes : List ℕ) (expected : Expected) (notice : Notice) (wide : Bool) → first_fault bytes expected ≡ Some notice → length (spell (NoticeMsg notice) wide) ≤ 4096 }
 {}
 
-/// The answer to what is got, and to a round, has room in the stream.
+/// The answer to what is got, and to a round, fits in the stream.
 pub fn answers_have_room()
     ensures got { (session : SessionValue) (bytes : List ℕ) (answer : List Line) (next : SessionState)
         → IsTied session → state session ≢ Closed
@@ -43,7 +44,7 @@ pub fn answers_have_room()
         → length session.end.stream + length (put_by session (session.story ++ Tick round ∷ answer) answer) ≤ most_put next }
 {}
 
-/// A session that has just begun is what its story tells.
+/// A session that has just begun is what its story says.
 pub fn a_begun_session_is_of_its_story()
     ensures { (config : SessionConfig) → IsPeering (peering_of config) → IsOfStory (begun config) }
 {}
@@ -59,7 +60,7 @@ pub fn sessions_stay_tied()
         → IsTied session → TakesSegment session.end segment end → IsTied (record session { end = end }) }
 {}
 
-/// Whatever happens to a session, its story stays legal, and its tables those of the story.
+/// Whatever happens to a session, its story stays legal, and its tables stay those of the story.
 pub fn sessions_stay_of_their_story()
     ensures gets { (before after : SessionValue) (bytes : List ℕ) → IsOfStory before → GetsFrame before bytes after → IsOfStory after }
     ensures puts { (before after : SessionValue) (update : Update) → IsOfStory before → PutsUpdate before update after → IsOfStory after }
@@ -70,7 +71,8 @@ pub fn sessions_stay_of_their_story()
         → IsOfStory session → TakesSegment session.end segment end → IsOfStory (record session { end = end }) }
 {}
 
-/// What a session received is what its story got, and then what is unread. Once it is of its story it puts and gets nothing but what that says.
+/// What a session received is what its story got, followed by what is unread. What was read of it has
+/// the length of what the story got, and its stream is at most 1 MiB long.
 pub fn ties_say_what_was_received()
     ensures received { (session : SessionValue) → IsTied session → received_bytes session.end ≡ got_bytes session.story ++ unread session }
     ensures got { (session : SessionValue) → IsTied session → AreFirst (got_bytes session.story) (received_bytes session.end) }

@@ -1,6 +1,6 @@
-//! A home BGP session as one value: its configuration, its story, its two Adj-RIBs and its endpoint, and the cases in which it
-//! changes (RFC 4271, sections 3.2, 6 and 8.2.2; RFC 9293, section 3.4). The running session and the model of the world both
-//! speak in these words.
+//! A home BGP session as one value: its configuration, its story, its two Adj-RIBs and its endpoint,
+//! and the cases in which it changes (RFC 4271, sections 3.2, 6 and 8.2.2; RFC 9293, section 3.4). The
+//! running session and the model of the world are both described by it.
 #![tactic(auto)]
 
 mod config;

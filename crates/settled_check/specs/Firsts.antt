@@ -4,16 +4,16 @@ use Rattle.std.specs.declared.cmp.Ordering.TheVariants.{Greater}
 use Rattle.graft_steps.specs.declared.rest.Pending.{Pending}
 use Rattle.graft_steps.specs.Pendings.{pending_cmp}
 
--- Of the pending things that are so, the first by kind and numbers. There is none exactly where nothing is so.
+-- The first, by kind and numbers, of the pending things for which the property holds; none exactly if it holds for nothing.
 abbrev pub IsFirstOf : (Pending → Type 0) → Option Pending → Type 0
 IsFirstOf Is None = (x : Pending) → ¬ Is x
 IsFirstOf Is (Some first) = Is first × ((x : Pending) → Is x → pending_cmp first x ≢ Greater)
 
--- of the numbers that are so, the lowest, if there is one
+-- the lowest of the numbers for which the property holds, if there is one
 abbrev pub IsLowestOf : (ℕ → Type 0) → Option ℕ → Type 0
 IsLowestOf Is None = (n : ℕ) → ¬ Is n
 IsLowestOf Is (Some lowest) = Is lowest × ((n : ℕ) → Is n → lowest ≤ n)
 
--- the thing is one of two answers
+-- the thing is one of the two answers
 abbrev pub IsEither : Option Pending → Option Pending → Pending → Type 0
 IsEither one other x = (one ≡ Some x) ⊎ (other ≡ Some x)

@@ -1,4 +1,4 @@
--- What is left to do for an actor, of each part of the world.
+-- What is left to do for an actor, for each kind of part of the world.
 use Rattle.std.specs.Prelude.{ℕ, ◌≡◌, ◌≢◌, ◌⊎◌, ◌++◌, List, [], length, Option, Some, None, true, false, slice_get}
 use Rattle.bgp_types.specs.Prefixes.{PrefixValue}
 use Rattle.bgp_types.specs.declared.message.SessionState.TheVariants.{Closed}
@@ -18,7 +18,7 @@ use Rattle.graft_model.specs.Placements.{target_in}
 abbrev pub HasSome : Prefixes → Type 0
 HasSome prefixes = (prefix : PrefixValue) × (has prefixes prefix ≡ true)
 
--- the graft that is at a place: for which something is to be done with the session there, or for which that is frozen, or in which it left
+-- the graft at a place: the one of the live session's errand, the one for which the session is frozen, or the one in which it left
 abbrev pub graft_at : Place → Option ℕ
 graft_at Vacant = None
 graft_at (Live session None) = None
@@ -26,11 +26,11 @@ graft_at (Live session (Some errand)) = Some (graft_of errand)
 graft_at (Frozen session order) = Some order.graft
 graft_at (Shadow graft) = Some graft
 
--- bytes that an endpoint is to send aren't all acknowledged
+-- not all bytes of an endpoint's stream are acknowledged
 abbrev pub IsUnacked : Endpoint → Type 0
 IsUnacked end = end.acked ≢ length end.stream
 
--- A session isn't closed, and a whole message or a faulty header stands at the front of its unread bytes.
+-- A session isn't closed, and its unread bytes begin with a whole message or a faulty header.
 pub record HasUnread (session : SessionValue) : Type 0 where
   pub unclosed : state session ≢ Closed
   pub front : List ℕ
@@ -38,7 +38,7 @@ pub record HasUnread (session : SessionValue) : Type 0 where
   pub is : unread session ≡ front ++ rest
   pub got : IsGot front
 
--- of a session that is held at a place, live or frozen, something is unacknowledged or unread
+-- the session held at a place, live or frozen, has something unacknowledged or unread
 abbrev pub HasStream : Place → Type 0
 HasStream Vacant = ⊥
 HasStream (Live session errand) = IsUnacked session.end ⊎ HasUnread session
@@ -66,7 +66,7 @@ LeftAtFar p part other = ⊥
 
 -- ---- the operator
 
--- What a step of the group that is at work has a remote say wasn't ordered.
+-- A step of the current group has a remote say something, which wasn't ordered.
 pub record IsUnsaid (setup : Setup) (part : OperatorPart) (n : ℕ) : Type 0 where
   pub peering : ℕ
   pub bytes : List ℕ
@@ -74,22 +74,22 @@ pub record IsUnsaid (setup : Setup) (part : OperatorPart) (n : ℕ) : Type 0 whe
   pub group : group_of setup n ≡ part.group
   pub unissued : part.issued n ≡ false
 
--- A graft of the group that is at work has no outcome.
+-- A graft of the current group has no outcome.
 pub record IsUnended (setup : Setup) (part : OperatorPart) (graft : ScriptGraft) : Type 0 where
   pub known : script_graft setup graft.graft ≡ Some graft
   pub group : group_of setup graft.step ≡ part.group
   pub made : target_in setup part graft ≢ None
   pub unended : part.outcome graft.graft ≡ None
 
--- a graft of the group that is at work wasn't ordered
+-- a graft of the current group wasn't ordered
 abbrev pub IsUnordered : Setup → OperatorPart → ScriptGraft → Type 0
 IsUnordered setup part graft = IsUnended setup part graft × (part.source graft.graft ≡ None)
 
--- something of the group that is at work wasn't ordered
+-- something of the current group wasn't ordered
 abbrev pub HasUnissued : Setup → OperatorPart → Type 0
 HasUnissued setup part = ((n : ℕ) × IsUnsaid setup part n) ⊎ ((graft : ScriptGraft) × IsUnordered setup part graft)
 
--- A graft of the group that is at work was ordered and has no outcome.
+-- A graft of the current group was ordered and has no outcome.
 abbrev pub IsOpen : Setup → OperatorPart → ℕ → Type 0
 IsOpen setup part k = (graft : ScriptGraft) × (graft.graft ≡ k) × IsUnended setup part graft × (part.source k ≢ None)
 

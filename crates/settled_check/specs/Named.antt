@@ -1,4 +1,4 @@
--- What the rest of an actor names: the things that it still has to do, of each kind the lowest.
+-- The things that an actor's rest names: those that it still has to do, the lowest of each kind.
 use Rattle.std.specs.Prelude.{◌≡◌, ◌<◌, true, Some}
 use Rattle.graft_steps.specs.declared.rest.Pending.{Pending}
 use Rattle.graft_steps.specs.declared.rest.Pending.TheVariants.{Script, Graft, Bag, Stream, Dirty, DueIn, DueOut}

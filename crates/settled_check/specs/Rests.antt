@@ -1,4 +1,4 @@
--- When a rest is that of an actor: each of its fields says what is left in the actor's part.
+-- The rest of an actor: each of its fields says what is left in the actor's part.
 use Rattle.std.specs.Prelude.{ℕ, ◌≡◌, ◌+◌, ◌↔◌, length, true}
 use Rattle.std.specs.Option.{option_map}
 use Rattle.graft_steps.specs.declared.rest.RouterRest.{RouterRest}

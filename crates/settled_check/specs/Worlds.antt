@@ -1,4 +1,4 @@
--- What is left to do in a world, and what the rests of its actors tell of it.
+-- What is left to do in a world, and what the rests of its actors say about it.
 use Rattle.std.specs.Prelude.{ℕ, ◌≡◌, ◌≢◌, ◌<◌, ◌≤◌, ◌↔◌, [], length, Option, None}
 use Rattle.tcp_seq.specs.Endpoint.{Endpoint, received}
 use Rattle.graft_steps.specs.declared.rest.Pending.{Pending}
@@ -33,7 +33,7 @@ pub data IsLeft (setup : Setup) (w : World) (x : Pending) : Type 0 where
   AtFarSide : (p : ℕ) → p < peerings_in setup → LeftAtFar p (w.far p) x → IsLeft setup w x
   ToOperator : LeftToOperator setup w.operator x → IsLeft setup w x
 
--- what one endpoint knows to be received was received by the other, and that is of its stream
+-- what one endpoint knows to be received was received by the other, and is part of the first one's stream
 pub record Fits (from to : Endpoint) : Type 0 where
   pub acked : from.acked ≤ received to
   pub received : received to ≤ length from.stream
@@ -55,7 +55,7 @@ pub record NothingIsNamed (setup : Setup) (w : World) (router : ℕ → RouterRe
   pub of_operator : IsFirstOf (OperatorNames operator) None
   pub channels : (a b : ℕ) → ¬ IsOnItsWay setup w a b
 
--- What is known of a world on the way of a run: its setup is sound, and nothing is outside of it; its streams fit; and each peering has a session.
+-- What holds for each world of a run: its setup is sound, and nothing is outside of it; its streams fit; and each peering has a session.
 pub record IsOnTheWay (setup : Setup) (w : World) : Type 0 where
   pub sound : IsSetup setup
   pub within : IsWithin setup w
@@ -71,7 +71,7 @@ abbrev pub QuietIsFound : Type 0
 QuietIsFound = (setup : Setup) (w : World) (router : ℕ → RouterRest) (far : ℕ → FarRest) (operator : OperatorRest) → IsOnTheWay setup w → AreRests setup w router far operator
     → NothingIsNamed setup w router far operator ↔ Quiet setup w
 
--- Of a rest that is an actor's, the first thing that it names is the first that is left in the part.
+-- The first thing that an actor's rest names is the first one left to do in its part.
 abbrev pub RouterRestsTell : Type 0
 RouterRestsTell = (r : ℕ) (part : RouterPart) (rest : RouterRest) (answer : Option Pending) → IsRouterRest r part rest → IsFirstOf (RouterNames rest) answer → IsFirstOf (LeftAtRouter r part) answer
 

@@ -1,11 +1,11 @@
-//! Which of the things that are left to do is the first.
+//! The first of the things that are left to do.
 
 ghost use Rattle.settled_check.specs.Firsts.{IsFirstOf, IsEither};
 ghost use Rattle.settled_check.specs.Named.{RouterNames, FarNames, OperatorNames};
 
 use graft_steps::{FarRest, OperatorRest, Pending, RouterRest, pending_order};
 
-/// The first thing that a router's rest names, in the order of pending things; none where it names none.
+/// Returns the first thing that a router's rest names, in the order of pending things, or `None` if it names none.
 pub fn router_rest(rest: &RouterRest) -> Option<Pending>
     ensures { IsFirstOf (RouterNames rest.now) result }
 {
@@ -24,7 +24,7 @@ pub fn router_rest(rest: &RouterRest) -> Option<Pending>
     rest.due_out.map(Pending::DueOut)
 }
 
-/// The first thing that a far side's rest names.
+/// Returns the first thing that a far side's rest names, if any.
 pub fn far_rest(rest: &FarRest) -> Option<Pending>
     ensures { IsFirstOf (FarNames rest.now) result }
 {
@@ -32,7 +32,7 @@ pub fn far_rest(rest: &FarRest) -> Option<Pending>
     bag.or(rest.unacked.then_some(Pending::Stream(rest.peering)))
 }
 
-/// The first thing that the operator's rest names.
+/// Returns the first thing that the operator's rest names, if any.
 pub fn operator_rest(rest: &OperatorRest) -> Option<Pending>
     ensures { IsFirstOf (OperatorNames rest.now) result }
 {
@@ -40,7 +40,7 @@ pub fn operator_rest(rest: &OperatorRest) -> Option<Pending>
     script.or(rest.graft.map(Pending::Graft))
 }
 
-/// The first of what two answers name.
+/// Returns the first of the things that two answers name, if any.
 pub fn first_pending(one: Option<Pending>, other: Option<Pending>) -> Option<Pending>
     ensures { IsFirstOf (IsEither one other) result }
 {

@@ -6,7 +6,7 @@ use Rattle.graft_laws.specs.Keeps.{Reached}
 use Rattle.operator_core.specs.Turns.{NothingToOrder}
 use Rattle.settled_check.specs.Left.{HasGraft, HasUnissued, IsOpen}
 
--- at most an answer is waited for
+-- the session of a place has no errand, or waits for an answer
 abbrev pub AwaitsAtMost : Option Errand → Type 0
 AwaitsAtMost None = Unit {0}
 AwaitsAtMost (Some (Asking word)) = Unit {0}
@@ -19,7 +19,7 @@ HasNoneStored (Live session errand) = AwaitsAtMost errand
 HasNoneStored (Frozen session order) = ⊥
 HasNoneStored (Shadow graft) = Unit {0}
 
--- Nothing is on its way between routers, nor between routers and the operator; at no place a graft is stored; and the operator may order no step.
+-- Nothing is on its way between routers, or between routers and the operator; no graft is stored at a place; and the operator may order no step.
 pub record IsStill (setup : Setup) (w : World) : Type 0 where
   pub mesh : (a b : ℕ) → w.mesh a b ≡ []
   pub orders : (r : ℕ) → w.orders r ≡ []
@@ -27,7 +27,7 @@ pub record IsStill (setup : Setup) (w : World) : Type 0 where
   pub places : (r p : ℕ) → HasNoneStored ((w.router r).places p)
   pub operator : NothingToOrder setup w.operator
 
--- Then no router has anything of a graft, no graft that was ordered is without outcome, and no step of the group at work is left to be ordered.
+-- No router has anything of a graft, each graft that was ordered has its outcome, and no step of the current group is left to be ordered.
 pub record HasNoGraftLeft (setup : Setup) (w : World) : Type 0 where
   pub routers : (r k : ℕ) → ¬ HasGraft (w.router r) k
   pub unended : (k : ℕ) → ¬ IsOpen setup w.operator k

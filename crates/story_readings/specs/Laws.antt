@@ -1,4 +1,4 @@
--- What holds of stories that read the same.
+-- Law of stories that read the same bytes.
 use Rattle.std.specs.Prelude.{ℕ, List}
 use Rattle.bgp_types.specs.declared.message.SessionState.{SessionState}
 use Rattle.bgp_story.specs.declared.line.Line.{Line}

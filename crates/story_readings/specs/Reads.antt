@@ -1,4 +1,4 @@
--- Stories in which all was got that the remote said, and no round passed.
+-- Stories in which all that the remote said was got, and no round passed.
 use Rattle.std.specs.Prelude.{ℕ, ◌≡◌, ◌⊎◌, List, ◌++◌}
 use Rattle.std.specs.List.{AllByRecursion}
 use Rattle.bgp_types.specs.declared.message.SessionState.{SessionState}
@@ -15,13 +15,13 @@ IsNoTick (Put _) = Unit {0}
 IsNoTick (Got _) = Unit {0}
 IsNoTick (Tick _) = ⊥
 
--- All of these bytes were got, message by message, up to the end of the session, or up to a rest that begins none.
+-- All of these bytes were got, message by message, up to the end of the session, or up to a rest that begins with no whole message.
 pub record GotAllOf (said : List ℕ) (lines : List Line) (state : SessionState) : Type 0 where
   pub rest : List ℕ
   pub is : said ≡ got_bytes lines ++ rest
   pub end : (state ≡ Closed) ⊎ BeginsNothing rest
 
--- A legal story of a peering reads these bytes, and nothing but these bytes moves it on: no round passes.
+-- A legal story of a peering reads these bytes, and no round passes in it.
 pub record Reads (p : Peering) (said : List ℕ) (lines : List Line) (state : SessionState) : Type 0 where
   pub legal : IsLegal p lines state
   pub timeless : AllByRecursion IsNoTick lines

@@ -1,4 +1,4 @@
-//! What a session reads is one function of what its remote said.
+//! Law: what a session reads is one function of what its remote said.
 #![tactic(auto)]
 
 mod laws;

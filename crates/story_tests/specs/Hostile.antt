@@ -12,12 +12,11 @@ use Rattle.bgp_story.specs.declared.line.Line.TheVariants.{Put, Got}
 use Rattle.bgp_story.specs.Readings.{Routes, IsLegal, put_bytes, got_bytes, heard}
 use Rattle.bgp_story.specs.WorkedSessions.{worked_peering, home, open_bytes, keepalive_bytes, update_bytes, joined_lines, ten, heard_attrs}
 
--- At the front of these octets stands neither a whole message nor a header with a fault.
+-- These octets begin with neither a whole message nor a header with a fault.
 abbrev pub Waits : List ℕ → Type 0
 Waits rest = (frame_at rest ≡ None) × ((length rest < 19) ⊎ (header_fault rest ≡ None))
 
--- The story of a session that hears what a remote says: as much as it can read, unless it is closed. What it puts, and the
--- routes that it heard.
+-- The story of a session that hears what a remote says: as much as it can read, unless it is closed; what it puts; and the routes that it heard.
 pub record Hears (said : List ℕ) (lines : List Line) (state : SessionState) (put : List ℕ) (routes : Routes) : Type 0 where
   pub legal : IsLegal (worked_peering 0) lines state
   pub rest : List ℕ
@@ -37,7 +36,7 @@ one_route = map.insert map.empty ten heard_attrs
 abbrev pub home_opening : List ℕ
 home_opening = framed 1 (0x04 ∷ 0xFD ∷ 0xE8 ∷ 0x00 ∷ 0x00 ∷ 0x0A ∷ 0xFF ∷ 0x00 ∷ 0x01 ∷ 0x00 ∷ []) ++ keepalive_bytes
 
--- an OPEN and a KEEPALIVE, and what is said behind them
+-- an OPEN and a KEEPALIVE, and what is said after them
 abbrev pub opening_and : List ℕ → List ℕ
 opening_and more = open_bytes ++ (keepalive_bytes ++ more)
 
@@ -55,7 +54,7 @@ refused bytes code subcode info = Got bytes ∷ Put (NoticeMsg (record { code = 
 abbrev pub cut_update : List ℕ
 cut_update = take 42 update_bytes
 
--- an UPDATE whose header says 4,096 octets, of which 43 come
+-- an UPDATE whose header says 4,096 octets, of which 43 arrive
 abbrev pub endless_update : List ℕ
 endless_update = marker ++ (0x10 ∷ 0x00 ∷ 0x02 ∷ 0x00 ∷ 0x00 ∷ 0x0F ∷ 0xE5 ∷ 0x40 ∷ 0x01 ∷ 0x01 ∷ 0x00 ∷ 0x40 ∷ 0x02 ∷ 0x04 ∷ 0x02 ∷ 0x01 ∷ 0xFD ∷ 0xE9 ∷ 0x40 ∷ 0x03 ∷ 0x04 ∷ 0xC0 ∷ 0x00 ∷ 0x02 ∷ 0x01 ∷ 0x08 ∷ 0x0A ∷ [])
 
@@ -78,7 +77,7 @@ strange_type = framed 5 []
 abbrev pub capable_open : List ℕ
 capable_open = framed 1 (0x04 ∷ 0xFD ∷ 0xE9 ∷ 0x00 ∷ 0xB4 ∷ 0xC0 ∷ 0x00 ∷ 0x02 ∷ 0x01 ∷ 0x69 ∷ 0x02 ∷ 0x56 ∷ 0x00 ∷ 0x00 ∷ 0x01 ∷ 0x04 ∷ 0x00 ∷ 0x01 ∷ 0x00 ∷ 0x01 ∷ 0x02 ∷ 0x00 ∷ 0x03 ∷ 0x05 ∷ 0x00 ∷ 0x01 ∷ 0x00 ∷ 0x01 ∷ 0x01 ∷ 0x04 ∷ 0x00 ∷ 0x05 ∷ 0x06 ∷ 0x00 ∷ 0x01 ∷ 0x00 ∷ 0x01 ∷ 0x00 ∷ 0x01 ∷ 0x06 ∷ 0x00 ∷ 0x07 ∷ 0x01 ∷ 0x01 ∷ 0x08 ∷ 0x00 ∷ 0x09 ∷ 0x01 ∷ 0x03 ∷ 0x40 ∷ 0x02 ∷ 0x00 ∷ 0x78 ∷ 0x41 ∷ 0x04 ∷ 0x00 ∷ 0x00 ∷ 0xFD ∷ 0xE9 ∷ 0x42 ∷ 0x00 ∷ 0x43 ∷ 0x01 ∷ 0x00 ∷ 0x44 ∷ 0x01 ∷ 0x02 ∷ 0x45 ∷ 0x04 ∷ 0x00 ∷ 0x01 ∷ 0x01 ∷ 0x01 ∷ 0x46 ∷ 0x00 ∷ 0x47 ∷ 0x07 ∷ 0x00 ∷ 0x01 ∷ 0x01 ∷ 0x80 ∷ 0x00 ∷ 0x00 ∷ 0x78 ∷ 0x49 ∷ 0x02 ∷ 0x01 ∷ 0x61 ∷ 0x80 ∷ 0x00 ∷ 0x82 ∷ 0x00 ∷ 0x83 ∷ 0x00 ∷ 0xFF ∷ 0x02 ∷ 0xFF ∷ 0xFF ∷ 0x02 ∷ 0x06 ∷ 0x01 ∷ 0x04 ∷ 0x00 ∷ 0x02 ∷ 0x00 ∷ 0x01 ∷ 0x02 ∷ 0x03 ∷ 0x41 ∷ 0x01 ∷ 0x00 ∷ 0x02 ∷ 0x02 ∷ 0xC8 ∷ 0x00 ∷ [])
 
--- ---- what comes of it
+-- ---- the outcome
 
 abbrev pub capable_lines : List Line
 capable_lines = Put (OpenMsg (home 0)) ∷ Got capable_open ∷ Put KeepaliveMsg ∷ Got keepalive_bytes ∷ Got update_bytes ∷ Got keepalive_bytes ∷ []

@@ -18,7 +18,7 @@ const BASE: Rank = Rank {
     address: 10,
 };
 
-/// Worse than the base by every rule.
+/// Worse than `BASE` by every rule.
 const WORST: Rank = Rank {
     own: false,
     pref: 0,
@@ -93,15 +93,15 @@ const LOW_IDENTIFIER: Rank = Rank {
 
 const LOW_ADDRESS: Rank = Rank { address: 9, ..BASE };
 
-/// It loses by its path, and would take others out by its MED.
+/// It loses by its path, and would eliminate others by its MED.
 const LONG_WITH_LOW_MED: Rank = Rank {
     path_len: 3,
     med: 0,
     ..BASE
 };
 
-// A, B and C of two neighbours: by pairs A beats B and B beats C by the identifier, and C beats A by
-// its MED. C takes out A, and of B and C it is B that has the lower identifier.
+// A, B and C are from two neighbour ASes. In pairs, A beats B and B beats C by the identifier, and C beats A by its
+// MED. Together, C eliminates A, and B has a lower identifier than C.
 const A: Rank = Rank {
     med: 20,
     identifier: 1,
@@ -120,7 +120,7 @@ const C: Rank = Rank {
     ..BASE
 };
 
-/// Equal to A by all nine rules, since another neighbour told it, and not taken out by C.
+/// Equal to A by all nine rules, but told by another neighbour AS, so C doesn't eliminate it.
 const EQUAL_TO_A: Rank = Rank {
     neighbour: 65003,
     ..A
@@ -132,7 +132,7 @@ struct Case {
     shows: &'static str,
 }
 
-/// Each rule in its turn, though all the later ones say the other.
+/// Each rule decides in its turn, though all later ones favour the other route.
 const EACH_RULE: &[Case] = &[
     Case {
         routes: &[BASE, OWN],
@@ -196,7 +196,7 @@ const EACH_RULE: &[Case] = &[
     },
 ];
 
-/// Lists in which it matters that each rule is applied to all that the rules before it leave.
+/// Lists in which it matters that each rule is applied to all routes that the rules before it leave.
 const TOGETHER: &[Case] = &[
     Case {
         routes: &[A, B, C],

@@ -1,4 +1,4 @@
-//! A rank that comes, moves to another neighbour AS or goes, and the choice after it.
+//! A rank that is added, moved to another neighbour AS or removed, and the choice after it.
 
 use bgp_types::{From, PeeringId, Rank, RouterId};
 use decision_groups::{GroupSet, choice_by_sources};
@@ -41,11 +41,11 @@ fn a_rank_that_comes_or_goes_changes_the_choice(rt: HostRuntime) -> Result<(), F
         identifier: 0xC000_0209,
         ..RANK
     };
-    // the third takes out the first by its MED, and the second has the lower identifier
+    // the third eliminates the first by its MED, and the second has the lower identifier
     set.set(third, low_med)?;
     assert_eq!(rt; set.best(), Some(second));
     assert_eq!(rt; set.len(), 3);
-    // told by a neighbour of its own, it takes out nothing
+    // told by a neighbour AS of its own, it eliminates nothing
     set.set(
         third,
         Rank {

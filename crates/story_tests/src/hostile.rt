@@ -1,4 +1,4 @@
-//! What comes of hostile remotes.
+//! The stories of hostile remotes.
 
 ghost use Rattle.std.specs.Prelude.{◌++◌, [], ◌∷◌};
 ghost use Rattle.bgp_types.specs.declared.message.SessionState.TheVariants.{Closed, Established};
@@ -7,10 +7,11 @@ ghost use Rattle.bgp_story.specs.declared.line.Line.TheVariants.{Got};
 ghost use Rattle.bgp_story.specs.WorkedSessions.{open_bytes, keepalive_bytes, update_bytes, cease_bytes};
 ghost use Rattle.story_tests.specs.Hostile.{Hears, no_routes, one_route, home_opening, opening_and, established_and, refused, cut_update, endless_update, flipped_update, flipped_marker, too_long_header, strange_type, capable_open, capable_lines};
 
-/// What remotes say behind their OPEN and KEEPALIVE, computed: of an UPDATE that is cut, or never comes to its end, nothing is
-/// read; a bit that is flipped in an UPDATE, a flipped marker, a length of 4,097, the type 5 and a second OPEN are answered
-/// with the NOTIFICATION of their fault, and nothing behind them is read (RFC 4271, sections 6.1, 6.3 and 6.6); a NOTIFICATION
-/// closes without an answer; an OPEN with every kind of capability opens as one without (RFC 5492, section 4).
+/// What remotes say after their OPEN and KEEPALIVE, computed: of an UPDATE that is cut, or never comes to its end,
+/// nothing is read; a flipped bit in an UPDATE, a flipped marker, a length of 4,097, the type 5 and a second OPEN are
+/// answered with the NOTIFICATION of their fault, and nothing after them is read (RFC 4271, sections 6.1, 6.3 and 6.6);
+/// a NOTIFICATION closes without an answer; an OPEN with every kind of capability is taken like one without (RFC 5492,
+/// section 4).
 pub fn hostile_remotes_are_answered()
     ensures cut { Hears (opening_and cut_update) (established_and []) Established home_opening no_routes }
     ensures endless { Hears (opening_and endless_update) (established_and []) Established home_opening no_routes }

@@ -1,4 +1,4 @@
-//! Rules of policies, ASes in front of paths, and ranks of routes, worked out by hand.
+//! Rules of policies, ASes prepended to paths, and ranks of routes, worked out by hand.
 
 use bgp_types::{
     AsPath, Attrs, From, Items, NoMemory, Origin, PathPart, Prefix, Rank, RawAttrs, Route,
@@ -18,7 +18,7 @@ const ANY: Rule = Rule {
     prepend: 0,
 };
 
-/// A route with ORIGIN EGP and MED 7, over 65001 and 65002.
+/// Returns a route with ORIGIN EGP and MED 7, over 65001 and 65002.
 fn route(alloc: Global) -> Result<Route, NoMemory> {
     let mut path: AsPath = Items::new(alloc);
     path.push(PathPart::Sequence(Items::from_slice(alloc, &[65001, 65002])?))?;
@@ -41,7 +41,7 @@ fn policy(alloc: Global, rules: &[Rule]) -> Result<Policy, NoMemory> {
     Ok(Policy::new(Items::from_slice(alloc, rules)?))
 }
 
-/// The rule for the prefixes of 10.0.0.0/8 of these lengths.
+/// Returns the rule for the prefixes of 10.0.0.0/8 of these lengths.
 fn range(ge: u8, le: u8) -> Rule {
     Rule {
         within: Prefix::new(0x0A00_0000, 8).map(|prefix| PrefixRange { prefix, ge, le }),
@@ -49,7 +49,7 @@ fn range(ge: u8, le: u8) -> Rule {
     }
 }
 
-/// The place of the rule that matches the prefix of this address and length.
+/// Returns the place of the rule that matches the prefix of this address and length.
 fn place(alloc: Global, rules: &[Rule], address: u32, len: u8) -> Result<Option<usize>, NoMemory> {
     let Some(prefix) = Prefix::new(address, len) else {
         return Ok(None);
@@ -61,7 +61,7 @@ fn place(alloc: Global, rules: &[Rule], address: u32, len: u8) -> Result<Option<
     )
 }
 
-/// What becomes of the route to 10.64.0.0/10.
+/// Returns what the rules make of the route to 10.64.0.0/10.
 fn applied(alloc: Global, rules: &[Rule]) -> Result<Option<Route>, NoMemory> {
     let Some(prefix) = Prefix::new(0x0A40_0000, 10) else {
         return Ok(None);
@@ -129,7 +129,8 @@ fn ases(alloc: Global, count: u32) -> Result<Items<u32>, NoMemory> {
 #[test]
 fn an_as_goes_into_a_leading_sequence_with_room(rt: HostRuntime) -> Result<(), Fail> {
     let alloc = rt.alloc();
-    // how many ASes lead, whether in a sequence, and then: how many lead, in how many parts
+    // the number of leading ASes, and whether they are a sequence; then, after prepending, how many lead, and the
+    // number of parts
     let rows = [
         (1, true, 2, 1),
         (254, true, 255, 1),

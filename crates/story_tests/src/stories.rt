@@ -11,7 +11,7 @@ use bgp_types::{Caps, Message, Octets, OpenMsg, SessionState};
 use std::alloc::Global;
 use std::test::*;
 
-/// An OPEN of the remote, with hold time 180.
+/// Returns an OPEN of the remote, with hold time 180.
 fn remote_open(alloc: Global) -> Result<Octets, Fail>
     ensures { IfOk result (λ octets. octets ≡ open_bytes) }
 {
@@ -37,7 +37,7 @@ fn keepalive(alloc: Global) -> Result<Octets, Fail>
     )?)
 }
 
-/// The announcement of 10.0.0.0/8.
+/// Returns the announcement of 10.0.0.0/8.
 fn announcement(alloc: Global) -> Result<Octets, Fail>
     ensures { IfOk result (λ octets. octets ≡ update_bytes) }
 {
@@ -52,7 +52,7 @@ fn announcement(alloc: Global) -> Result<Octets, Fail>
     )?)
 }
 
-/// A session whose OPEN was put.
+/// Returns the story of a session whose OPEN was put.
 fn sent(alloc: Global, hold: u16) -> Result<Story, Fail>
     requires { is_short_hold hold ≡ false }
     ensures { IfOk result (λ story. story ≡ record { lines = sent_lines hold; remote_as = 65001 }) }
@@ -66,7 +66,7 @@ fn sent(alloc: Global, hold: u16) -> Result<Story, Fail>
     Ok(Story::begin(alloc, first, 65001)?)
 }
 
-/// A session whose OPENs were put and got.
+/// Returns the story of a session whose OPENs were put and got.
 fn confirmed(alloc: Global, hold: u16) -> Result<Story, Fail>
     requires { is_short_hold hold ≡ false }
     ensures { IfOk result (λ story. story ≡ record { lines = confirmed_lines hold; remote_as = 65001 }) }
@@ -78,7 +78,7 @@ fn confirmed(alloc: Global, hold: u16) -> Result<Story, Fail>
     Ok(story)
 }
 
-/// A session that took the KEEPALIVE of the remote.
+/// Returns the story of a session that took the KEEPALIVE of the remote.
 fn joined(alloc: Global) -> Result<Story, Fail>
     ensures { IfOk result (λ story. story ≡ record { lines = joined_lines 0; remote_as = 65001 }) }
 {
@@ -88,7 +88,7 @@ fn joined(alloc: Global) -> Result<Story, Fail>
     Ok(story)
 }
 
-/// A session that heard an announcement.
+/// Returns the story of a session that heard an announcement.
 fn heard(alloc: Global) -> Result<Story, Fail>
     ensures { IfOk result (λ story. story ≡ record { lines = heard_lines 0; remote_as = 65001 }) }
 {
@@ -98,7 +98,7 @@ fn heard(alloc: Global) -> Result<Story, Fail>
     Ok(story)
 }
 
-/// A session with hold time 90 that put a KEEPALIVE in round 30.
+/// Returns the story of a session with hold time 90 that put a KEEPALIVE in round 30.
 fn beaten(alloc: Global) -> Result<Story, Fail>
     ensures { IfOk result (λ story. story ≡ record { lines = confirmed_lines 90 ++ Tick 30 ∷ Put KeepaliveMsg ∷ []; remote_as = 65001 }) }
 {

@@ -1,4 +1,4 @@
--- What an arriving segment is, and what it changes (RFC 9293, sections 3.4 and 3.10.7.4).
+-- What kind of segment arrives, and what it changes (RFC 9293, sections 3.4 and 3.10.7.4).
 use Rattle.std.specs.Prelude.{ℕ, ◌≡◌, ◌⊎◌, ◌<◌, ◌+◌, ◌-◌, ◌^◌, ◌%◌, ◌||◌, nat_lt, nat_le, if◌then◌else◌, true, length, drop}
 use Rattle.tcp_seq.specs.Numbers.{offset_from}
 use Rattle.tcp_seq.specs.Rules.{Acceptable, IsAck}
@@ -12,7 +12,7 @@ use Rattle.tcp_end.specs.State.{got, own_number, expected, counted_from}
 use Rattle.tcp_end.specs.declared.arrival.Arrival.{Arrival}
 use Rattle.tcp_end.specs.declared.arrival.Arrival.TheVariants.{Outside, Ahead, Duplicate, Accepted}
 
--- what stands ahead, with its places counted from the one expected next
+-- the pieces ahead of a hole, with their places counted from the one expected next
 abbrev pub ahead_of : EndState → Reassembly
 ahead_of s = record { next = expected s; pieces = counted_from (got s % 2 ^ 32) s.ahead }
 
@@ -28,20 +28,20 @@ Says kind s g = IsAck kind (own_number s s.acked) (own_number s s.sent) g.ack.0
 abbrev pub BringsNewByte : EndState → Segment → Type 0
 BringsNewByte s g = BringsByte (ahead_of s) g.seq.0 g.bytes
 
--- what an arriving segment is
+-- what kind of segment arrives
 abbrev pub IsArrival : Arrival → EndState → Segment → Type 0
 IsArrival Outside s g = ¬ IsAcceptableTo s g
 IsArrival (Ahead ack) s g = IsAcceptableTo s g × Says Beyond s g × (ack ≡ g.ack)
 IsArrival Duplicate s g = IsAcceptableTo s g × (¬ Says Beyond s g) × (¬ Says New s g) × (¬ BringsNewByte s g)
 IsArrival Accepted s g = IsAcceptableTo s g × (¬ Says Beyond s g) × (Says New s g ⊎ BringsNewByte s g)
 
--- how many bytes a segment newly acknowledges, of those that are outstanding
+-- how many outstanding bytes a segment newly acknowledges
 abbrev pub newly_acked : EndState → Segment → ℕ
 newly_acked s g =
     let ahead = offset_from g.ack.0 (own_number s s.acked) in if nat_le ahead (s.sent - s.acked) then ahead else 0
 
--- A segment is taken in, of which so many outstanding bytes are acknowledged: its bytes are received, those that it acknowledges
--- are forgotten, and an answer is owed where it has bytes.
+-- A segment that newly acknowledges this many outstanding bytes is accepted: its bytes are received, the bytes that it acknowledges are removed, and
+-- an answer is owed if it has bytes.
 pub record TakesByNumbers (before : EndState) (g : Segment) (acked : ℕ) (after : EndState) : Type 0 where
   pub received : Receives (ahead_of before) (ahead_of after) before.ready after.ready g.seq.0 g.bytes
   pub changed : after ≡ record before {
@@ -52,14 +52,14 @@ pub record TakesByNumbers (before : EndState) (g : Segment) (acked : ℕ) (after
     owed = before.owed || nat_lt 0 (length g.bytes);
   }
 
--- what an arriving segment changes: all but the owed answer stays, unless it is accepted
+-- what an arriving segment changes: unless it is accepted, only that an answer is owed
 abbrev pub Leaves : Arrival → EndState → Segment → EndState → Type 0
 Leaves Outside before g after = after ≡ record before { owed = true }
 Leaves (Ahead ack) before g after = after ≡ record before { owed = true }
 Leaves Duplicate before g after = after ≡ record before { owed = before.owed || nat_lt 0 (length g.bytes) }
 Leaves Accepted before g after = TakesByNumbers before g (newly_acked before g) after
 
--- a segment that is acceptable and isn't ahead, with the number of bytes that it acknowledges
+-- an accepted segment, with the number of bytes that it newly acknowledges
 abbrev pub TakenIn : Arrival → EndState → Segment → ℕ → EndState → Type 0
 TakenIn Outside before g acked after = ⊥
 TakenIn (Ahead ack) before g acked after = ⊥

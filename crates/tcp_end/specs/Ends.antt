@@ -44,12 +44,12 @@ CallsEmit before after =
 abbrev pub CallsRead : EndSide → EndSide → Type 0
 CallsRead before after = (n : ℕ) × StepsBy (λ e e'. ReadsBytes e n e') before.state after.state × (after.emitted ≡ before.emitted)
 
--- `arrive`, of any segment that the other end ever emitted
+-- `arrive`, with any segment that the other end ever emitted
 abbrev pub CallsArrive : List Segment → EndSide → EndSide → Type 0
 CallsArrive theirs before after =
     (segment : Segment) × Contains theirs segment × TakesBy before.state segment after.state × (after.emitted ≡ before.emitted)
 
--- a call that fails changes nothing, and neither does `export` with `import` behind it
+-- a call that fails changes nothing, and neither does `export` followed by `import`
 abbrev pub EndCalls : List Segment → EndSide → EndSide → Type 0
 EndCalls theirs before after = CallsSend before after ⊎ CallsEmit before after ⊎ CallsRead before after ⊎ CallsArrive theirs before after ⊎ (after ≡ before)
 
@@ -58,7 +58,7 @@ PairStep before after =
     (EndCalls before.far.emitted before.near after.near × (after.far ≡ before.far))
     ⊎ (EndCalls before.near.emitted before.far after.far × (after.near ≡ before.near))
 
--- calls from one pair over a list of others to the last
+-- calls from one pair, through those of a list, to the last
 abbrev pub PairRun : EndPair → List EndPair → EndPair → Type 0
 PairRun before [] after = after ≡ before
 PairRun before (next ∷ rest) after = PairStep before next × PairRun next rest after
@@ -69,7 +69,7 @@ pub record IsNumberedAmong (seq_first ack_first : ℕ) (g : Segment) (segments :
   pub there : Contains segments segment
   pub numbered : Numbered seq_first ack_first g segment
 
--- A pair stands for a connection: each end for its endpoint, and each segment that was emitted for one of the connection's.
+-- A pair stands for a connection: each end for its endpoint, and each emitted segment for one of the connection's segments.
 pub record PairStands (pair : EndPair) (c : Connection) : Type 0 where
   pub near : EndStands pair.near.state c.near.end
   pub far : EndStands pair.far.state c.far.end
@@ -78,7 +78,7 @@ pub record PairStands (pair : EndPair) (c : Connection) : Type 0 where
   pub near_emitted : (g : Segment) → Contains pair.near.emitted g → IsNumberedAmong pair.near.state.send_first.0 pair.near.state.receive_first.0 g c.near.emitted
   pub far_emitted : (g : Segment) → Contains pair.far.emitted g → IsNumberedAmong pair.far.state.send_first.0 pair.far.state.receive_first.0 g c.far.emitted
 
--- a pair stands for a connection that another becomes by a step, or for that one itself
+-- a pair stands for the given connection, or for one that it becomes by a step
 pub record PairBecomes (c : Connection) (after : EndPair) : Type 0 where
   pub connection : Connection
   pub step : ConnectionStep c connection ⊎ (connection ≡ c)

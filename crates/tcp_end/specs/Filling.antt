@@ -2,16 +2,16 @@
 use Rattle.std.specs.Prelude.{ℕ, suc, ◌+◌, ◌-◌, nat_le, max, if◌then◌else◌, List, [], ◌∷◌, ◌++◌, length, take, drop}
 use Rattle.tcp_seq.specs.declared.state.Piece.{Piece}
 
--- how far bytes go on from a place over pieces, without a gap
+-- the place up to which bytes go on from a place over pieces, without a gap
 abbrev pub end_from : ℕ → Piece → ℕ
 end_from end p = if nat_le p.place end then max end (p.place + length p.bytes) else end
 
--- how many of the first pieces stand one behind the other from a place on
+-- how many of the first pieces are reached from a place on without a gap
 abbrev pub reached : ℕ → List Piece → ℕ
 reached end [] = 0
 reached end (p ∷ ps) = if nat_le p.place end then suc (reached (max end (p.place + length p.bytes)) ps) else 0
 
--- the bytes of pieces, and between and after them those of bytes that stand from the place expected next on, from `at` on
+-- the bytes of pieces, and between and after them, from `at` on, the given bytes, which stand from the place expected next on
 abbrev pub filled : List ℕ → ℕ → List Piece → List ℕ
 filled bytes at [] = drop at bytes
 filled bytes at (p ∷ ps) = take (p.place - at) (drop at bytes) ++ (p.bytes ++ filled bytes (p.place + length p.bytes) ps)

@@ -1,11 +1,11 @@
--- The state that an endpoint is seen as, and what its fields keep.
+-- The state that contracts see of an endpoint, and what its fields keep.
 use Rattle.std.specs.Prelude.{◌≡◌, ◌+◌, ◌%◌, ◌^◌, length}
 use Rattle.tcp_seq.specs.declared.state.EndState.{EndState}
 use Rattle.tcp_reasm.specs.Runs.{AreRuns}
 use Rattle.tcp_end.specs.State.{IsSending, expected, raised}
 use Rattle.tcp_end.specs.declared.end.End.TheInside.{Inside}
 
--- the pieces that stand ahead have their places in the stream
+-- the pieces ahead of a hole have their places in the stream
 abbrev pub state_of : Inside → EndState
 state_of e = record {
   way = e.way;

@@ -1,4 +1,4 @@
--- What becomes of bytes that arrive: they are ready, or stand ahead of a hole.
+-- What happens to bytes that arrive: they become ready, or stand ahead of a hole.
 use Rattle.std.specs.Prelude.{ℕ, ◌≡◌, ◌<◌, ◌+◌, Bool, true, false, List, ◌++◌, length, take, drop, Option, None, IsSome, slice_get}
 use Rattle.std.specs.Option.{option_or}
 use Rattle.tcp_seq.specs.Numbers.{plus}
@@ -6,11 +6,11 @@ use Rattle.tcp_reasm.specs.Reassembly.{Reassembly, byte_ahead, brought}
 use Rattle.tcp_end.specs.Filling.{reached, filled}
 use Rattle.tcp_end.specs.State.{counted_from}
 
--- bytes from a sequence number on bring one to a place of the window that has none
+-- some of the bytes from a sequence number on belong to a place of the window that has no byte
 abbrev pub BringsByte : Reassembly → ℕ → List ℕ → Type 0
 BringsByte r seq bytes = (k : ℕ) × (byte_ahead r k ≡ None) × IsSome (brought r.next seq bytes k)
 
--- the byte that stands at the k-th place from the one expected next then: that which did before, or else the one that is brought
+-- the byte at the k-th place from the one expected next afterwards: the one that was there before, or else the one that is brought
 abbrev pub byte_then : Reassembly → ℕ → List ℕ → ℕ → Option ℕ
 byte_then r seq bytes k = option_or (byte_ahead r k) (brought r.next seq bytes k)
 
@@ -28,7 +28,7 @@ abbrev pub Received : Bool → Reassembly → Reassembly → List ℕ → List �
 Received true before after ready ready' seq bytes = BringsByte before seq bytes × Receives before after ready ready' seq bytes
 Received false before after ready ready' seq bytes = (¬ BringsByte before seq bytes) × (after ≡ before) × (ready' ≡ ready)
 
--- the bytes that are ready where bytes stand from the place expected next on: theirs, and those of the pieces that they reach
+-- what becomes ready when bytes stand from the place expected next on: those bytes, and those of the pieces that they reach
 abbrev pub run_of : Reassembly → List ℕ → List ℕ
 run_of r bytes = filled bytes 0 (take (reached (length bytes) r.pieces) r.pieces)
 

@@ -1,5 +1,5 @@
--- The lengths and numbers that the state of an endpoint has, the segments that it emits, and what a state at rest has to meet
--- (RFC 9293, sections 3.3.1, 3.4 and 3.8, with this project's window, flight and payload).
+-- The lengths and numbers of an endpoint's state, the segments that it emits, and what a state at rest has to satisfy (RFC 9293, sections 3.3.1, 3.4
+-- and 3.8, with this project's window, flight and payload).
 use Rattle.std.specs.Prelude.{ℕ, ◌<◌, ◌≤◌, ◌+◌, ◌-◌, ◌^◌, min, List, [], ◌∷◌, length, take, drop, map, false}
 use Rattle.graft_edge.specs.declared.ids.PeeringId.{PeeringId}
 use Rattle.tcp_seq.specs.Numbers.{plus, offset_from, number}
@@ -58,7 +58,7 @@ counted_from base ps = map {A = Piece} (λ p. record p { place = offset_from p.p
 abbrev pub raised : ℕ → List Piece → List Piece
 raised base ps = map {A = Piece} (λ p. record p { place = plus p.place base }) ps
 
--- the segment with so many bytes from a place of the stream on, and the number expected next
+-- the segment with this many bytes from a place of the stream on, and the number expected next
 abbrev pub segment_at : EndState → ℕ → ℕ → Segment
 segment_at s place len = record {
   peering = s.peering;
@@ -69,7 +69,7 @@ segment_at s place len = record {
   bytes = take len (drop (place - s.acked) s.waiting);
 }
 
--- how many bytes the next slice has: what is unsent and the flight of 15,360 leaves, at most 1,024
+-- how many bytes the next slice has: those that are unsent and fit in the flight of 15,360, at most 1,024
 abbrev pub next_length : EndState → ℕ
 next_length s = min 1024 (min (unsent s) (15360 - outstanding s))
 
@@ -85,15 +85,15 @@ pub record IsSending (s : EndState) : Type 0 where
   pub stream : stream_length s ≤ 2 ^ 20
   pub at_turn : s.acked_at_turn ≤ s.acked
 
--- Pieces stand from a place on: none is empty, each begins at the end of the one before or above, and ends at or below `high`.
+-- Pieces from a place on: none is empty, each begins at or above the end of the one before it, and ends at or below `high`.
 abbrev pub LieFrom : ℕ → ℕ → List Piece → Type 0
 LieFrom low high [] = Unit {0}
 LieFrom low high (p ∷ ps) =
     (low ≤ p.place) × (0 < length p.bytes) × (p.place + length p.bytes ≤ high) × LieFrom (p.place + length p.bytes) high ps
 
--- what a state at rest meets
+-- what a state at rest satisfies
 pub record IsEndState (s : EndState) : Type 0 where
   pub sending : IsSending s
   pub received : IsInStream (got s)
-  -- the pieces stand above the place expected next, which has no byte, and in the window
+  -- the pieces are above the place expected next, which has no byte, and in the window
   pub ahead : LieFrom (got s + 1) (got s + 16384) s.ahead

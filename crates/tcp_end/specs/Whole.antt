@@ -1,4 +1,4 @@
--- The endpoint over whole numbers of a state whose stream and whose read bytes are known.
+-- The endpoint over whole numbers that a state stands for, given its stream and the bytes that were read.
 use Rattle.std.specs.Prelude.{ℕ, ◌+◌, List, [], ◌∷◌, ◌++◌}
 use Rattle.std.specs.FinMap as map
 use Rattle.tcp_seq.specs.Endpoint.{Bytes, Endpoint}

@@ -1,4 +1,4 @@
-//! The bytes that arrive, between those that are ready and those that stand ahead of a hole.
+//! Receives bytes: those in order become ready, and those ahead of a hole are kept.
 
 ghost use Rattle.std.specs.Prelude.{ℕ, ◌≡◌, ◌<◌, ◌≤◌, ◌+◌, ◌-◌, ◌^◌, ◌++◌, length, take, drop, IfOk, OnOk, OnErr, fold};
 ghost use Rattle.std.specs.Bool.{OnTrue, OnFalse};
@@ -16,7 +16,7 @@ use std::mem;
 use tcp_reasm::{Reasm, in_window, part, remove_front};
 use tcp_seq::{Piece, Pieces, Seq};
 
-/// How far bytes go on from a place without a gap.
+/// Returns the place up to which pieces go on from a place without a gap.
 fn end_of_run(pieces: &[Piece], from: usize) -> usize
     ensures { result ≡ fold end_from from pieces.now }
 {
@@ -29,7 +29,7 @@ fn end_of_run(pieces: &[Piece], from: usize) -> usize
     })
 }
 
-/// Whether a place from one up to another has no byte.
+/// Whether a place from `from` up to `to` has no byte.
 fn has_hole(pieces: &[Piece], from: usize, to: usize) -> bool
     requires some { from < to }
     requires runs { AreRuns 0 pieces.now }
@@ -39,7 +39,7 @@ fn has_hole(pieces: &[Piece], from: usize, to: usize) -> bool
     end_of_run(pieces, from) < to
 }
 
-/// How many of the first pieces stand one behind the other from a place on.
+/// Returns how many of the first pieces are reached from a place on without a gap.
 fn reached_count(pieces: &[Piece], from: usize) -> usize
     ensures count { result ≡ reached from pieces.now }
     ensures within { result ≤ length pieces.now }
@@ -53,8 +53,8 @@ fn reached_count(pieces: &[Piece], from: usize) -> usize
     count
 }
 
-/// Adds bytes from the place expected next on, and those of the pieces that they reach. If
-/// memory runs out, some of them may be added.
+/// Adds bytes from the place expected next on, and those of the pieces that they reach. If memory runs
+/// out, some of them may have been added.
 fn add_some(ready: &mut ByteQueue, pieces: &[Piece], bytes: &[u8]) -> Result<(), NoMemory>
     ensures ok { OnOk result (ready.new ≡ ready.old ++ filled bytes.now 0 pieces.now) }
     ensures front { take (length ready.old) ready.new ≡ ready.old }
@@ -69,8 +69,8 @@ fn add_some(ready: &mut ByteQueue, pieces: &[Piece], bytes: &[u8]) -> Result<(),
     ready.extend(part(bytes, at, bytes.len()))
 }
 
-/// Adds bytes from the place expected next on, and those of the pieces that they reach. If
-/// memory runs out, none are added.
+/// Adds bytes from the place expected next on, and those of the pieces that they reach. If memory runs
+/// out, nothing changes.
 fn add_in_order(ready: &mut ByteQueue, pieces: &[Piece], bytes: &[u8]) -> Result<(), NoMemory>
     ensures ok { OnOk result (ready.new ≡ ready.old ++ filled bytes.now 0 pieces.now) }
     ensures err { OnErr result (ready.new ≡ ready.old) }
@@ -85,7 +85,7 @@ fn add_in_order(ready: &mut ByteQueue, pieces: &[Piece], bytes: &[u8]) -> Result
     }
 }
 
-/// Counts the places of pieces from a place of the stream, modulo 2^32.
+/// Counts the places of pieces from place `base` of the stream, modulo 2^32.
 pub(crate) fn count_from(pieces: &mut Vec<Piece>, base: u32)
     ensures { pieces.new.items ≡ counted_from base pieces.old.items }
 {
@@ -103,7 +103,7 @@ pub(crate) fn raise(pieces: &mut Vec<Piece>, base: u32)
     }
 }
 
-/// Takes the first pieces out, and expects a later place.
+/// Removes the first `count` pieces, and expects the place `by` further on.
 fn skipped(ahead: Reasm, count: usize, by: u32) -> Reasm
     requires some { count ≤ length ahead.pieces }
     requires runs { AreRuns (by + 1) (drop count ahead.pieces) }
@@ -118,7 +118,8 @@ fn skipped(ahead: Reasm, count: usize, by: u32) -> Reasm
     Reasm::from_pieces(next, Items::from_vec(pieces))
 }
 
-/// Makes bytes from the place expected next on ready, and those of the pieces that they reach.
+/// Makes bytes from the place expected next on ready, and those of the pieces that they reach. If
+/// memory runs out, nothing changes.
 fn receive_in_order(ready: &mut ByteQueue, ahead: &mut Reasm, bytes: &[u8]) -> Result<(), NoMemory>
     requires len { length bytes.now ≤ 16384 }
     requires runs { AreRuns 1 ahead.old.pieces }
@@ -136,8 +137,8 @@ fn receive_in_order(ready: &mut ByteQueue, ahead: &mut Reasm, bytes: &[u8]) -> R
     Ok(())
 }
 
-/// Keeps those of the bytes from a sequence number on that stand in the window and have no byte yet,
-/// and answers whether there is one. If memory runs out, nothing changes.
+/// Keeps those of the bytes from a sequence number on that are in the window and whose places have no
+/// byte yet, and returns whether there is one. If memory runs out, nothing changes.
 pub(crate) fn receive(
     ready: &mut ByteQueue,
     ahead: &mut Reasm,

@@ -1,26 +1,26 @@
-//! What a call answers.
+//! What a call of an endpoint returns.
 
 use graft_edge::NoMemory;
 use tcp_seq::Seq;
 use thiserror::Error;
 
-/// What a segment was that arrived (RFC 9293, section 3.10.7.4).
+/// What kind of segment arrived (RFC 9293, section 3.10.7.4).
 #[derive(Clone, Copy, Debug, PartialEq, Eq, Hash)]
 pub enum Arrival {
     /// It isn't acceptable.
     Outside,
-    /// It is acceptable, and acknowledges what wasn't emitted.
+    /// It is acceptable, and acknowledges bytes that weren't emitted.
     Ahead { ack: Seq },
-    /// It brings no byte and no acknowledgement that weren't there before.
+    /// It brings no new byte and no new acknowledgement.
     Duplicate,
-    /// It brings a byte or an acknowledgement.
+    /// It brings a new byte or a new acknowledgement.
     Accepted,
 }
 
-/// Why bytes aren't sent.
+/// Why bytes weren't sent.
 #[derive(Clone, Copy, Debug, PartialEq, Eq, Hash, Error)]
 pub enum SendStop {
-    /// The stream would have this length, and it has at most 1,048,576 bytes.
+    /// The stream would have this length, but a stream has at most 1,048,576 bytes.
     #[error("the stream would have {length} bytes")]
     Full { length: usize },
     #[error("no memory")]

@@ -1,4 +1,4 @@
-//! Endpoints.
+//! The endpoint of a connection.
 
 ghost use Rattle.std.specs.Prelude.{ℕ, ◌≡◌, ◌≢◌, ◌<◌, ◌≤◌, ◌+◌, ◌-◌, ◌^◌, ◌↔◌, ◌⊎◌, ◌++◌, length, take, drop, true, false, IsNone, IsSome, IfSome, IfOk, OnOk, OnErr, nat_lt, ◌||◌, if◌then◌else◌};
 ghost use Rattle.tcp_seq.specs.Numbers.{plus};
@@ -16,17 +16,17 @@ use std::marker::Model;
 use tcp_reasm::{Reasm, WINDOW};
 use tcp_seq::{AckKind, EndState, Segment, Seq, Way, acceptable, ack_kind};
 
-/// How many bytes may be outstanding.
+/// The most bytes that may be outstanding.
 const FLIGHT: u32 = 15_360;
 
-/// How many bytes a segment has at most.
+/// The most bytes of a segment.
 const PAYLOAD: u32 = 1_024;
 
-/// How many bytes the stream that is sent has at most.
+/// The most bytes of the stream that is sent.
 const STREAM: usize = 1_048_576;
 
-/// One end of a connection. Contracts see its state as it would be handed over, and which endpoint over
-/// whole numbers that stands for.
+/// One end of a connection. Contracts see its state as it would be handed over, and the endpoint over
+/// whole numbers that this state stands for.
 #[derive(Debug, Drop)]
 pub struct End {
     way: Way,
@@ -55,14 +55,14 @@ impl Model for End {
     ghost invariant = { Keeps };
 }
 
-/// Whether an answer is owed after a segment with these bytes was taken in.
+/// Whether an acknowledgement is owed after a segment with these bytes was accepted.
 fn owes(owed: bool, bytes: &[u8]) -> bool
     ensures { result ≡ owed || nat_lt 0 (length bytes.now) }
 {
     owed || !bytes.is_empty()
 }
 
-/// What a segment was that was taken in.
+/// Returns what kind of segment was accepted.
 fn taken_as(brings: bool, acked: u32) -> Arrival
     ensures { result ≡ (if brings || nat_lt 0 acked then Arrival.Accepted else Arrival.Duplicate) }
 {
@@ -74,8 +74,8 @@ fn taken_as(brings: bool, acked: u32) -> Arrival
 }
 
 impl End {
-    /// An endpoint that sends to a side, with the numbers of the first byte that it sends and of the
-    /// first that it receives.
+    /// Returns an endpoint that sends to a side, with the numbers of the first byte that it sends and
+    /// of the first byte that it receives.
     pub fn new(
         alloc: Global,
         way: Way,
@@ -102,47 +102,48 @@ impl End {
         })
     }
 
-    /// The side that it sends to.
+    /// Returns the side that it sends to.
     pub fn way(&self) -> Way
         ensures { result ≡ self.now.way }
     {
         self.way
     }
 
-    /// The peering that its connection belongs to.
+    /// Returns the peering that its connection belongs to.
     pub fn peering(&self) -> PeeringId
         ensures { result ≡ self.now.peering }
     {
         self.peering
     }
 
-    /// The length of the stream that it sends.
+    /// Returns the length of the stream that it sends.
     pub fn stream_len(&self) -> u32
         ensures { result ≡ stream_length self.now }
     {
         self.acked + self.waiting.len() as u32
     }
 
-    /// How many bytes of the stream were emitted at least once.
+    /// Returns how many bytes of the stream were emitted at least once.
     pub fn emitted(&self) -> u32
         ensures { result ≡ self.now.sent }
     {
         self.sent
     }
 
-    /// How many bytes of the stream were acknowledged.
+    /// Returns how many bytes of the stream were acknowledged.
     pub fn acked(&self) -> u32
         ensures { result ≡ self.now.acked }
     {
         self.acked
     }
 
-    /// Adds bytes to the stream that it sends, which has at most 1,048,576.
+    /// Adds bytes to the stream that it sends, which has at most 1,048,576. If that would be exceeded
+    /// or memory runs out, nothing changes.
     pub fn send(&mut self, bytes: &[u8]) -> Result<(), SendStop>
         ensures ok { OnOk result (self.new ≡ record self.old { waiting = self.old.waiting ++ bytes.now }) }
         ensures fits { OnOk result (stream_length self.old + length bytes.now ≤ 2 ^ 20) }
 
-        // It is full exactly where the stream would pass its limit, and then the length is told.
+        // It is full if and only if the stream would exceed its limit; then the length is reported.
         ensures full { 2 ^ 20 < stream_length self.old + length bytes.now → result ≡ Err (SendStop.Full (stream_length self.old + length bytes.now)) }
         ensures only_full { (n : ℕ) → result ≡ Err (SendStop.Full n) → (n ≡ stream_length self.old + length bytes.now) × (2 ^ 20 < n) }
         ensures err { OnErr result (self.new ≡ self.old) }
@@ -155,7 +156,7 @@ impl End {
         Ok(self.waiting.extend(bytes)?)
     }
 
-    /// Takes back the last `n` bytes of the stream, none of which was emitted, as if they had never been
+    /// Removes the last `n` bytes of the stream, none of which was emitted, as if they had never been
     /// sent.
     pub fn take_back(&mut self, n: usize)
         requires { n ≤ unsent self.old }
@@ -164,7 +165,7 @@ impl End {
         self.waiting.truncate(self.waiting.len() - n);
     }
 
-    /// The segment with so many bytes from a place of the stream on.
+    /// Returns the segment with `len` bytes from a place of the stream on.
     fn segment_at(&self, place: u32, len: u32) -> Result<Segment, NoMemory>
         requires from { self.now.acked ≤ place }
         requires to { place + len ≤ stream_length self.now }
@@ -182,7 +183,7 @@ impl End {
         })
     }
 
-    /// How many bytes the next slice has.
+    /// Returns how many bytes the next slice has.
     fn next_len(&self) -> u32
         ensures { result ≡ next_length self.now }
     {
@@ -191,8 +192,9 @@ impl End {
         PAYLOAD.min(unsent.min(room))
     }
 
-    /// The next bytes that were never emitted: as many as there are and as the flight of 15,360
-    /// outstanding bytes leaves, at most 1,024.
+    /// Emits the next bytes that were never emitted: as many as there are and as fit in the flight of
+    /// 15,360 outstanding bytes, at most 1,024. Returns `None` if there are none. If memory runs out,
+    /// nothing changes.
     pub fn next_segment(&mut self) -> Result<Option<Segment>, NoMemory>
         ensures none { IfOk result (λ answer. IsNone answer ↔ ((unsent self.old ≡ 0) ⊎ (outstanding self.old ≡ 15360))) }
         ensures slice { IfOk result (λ answer. IfSome answer (λ segment. segment ≡ segment_at self.old self.old.sent (next_length self.old))) }
@@ -209,8 +211,9 @@ impl End {
         Ok(Some(segment))
     }
 
-    /// A retransmission turn: the first 1,024 outstanding bytes again, or all of them, unless some were
-    /// acknowledged since the last turn.
+    /// Makes a retransmission turn: emits the first 1,024 outstanding bytes again, or all if there are
+    /// fewer. Returns `None` if there are none, or if some were acknowledged since the last turn. If
+    /// memory runs out, nothing changes.
     pub fn turn(&mut self) -> Result<Option<Segment>, NoMemory>
         ensures none { IfOk result (λ answer. IsNone answer ↔ ((outstanding self.old ≡ 0) ⊎ (self.old.acked_at_turn < self.old.acked))) }
         ensures slice { IfOk result (λ answer. IfSome answer (λ segment. segment ≡ segment_at self.old self.old.acked (again_length self.old))) }
@@ -226,8 +229,8 @@ impl End {
         Ok(Some(self.segment_at(self.acked, len)?))
     }
 
-    /// The answer that is owed: a segment without bytes, at the number that is sent next. It takes no
-    /// memory.
+    /// Returns the acknowledgement that is owed, if one is: a segment without bytes, at the number that
+    /// is sent next. It allocates nothing.
     pub fn answer(&mut self) -> Option<Segment>
         ensures some { IsSome result ↔ (self.old.owed ≡ true) }
         ensures empty { IfSome result (λ segment. segment ≡ segment_at self.old self.old.sent 0) }
@@ -248,7 +251,7 @@ impl End {
         })
     }
 
-    /// What an acknowledgement says of the bytes that were emitted.
+    /// Returns what an acknowledgement says of the bytes that were emitted.
     fn ack_kind(&self, segment: &Segment) -> AckKind
         ensures { Says result self.now segment.now }
     {
@@ -256,7 +259,8 @@ impl End {
         ack_kind(una, self.send_first.plus(self.sent), segment.ack)
     }
 
-    /// Takes a segment in that is acceptable, and of which so many outstanding bytes are acknowledged.
+    /// Accepts an acceptable segment, which newly acknowledges `acked` outstanding bytes. If memory
+    /// runs out, nothing changes.
     fn take_in(&mut self, segment: &Segment, acked: u32) -> Result<Arrival, NoMemory>
         requires len { length segment.now.bytes < 2 ^ 16 }
         requires acked { acked ≤ outstanding self.old }
@@ -272,7 +276,8 @@ impl End {
         Ok(taken_as(brings, acked))
     }
 
-    /// Tests an arriving segment by its numbers, and takes it in or drops it.
+    /// Checks an arriving segment by its numbers, and accepts it or drops it. If memory runs out,
+    /// nothing changes.
     fn arrive_by_numbers(&mut self, segment: &Segment) -> Result<Arrival, NoMemory>
         requires { length segment.now.bytes < 2 ^ 16 }
         ensures arrival { IfOk result (λ arrival. IsArrival arrival self.old segment.now) }
@@ -298,12 +303,12 @@ impl End {
         }
     }
 
-    /// Takes a segment that arrives, of this end's peering, sent to this end's side, with at most 65,535
-    /// bytes. A segment that isn't acceptable, or that acknowledges what wasn't emitted, is dropped. Of any
-    /// other one, the bytes in the window of 16,384 places from the one expected next on are kept, where a
-    /// place that has a byte keeps it, and its acknowledgement counts where it is new. An answer is owed
-    /// where the segment is dropped or has bytes (RFC 9293, section 3.10.7.4). If memory runs out, nothing
-    /// changes.
+    /// Takes a segment that arrives. It has to be of this end's peering, sent to this end's side, with
+    /// at most 65,535 bytes. A segment that isn't acceptable, or that acknowledges bytes that weren't
+    /// emitted, is dropped. Of any other segment, the bytes in the window of 16,384 places from the one
+    /// expected next on are kept, where a place that has a byte keeps it, and a new acknowledgement
+    /// counts. An acknowledgement is owed if the segment is dropped or has bytes (RFC 9293, section
+    /// 3.10.7.4). If memory runs out, nothing changes.
     pub fn arrive(&mut self, segment: &Segment) -> Result<Arrival, NoMemory>
         requires peering { segment.now.peering ≡ self.old.peering }
         requires way { segment.now.way ≢ self.old.way }
@@ -316,14 +321,14 @@ impl End {
         self.arrive_by_numbers(segment)
     }
 
-    /// The bytes that were received in order and not yet read.
+    /// Returns the bytes that were received in order and not yet read.
     pub fn ready(&self) -> &[u8]
         ensures { result.now ≡ self.now.ready }
     {
         self.ready.as_slice()
     }
 
-    /// Reads the first `n` ready bytes, of which there are at least as many. They are no longer ready.
+    /// Reads the first `n` ready bytes, of which there have to be as many. They are no longer ready.
     pub fn read(&mut self, n: usize)
         requires { n ≤ length self.old.ready }
         ensures after { self.new ≡ record self.old { taken = plus self.old.taken n; ready = drop n self.old.ready } }
@@ -333,12 +338,12 @@ impl End {
         self.taken = self.taken.wrapping_add((n % (1 << 32)) as u32);
     }
 
-    /// The end's state at rest, to be handed over. This takes no memory.
+    /// Returns the end's state at rest, to be handed over. It allocates nothing.
     pub fn export(self) -> EndState
         ensures same { result ≡ self }
         ensures endpoint { (e : Endpoint) → EndStands self e → EndStands result e }
 
-        // It can be imported, unless more was received than any stream of 1 MiB and its window have.
+        // It can be imported, unless more was received than a stream of 1 MiB and its window have.
         ensures sending { IsSending result }
         ensures at_rest { IsInStream (got result) → IsEndState result }
     {
@@ -375,11 +380,12 @@ impl End {
         }
     }
 
-    /// The end that has this state. This takes no memory. The state has `acked` at most `sent`, which is at
-    /// most the stream's length and at most `acked` plus 15,360; a stream of at most 1,048,576 bytes; and
-    /// `acked_at_turn` at most `acked`. At most 1,114,112 bytes were received, those that were read and those
-    /// that are ready. Each piece of `ahead` has bytes, begins above the place expected next and at or above
-    /// the end of the piece before, and ends at or below the 16,384th place from the one expected next on.
+    /// Returns the end that has this state. It allocates nothing. In the state `acked` is at most
+    /// `sent`, which is at most the stream's length and at most `acked` plus 15,360. The stream has at
+    /// most 1,048,576 bytes, and `acked_at_turn` is at most `acked`. At most 1,114,112 bytes were
+    /// received, counting those that were read and those that are ready. Each piece of `ahead` has
+    /// bytes, begins above the place expected next and at or above the end of the piece before it, and
+    /// ends at or below the 16,384th place from the one expected next on.
     pub fn import(state: EndState) -> End
         requires { IsEndState state }
         ensures same { result ≡ state }

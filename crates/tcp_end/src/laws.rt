@@ -19,7 +19,8 @@ pub fn calls_are_steps()
         → PairRun (fresh_pair peering near_way far_way near_first far_first) pairs last → PairFollows last }
 {}
 
-/// What was read of the other side's stream and what is ready are its first bytes, as many as were received.
+/// What was read of the other side's stream, followed by what is ready, is the first part of that
+/// stream, as long as what was received.
 pub fn received_are_first_bytes()
     ensures there { (pair : EndPair) (c : Connection) → PairStands pair c → IsConnection c
         → take pair.far.state.taken c.near.end.stream ++ pair.far.state.ready ≡ take (got pair.far.state) c.near.end.stream }
@@ -27,7 +28,7 @@ pub fn received_are_first_bytes()
         → take pair.near.state.taken c.far.end.stream ++ pair.near.state.ready ≡ take (got pair.near.state) c.far.end.stream }
 {}
 
-/// The endpoint that a state stands for is known by its stream and by the bytes that were read.
+/// The endpoint that a state stands for is determined by its stream and by the bytes that were read.
 pub fn an_endpoint_is_its_state()
     ensures { (s : EndState) (e : Endpoint) (stream read : List ℕ) → EndStands s e → e.stream ≡ stream → take e.read (received_bytes e) ≡ read → e ≡ endpoint_of stream read s }
 {}

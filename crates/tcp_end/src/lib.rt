@@ -1,4 +1,4 @@
-//! The endpoint of a connection: the stream that it sends, what of it was emitted and acknowledged,
+//! The endpoint of a connection: the stream that it sends, how much of it was emitted and acknowledged,
 //! what it received of the other stream (RFC 9293, sections 3.4, 3.8 and 3.10.7.4), and how it is
 //! handed over.
 #![tactic(auto)]

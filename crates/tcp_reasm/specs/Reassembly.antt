@@ -44,7 +44,7 @@ abbrev pub PutsAll : Reassembly → List Put → Reassembly → Type 0
 PutsAll before [] after = after ≡ before
 PutsAll before (p ∷ ps) after = (between : Reassembly) × Puts before between p.seq p.bytes × PutsAll between ps after
 
--- each byte that the puts bring to a place from `next` on is that of one stream
+-- each byte that the puts bring to a place from `next` on is the one of this stream
 abbrev pub AreOf : (ℕ → ℕ) → ℕ → List Put → Type 0
 AreOf stream next [] = Unit {0}
 AreOf stream next (p ∷ ps) = ((k byte : ℕ) → brought next p.seq p.bytes k ≡ Some byte → byte ≡ stream k) × AreOf stream next ps
@@ -54,6 +54,6 @@ abbrev pub covers : ℕ → List Put → ℕ → Bool
 covers next [] k = false
 covers next (p ∷ ps) k = is_some (brought next p.seq p.bytes k) || covers next ps k
 
--- nothing, with the number expected first
+-- an empty reassembly that expects this number first
 abbrev pub nothing_from : ℕ → Reassembly
 nothing_from next = record { next = next; pieces = [] }

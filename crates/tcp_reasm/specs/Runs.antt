@@ -9,8 +9,8 @@ abbrev pub held : List Piece → ℕ → Option ℕ
 held [] k = None
 held (p ∷ ps) k = option_or (byte_from p.place p.bytes k) (held ps k)
 
--- The pieces stand in rising order, none overlapping another: none is empty, each begins at `low` or above, at the end of the one
--- before it or above, and ends in a window of 16,384.
+-- The pieces are in ascending order and don't overlap: none is empty, and each begins at `low` or above, begins at the end of the one before it or
+-- above, and ends in a window of 16,384.
 abbrev pub AreRuns : ℕ → List Piece → Type 0
 AreRuns low [] = Unit {0}
 AreRuns low (p ∷ ps) =

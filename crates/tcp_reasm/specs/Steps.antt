@@ -1,4 +1,4 @@
--- What the steps of a put and of a taking answer.
+-- What the steps of putting and taking bytes answer.
 use Rattle.std.specs.Prelude.{ℕ, suc, ◌+◌, ◌-◌, nat_lt, nat_le, max, if◌then◌else◌, List, [], ◌∷◌, ◌++◌, length, take, drop, map, ◌==◌, Option, None, is_some}
 use Rattle.std.specs.List.{flat_map}
 use Rattle.tcp_seq.specs.declared.state.Piece.{Piece}
@@ -26,7 +26,7 @@ runs_outside place bytes at (p ∷ ps) = run_between place bytes at p.place ++ r
 abbrev pub where_none : Option ℕ → Option ℕ → Option ℕ
 where_none there byte = if is_some there then None else byte
 
--- how many of the first pieces stand one behind the other from a place on
+-- how many of the first pieces follow one another without a gap from a place on
 abbrev pub in_order : ℕ → List Piece → ℕ
 in_order at [] = 0
 in_order at (p ∷ ps) = if p.place == at then suc (in_order (at + length p.bytes) ps) else 0
@@ -35,6 +35,6 @@ in_order at (p ∷ ps) = if p.place == at then suc (in_order (at + length p.byte
 abbrev pub bytes_of : List Piece → List ℕ
 bytes_of ps = flat_map {X = Piece} (λ p. p.bytes) ps
 
--- the pieces with their places counted from a later one
+-- the pieces with their places lowered, counted from a later place
 abbrev pub lowered : ℕ → List Piece → List Piece
 lowered by ps = map {A = Piece} (λ p. record p { place = p.place - by }) ps

@@ -1,4 +1,4 @@
-//! Puts the bytes of a stream in order, whose segments arrive in any order, overlap and repeat.
+//! Puts the bytes of a stream in order. Its segments may arrive in any order, overlap and repeat.
 #![tactic(auto)]
 
 mod laws;

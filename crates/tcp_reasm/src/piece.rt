@@ -10,10 +10,10 @@ use graft_edge::{NoMemory, Octets};
 use std::alloc::{AllocError, Global};
 use tcp_seq::Piece;
 
-/// How many places from the one expected next on are kept.
+/// The number of places that are kept, from the one expected next on.
 pub const WINDOW: u32 = 16_384;
 
-/// How many of the first pieces end at or below a place.
+/// Returns how many of the first pieces end at or below a place.
 fn passed_count(pieces: &[Piece], place: usize) -> usize
     requires { AreRuns 0 pieces.now }
     ensures count { result ≡ passed place pieces.now }
@@ -22,7 +22,7 @@ fn passed_count(pieces: &[Piece], place: usize) -> usize
     pieces.partition_point(|piece| piece.end() <= place)
 }
 
-/// How many of the first pieces begin below a place.
+/// Returns how many of the first pieces begin below a place.
 fn begun_count(pieces: &[Piece], place: usize) -> usize
     requires { AreRuns 0 pieces.now }
     ensures count { result ≡ begun place pieces.now }
@@ -31,7 +31,7 @@ fn begun_count(pieces: &[Piece], place: usize) -> usize
     pieces.partition_point(|piece| (piece.place as usize) < place)
 }
 
-/// The bytes from one index up to another, as far as there are any.
+/// Returns the bytes from one index up to another, as far as there are any.
 pub fn part(bytes: &[u8], from: usize, to: usize) -> &[u8]
     ensures { result.now ≡ take (to - from) (drop from bytes.now) }
 {
@@ -40,7 +40,7 @@ pub fn part(bytes: &[u8], from: usize, to: usize) -> &[u8]
     &bytes[from..to]
 }
 
-/// Adds a piece of the bytes that stand from a place on, those from `at` up to `to`, if there are any.
+/// Adds the bytes from place `at` up to `to` as a piece, if there are any; `bytes` begin at `place`.
 fn add_run(
     runs: &mut Vec<Piece>,
     place: usize,
@@ -61,7 +61,7 @@ fn add_run(
     Ok(runs.push(Piece { place, bytes })?)
 }
 
-/// The runs of bytes from a place on that stand between pieces and behind them.
+/// Returns the runs of bytes from a place on that lie between pieces and behind them.
 fn runs_outside(
     alloc: Global,
     pieces: &[Piece],
@@ -82,7 +82,7 @@ fn runs_outside(
     Ok(runs)
 }
 
-/// The bytes from a place on whose places no piece has, each run of them as one piece.
+/// Returns the bytes from a place on whose places no piece has, each run of them as one piece.
 fn missing(
     alloc: Global,
     pieces: &[Piece],
@@ -99,7 +99,7 @@ fn missing(
     runs_outside(alloc, near, place, bytes)
 }
 
-/// Puts a piece among others, none of which it overlaps. There is room for it.
+/// Inserts a piece among others, none of which it overlaps. There has to be room for it.
 fn place_one(pieces: &mut Vec<Piece>, piece: Piece)
     requires room { vec_len pieces.old < vec_capacity pieces.old }
     requires runs { AreRuns 0 pieces.old.items }
@@ -112,11 +112,11 @@ fn place_one(pieces: &mut Vec<Piece>, piece: Piece)
     ensures capacity { vec_capacity pieces.old ≤ vec_capacity pieces.new }
 {
     let index = begun_count(pieces.as_slice(), piece.place as usize);
-    // where there is room, this takes no memory and succeeds
+    // there is room, so this takes no memory and succeeds
     let _ = pieces.insert(index, piece);
 }
 
-/// Puts pieces among others, none of which they overlap. There is room for them.
+/// Inserts pieces among others, none of which they overlap. There has to be room for them.
 fn place_all(pieces: &mut Vec<Piece>, mut more: Vec<Piece>)
     requires room { vec_len pieces.old + vec_len more ≤ vec_capacity pieces.old }
     requires runs { AreRuns 0 pieces.old.items }
@@ -130,7 +130,8 @@ fn place_all(pieces: &mut Vec<Piece>, mut more: Vec<Piece>)
     }
 }
 
-/// Puts bytes from a place on among the pieces. What stands there already stays.
+/// Inserts bytes from a place on among the pieces. A place that has a byte keeps it. If memory runs
+/// out, nothing changes.
 pub(crate) fn insert(pieces: &mut Vec<Piece>, place: u32, bytes: &[u8]) -> Result<(), NoMemory>
     requires within { place + length bytes.now ≤ 16384 }
     requires runs { AreRuns 0 pieces.old.items }
@@ -139,14 +140,14 @@ pub(crate) fn insert(pieces: &mut Vec<Piece>, place: u32, bytes: &[u8]) -> Resul
     ensures err { OnErr result (pieces.new.items ≡ pieces.old.items) }
 {
     let runs = missing(*pieces.allocator(), pieces.as_slice(), place, bytes)?;
-    // nothing is put before there is memory for all
+    // nothing is inserted before there is memory for all
     pieces.reserve(runs.len())?;
     place_all(pieces, runs);
     Ok(())
 }
 
-/// How many of the first pieces stand one behind the other from the place that places are counted from,
-/// and how many bytes they have.
+/// Returns how many of the first pieces follow one another without a gap from the place that places are
+/// counted from, and how many bytes they have.
 pub(crate) fn ready(pieces: &[Piece]) -> (usize, usize)
     requires { AreRuns 0 pieces.now }
     ensures count { result.0 ≡ in_order 0 pieces.now }
@@ -163,7 +164,7 @@ pub(crate) fn ready(pieces: &[Piece]) -> (usize, usize)
     (count, end)
 }
 
-/// Appends the bytes of pieces, of which there are `len`. If memory runs out, nothing is appended.
+/// Appends the bytes of pieces, which are `len` bytes in all. If memory runs out, nothing is appended.
 fn extend_all(out: &mut Vec<u8>, pieces: &[Piece], len: usize) -> Result<(), AllocError>
     requires { len ≡ length (bytes_of pieces.now) }
     ensures ok { OnOk result (out.new.items ≡ out.old.items ++ bytes_of pieces.now) }
@@ -171,13 +172,13 @@ fn extend_all(out: &mut Vec<u8>, pieces: &[Piece], len: usize) -> Result<(), All
 {
     out.reserve(len)?;
     for piece in pieces {
-        // where there is room, this takes no memory and succeeds
+        // there is room, so this takes no memory and succeeds
         let _ = out.extend_from_slice(piece.bytes.as_slice());
     }
     Ok(())
 }
 
-/// Appends the bytes of pieces, of which there are `len`. If memory runs out, nothing is appended.
+/// Appends the bytes of pieces, which are `len` bytes in all. If memory runs out, nothing is appended.
 pub(crate) fn append(
     alloc: Global,
     out: &mut Octets,
@@ -194,7 +195,7 @@ pub(crate) fn append(
     Ok(appended?)
 }
 
-/// Counts the places of pieces from a later one.
+/// Lowers the places of pieces by `by`, so that they are counted from a later place.
 fn lower(pieces: &mut Vec<Piece>, by: u32)
     ensures { pieces.new.items ≡ lowered by pieces.old.items }
 {
@@ -203,7 +204,7 @@ fn lower(pieces: &mut Vec<Piece>, by: u32)
     }
 }
 
-/// Removes the first `count` pieces, of which there are at least as many. This takes no memory, and each
+/// Removes the first `count` pieces, of which there have to be as many. It allocates nothing, and each
 /// of the others moves once.
 pub fn remove_front(pieces: &mut Vec<Piece>, count: usize)
     requires { count ≤ length pieces.old.items }
@@ -216,7 +217,7 @@ pub fn remove_front(pieces: &mut Vec<Piece>, count: usize)
     pieces.truncate(left);
 }
 
-/// Removes the first pieces, and counts the places of the others from a later one.
+/// Removes the first `count` pieces, and lowers the places of the others by `by`.
 pub(crate) fn remove_first(pieces: &mut Vec<Piece>, count: usize, by: u32)
     requires { count ≤ length pieces.old.items }
     ensures { pieces.new.items ≡ lowered by (drop count pieces.old.items) }

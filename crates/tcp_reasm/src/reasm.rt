@@ -1,4 +1,4 @@
-//! Reassembly.
+//! Reassembly of a stream.
 
 ghost use Rattle.std.specs.Prelude.{ℕ, ◌≡◌, ◌<◌, ◌≤◌, ◌+◌, ◌^◌, [], length, IfOk, OnOk, OnErr};
 ghost use Rattle.tcp_reasm.specs.Runs.{AreRuns};
@@ -11,9 +11,10 @@ use std::alloc::Global;
 use std::marker::Model;
 use tcp_seq::{Piece, Pieces, Seq};
 
-/// The bytes of a stream that arrived and weren't given out yet, in the window of 16,384 places from the
-/// one expected next on. Contracts see the number expected next and the pieces that stand there, each with
-/// its place counted from the one expected next: rising, none overlapping another, none empty.
+/// The bytes of a stream that arrived and weren't given out yet, in the window of 16,384 places from
+/// the one expected next on. Contracts see the number expected next and the pieces in the window, each
+/// with its place counted from the one expected next. The pieces are in ascending order, none overlaps
+/// another, and none is empty.
 #[derive(Debug, Drop)]
 pub struct Reasm {
     next: Seq,
@@ -31,8 +32,8 @@ impl Model for Reasm {
     ghost invariant = { λ r. AreRuns 0 r.pieces.items };
 }
 
-/// The part of at most 65,535 bytes from a sequence number on that stands in the window of 16,384 places
-/// from `next` on, with its place counted from there.
+/// Returns the part of the bytes from a sequence number on, at most 65,535, that is in the window of
+/// 16,384 places from `next` on, with its place counted from there.
 pub fn in_window(next: Seq, seq: Seq, bytes: &[u8]) -> (u32, &[u8])
     requires { length bytes.now < 2 ^ 16 }
     ensures within { result.0 + length result.1.now ≤ 16384 }
@@ -49,7 +50,8 @@ pub fn in_window(next: Seq, seq: Seq, bytes: &[u8]) -> (u32, &[u8])
 }
 
 impl Reasm {
-    /// Nothing arrived yet. `first` is the number of the stream's first byte.
+    /// Returns a reassembly to which nothing arrived yet. `first` is the number of the stream's first
+    /// byte.
     pub fn new(alloc: Global, first: Seq) -> Reasm
         ensures { result ≡ record { next = first.0; pieces = [] } }
     {
@@ -59,16 +61,16 @@ impl Reasm {
         }
     }
 
-    /// The sequence number expected next.
+    /// Returns the sequence number expected next.
     pub fn next(&self) -> Seq
         ensures { result.0 ≡ self.now.next }
     {
         self.next
     }
 
-    /// Keeps those bytes from a sequence number on that stand in the window: from the place expected next up
-    /// to, and not including, the 16,384th after it. A place that has a byte keeps it. At most 65,535 bytes
-    /// are put at a time. If memory runs out, nothing is put.
+    /// Keeps those bytes from a sequence number on that are in the window: from the place expected next
+    /// up to, and not including, the 16,384th after it. A place that has a byte keeps it. `bytes` has
+    /// at most 65,535 bytes. If memory runs out, nothing changes.
     pub fn put(&mut self, seq: Seq, bytes: &[u8]) -> Result<(), NoMemory>
         requires { length bytes.now < 2 ^ 16 }
         ensures ok { OnOk result (Puts self.old self.new seq.0 bytes.now) }
@@ -79,8 +81,8 @@ impl Reasm {
         insert(&mut self.pieces, place, kept)
     }
 
-    /// Appends all bytes that stand in order from the number expected next to `out`, and expects the number
-    /// after them. Returns how many there were. If memory runs out, nothing changes.
+    /// Appends to `out` all bytes that are in order from the number expected next, and expects the
+    /// number after them. Returns how many bytes it appended. If memory runs out, nothing changes.
     pub fn take_ready(&mut self, out: &mut Octets) -> Result<usize, NoMemory>
         ensures ok { IfOk result (λ n. TakesReady self.old self.new out.old out.new n) }
         ensures err { OnErr result (self.new ≡ self.old) }
@@ -94,7 +96,8 @@ impl Reasm {
         Ok(len)
     }
 
-    /// The pieces that stand ahead of the number expected next, each with its place counted from there.
+    /// Returns the pieces that stand ahead of the number expected next, each with its place counted
+    /// from there.
     pub fn pieces(&self) -> &[Piece]
         ensures pieces { result.now ≡ self.now.pieces }
         ensures runs { AreRuns 0 result.now }
@@ -102,7 +105,7 @@ impl Reasm {
         self.pieces.as_slice()
     }
 
-    /// The same pieces, taken out. This takes no memory.
+    /// Returns the pieces by value, as `pieces` gives them. It allocates nothing.
     pub fn into_pieces(self) -> Pieces
         ensures pieces { result ≡ self.pieces }
         ensures runs { AreRuns 0 result }
@@ -111,9 +114,9 @@ impl Reasm {
         Items::from_vec(pieces)
     }
 
-    /// A reassembly that expects this number next and has these pieces, each with its place counted from
-    /// there. They rise, none overlaps another or is empty, and each ends in the window of 16,384 places. This
-    /// takes no memory.
+    /// Returns a reassembly that expects this number next and has these pieces, each with its place
+    /// counted from there. They have to be in ascending order, none overlaps another or is empty, and
+    /// each ends in the window of 16,384 places. It allocates nothing.
     pub fn from_pieces(next: Seq, pieces: Pieces) -> Reasm
         requires { AreRuns 0 pieces }
         ensures { result ≡ record { next = next.0; pieces = pieces } }

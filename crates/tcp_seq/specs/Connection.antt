@@ -1,5 +1,5 @@
--- A connection: two endpoints that are joined by nothing but the segments that each ever emitted, which may arrive in any order,
--- any number of times or never.
+-- A connection: two endpoints that are joined only by the segments that each ever emitted, which may arrive in any order, any number of times or
+-- never.
 use Rattle.std.specs.Prelude.{ℕ, ◌≡◌, ◌⊎◌, ◌<◌, ◌≤◌, ◌+◌, ◌^◌, List, [], ◌∷◌, ◌++◌, length, take, drop, Contains, Some, slice_get}
 use Rattle.std.specs.FinMap as map
 use Rattle.tcp_seq.specs.Endpoint.{Endpoint, PlacedSegment, SendsBytes, EmitsSlice, EmitsEmpty, ReadsBytes, TakesSegment, fresh_endpoint, received, received_bytes}
@@ -39,7 +39,7 @@ abbrev pub SideTakes : List PlacedSegment → Side → Side → Type 0
 SideTakes theirs before after =
     (segment : PlacedSegment) × Contains theirs segment × TakesSegment before.end segment after.end × (after.emitted ≡ before.emitted)
 
--- one side makes a step, to which the other one emitted these segments
+-- one side makes a step, when the other has emitted these segments
 abbrev pub SideSteps : List PlacedSegment → Side → Side → Type 0
 SideSteps theirs before after = SideSends before after ⊎ SideEmits before after ⊎ SideReads before after ⊎ SideTakes theirs before after
 
@@ -48,13 +48,13 @@ ConnectionStep before after =
     (SideSteps before.far.emitted before.near after.near × (after.far ≡ before.far))
     ⊎ (SideSteps before.near.emitted before.far after.far × (after.near ≡ before.near))
 
--- steps from one connection over a list of others to the last
+-- steps from one connection, through those of a list, to the last
 abbrev pub ConnectionRun : Connection → List Connection → Connection → Type 0
 ConnectionRun before [] after = after ≡ before
 ConnectionRun before (next ∷ rest) after = ConnectionStep before next × ConnectionRun next rest after
 
--- What each segment is that an endpoint emitted: a slice of its stream, which ends at or below what it emitted, has at most 1,024 bytes
--- and acknowledges at most what it received.
+-- What each segment is that an endpoint emitted: a slice of its stream, which ends at or below the emitted length, has at most 1,024 bytes and
+-- acknowledges at most what the endpoint received.
 pub record IsEmittedBy (e : Endpoint) (segment : PlacedSegment) : Type 0 where
   pub within : segment.place + length segment.bytes ≤ e.emitted
   pub short : length segment.bytes ≤ 1024
@@ -70,7 +70,7 @@ pub record IsAmong (segments : List PlacedSegment) (place : ℕ) : Type 0 where
 
 -- What one endpoint has of the stream that another sends.
 pub record Flows (from to : Endpoint) : Type 0 where
-  -- the acknowledged length is at most the received one, that at most the emitted one, that at most the stream's
+  -- the acknowledged length is at most the received length, which is at most the emitted length, which is at most the stream's length
   pub acked : from.acked ≤ received to
   pub within : received to ≤ from.emitted
   pub emitted : from.emitted ≤ length from.stream
@@ -81,18 +81,18 @@ pub record Flows (from to : Endpoint) : Type 0 where
   pub bytes : received_bytes to ≡ take (received to) from.stream
   pub arrived : (place byte : ℕ) → map.get to.arrived place ≡ Some byte → (place < from.emitted) × (slice_get from.stream place ≡ Some byte)
 
--- Two endpoints that are joined by segments, wherever these are: each has of the other's stream what flows to it.
+-- Two endpoints that are joined by segments, wherever these are: to each of them flows the stream of the other.
 pub record AreLinked (x y : Endpoint) : Type 0 where
   pub there : Flows x y
   pub back : Flows y x
 
--- An endpoint that was linked with another has become one that is, and whose segments all earlier ones still are.
+-- An endpoint that was linked with another has become one that is linked with it, and each segment that it emitted before still is one of its own.
 pub record StaysLinked (before after other : Endpoint) : Type 0 where
   pub linked : AreLinked after other
   pub still : (segment : PlacedSegment) → IsEmittedBy before segment → IsEmittedBy after segment
 
--- What one side has of the stream that the other sends, and the segments that the other ever emitted, of which one has each place below the
--- emitted length.
+-- What one side has of the stream that the other sends, and the segments that the other ever emitted; for each place below the emitted length there
+-- is one that has it.
 pub record IsCarried (from to : Side) : Type 0 where
   pub flows : Flows from.end to.end
   pub segments : (segment : PlacedSegment) → Contains from.emitted segment → IsEmittedBy from.end segment

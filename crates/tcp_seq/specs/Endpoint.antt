@@ -1,6 +1,6 @@
--- The endpoint of a connection over whole numbers: places of streams in place of numbers that wrap around, and the byte that each
--- place of the other stream got first in place of buffers (RFC 9293, sections 3.4, 3.8 and 3.10.7.4, with this
--- project's window, flight, payload and turn that emits again).
+-- The endpoint of a connection over whole numbers: it has places of streams instead of numbers that wrap around, and the byte that each place of the
+-- other stream got first instead of buffers (RFC 9293, sections 3.4, 3.8 and 3.10.7.4, with this project's window, flight, payload and retransmission
+-- turn).
 use Rattle.std.specs.Prelude.{ℕ, ◌≡◌, ◌⊎◌, ◌<◌, ◌≤◌, ◌+◌, ◌-◌, ◌^◌, ◌==◌, ◌||◌, ◌&&◌, nat_lt, nat_le, min, max, if◌then◌else◌, Bool, true, false, List, [], ◌∷◌, ◌++◌, length, take, drop, Option, None, IsSome, slice_get}
 use Rattle.std.specs.Option.{option_or}
 use Rattle.std.specs.Ordering.{nat_cmp}
@@ -37,7 +37,7 @@ pub record IsReceived (arrived : Bytes) (n : ℕ) : Type 0 where
   pub all : (k : ℕ) → k < n → IsSome (map.get arrived k)
   pub greatest : (m : ℕ) → ((k : ℕ) → k < m → IsSome (map.get arrived k)) → m ≤ n
 
--- the bytes of entries in rising order of place, as far as the places go on from n without a gap
+-- the bytes of entries in ascending order of place, as far as the places go on from n without a gap
 abbrev pub run_from : ℕ → List (ℕ × ℕ) → List ℕ
 run_from n [] = []
 run_from n (e ∷ es) = if e.0 == n then e.1 ∷ run_from (n + 1) es else []
@@ -56,11 +56,11 @@ received e = length (received_bytes e)
 abbrev pub ready_bytes : Endpoint → List ℕ
 ready_bytes e = drop e.read (received_bytes e)
 
--- the segment with so many bytes of the stream from a place on, and the received length of this moment
+-- the segment with this many bytes of the stream from a place on, and the received length at this moment
 abbrev pub slice_at : Endpoint → ℕ → ℕ → PlacedSegment
 slice_at e place len = record { place = place; bytes = take len (drop place e.stream); ack = received e }
 
--- how many bytes the next slice has: what is unsent and the flight of 15,360 leaves, at most 1,024
+-- how many bytes the next slice has: those that are unsent and fit in the flight of 15,360, at most 1,024
 abbrev pub next_length : Endpoint → ℕ
 next_length e = min 1024 (min (length e.stream - e.emitted) (e.acked + 15360 - e.emitted))
 
@@ -68,7 +68,7 @@ next_length e = min 1024 (min (length e.stream - e.emitted) (e.acked + 15360 - e
 abbrev pub again_length : Endpoint → ℕ
 again_length e = min 1024 (e.emitted - e.acked)
 
--- Bytes are sent: they stand at the stream's end, which has at most 1 MiB.
+-- Bytes are sent: they are added at the stream's end, and the stream has at most 1 MiB.
 pub record SendsBytes (before : Endpoint) (bytes : List ℕ) (after : Endpoint) : Type 0 where
   pub fits : length before.stream + length bytes ≤ 2 ^ 20
   pub sent : after ≡ record before { stream = before.stream ++ bytes }
@@ -85,7 +85,7 @@ pub record EmitsAgain (before : Endpoint) (segment : PlacedSegment) (after : End
   pub slice : segment ≡ slice_at before before.acked (again_length before)
   pub stays : after ≡ before
 
--- A segment without bytes is emitted, at the place that is emitted next. No answer is owed then.
+-- A segment without bytes is emitted, at the place that is emitted next. Then no answer is owed.
 pub record EmitsEmpty (before : Endpoint) (segment : PlacedSegment) (after : Endpoint) : Type 0 where
   pub empty : segment ≡ slice_at before before.emitted 0
   pub given : after ≡ record before { owed = false }
@@ -95,8 +95,8 @@ pub record EmitsAnswer (before : Endpoint) (segment : PlacedSegment) (after : En
   pub owed : before.owed ≡ true
   pub answer : EmitsEmpty before segment after
 
--- Any slice is emitted that begins from the acknowledged to the emitted place, has some and at most 1,024 bytes, and ends in
--- the stream and in the flight of 15,360 from the acknowledged place on.
+-- Any slice is emitted that begins at a place from the acknowledged to the emitted one, has 1 to 1,024 bytes, and ends within the stream and within
+-- the flight of 15,360 from the acknowledged place on.
 pub record EmitsSlice (before : Endpoint) (segment : PlacedSegment) (after : Endpoint) : Type 0 where
   pub from : before.acked ≤ segment.place
   pub to : segment.place ≤ before.emitted
@@ -112,29 +112,29 @@ pub record ReadsBytes (before : Endpoint) (n : ℕ) (after : Endpoint) : Type 0 
   pub there : before.read + n ≤ received before
   pub read : after ≡ record before { read = before.read + n }
 
--- what an arriving segment is tested by: the place expected next, and a window of 16,384
+-- what an arriving segment is checked against: the place expected next, and a window of 16,384
 abbrev pub IsAcceptable : Endpoint → PlacedSegment → Type 0
 IsAcceptable e segment = AcceptablePlace (received e) 16384 segment.place (length segment.bytes)
 
 abbrev pub IsBeyond : Endpoint → PlacedSegment → Type 0
 IsBeyond e segment = IsPlaceAck Beyond e.acked e.emitted segment.ack
 
--- the byte at a place, of bytes that stand from a place on
+-- the byte at a place, among bytes that stand from a place on
 abbrev pub byte_from : ℕ → List ℕ → ℕ → Option ℕ
 byte_from place bytes k = if nat_lt k place then None else slice_get bytes (k - place)
 
--- the byte that a segment brings to a place: the one that it has there, if the place stands in the window
+-- the byte that a segment brings to a place: the one that it has for it, if the place is in the window
 abbrev pub byte_brought : Endpoint → PlacedSegment → ℕ → Option ℕ
 byte_brought e segment place =
     if nat_le (received e) place && nat_lt place (received e + 16384) then byte_from segment.place segment.bytes place else None
 
--- A segment is dropped that isn't acceptable, or that acknowledges what wasn't emitted. An answer is owed.
+-- A segment that isn't acceptable, or that acknowledges what wasn't emitted, is dropped. An answer is owed.
 pub record DropsSegment (before : Endpoint) (segment : PlacedSegment) (after : Endpoint) : Type 0 where
   pub cause : (¬ IsAcceptable before segment) ⊎ IsBeyond before segment
   pub stays : after ≡ record before { owed = true }
 
--- Any other segment is accepted: the acknowledged length rises to its own where that is above, each place keeps its byte or else gets
--- the one that is brought to it, and an answer is owed where the segment has bytes.
+-- Any other segment is accepted: the acknowledged length rises to the segment's if that is above, each place keeps its byte or else gets the one that
+-- is brought to it, and an answer is owed if the segment has bytes.
 pub record AcceptsSegment (before : Endpoint) (segment : PlacedSegment) (after : Endpoint) : Type 0 where
   pub acceptable : IsAcceptable before segment
   pub within : ¬ IsBeyond before segment
@@ -154,7 +154,7 @@ pub record IsTaken (before : Endpoint) (segment : PlacedSegment) : Type 0 where
   pub after : Endpoint
   pub takes : TakesSegment before segment after
 
--- A segment's places, and the length that it acknowledges, are those of streams of at most 1 MiB or of a window at their end.
+-- A segment's places, and the length that it acknowledges, are those of streams of at most 1 MiB, or of a window at their end.
 pub record IsInStreams (segment : PlacedSegment) : Type 0 where
   pub end : IsInStream (segment.place + length segment.bytes)
   pub ack : IsInStream segment.ack

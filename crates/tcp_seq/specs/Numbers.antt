@@ -1,11 +1,11 @@
--- Sequence numbers, which go round modulo 2^32 (RFC 9293, section 3.4).
+-- Sequence numbers, which wrap around modulo 2^32 (RFC 9293, section 3.4).
 use Rattle.std.specs.Prelude.{ℕ, ◌+◌, ◌-◌, ◌%◌, ◌^◌}
 
--- the number n further on
+-- the number n after a number
 abbrev pub plus : ℕ → ℕ → ℕ
 plus number n = (number + n) % 2 ^ 32
 
--- how far on from `first` a number is
+-- how far a number is after `first`
 abbrev pub offset_from : ℕ → ℕ → ℕ
 offset_from number first = (number + (2 ^ 32 - first)) % 2 ^ 32
 

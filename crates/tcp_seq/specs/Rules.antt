@@ -10,18 +10,18 @@ abbrev pub IsInWindow : ℕ → ℕ → ℕ → Type 0
 IsInWindow next window seq = offset_from seq next < window
 
 -- A segment of `len` bytes at `seq` is acceptable in three of the four cases:
--- without bytes and at a closed window, where it stands at the number expected next
--- without bytes and at an open window, where it stands in the window
+-- without bytes and at a closed window, if it is at the number expected next
+-- without bytes and at an open window, if it is in the window
 -- with bytes and at a closed window, never
--- with bytes and at an open window, where its first or its last byte stands in the window
+-- with bytes and at an open window, if its first or its last byte is in the window
 abbrev pub Acceptable : ℕ → ℕ → ℕ → ℕ → Type 0
 Acceptable next window seq len =
     ((len ≡ 0) × (window ≡ 0) × (seq ≡ next))
     ⊎ ((len ≡ 0) × (0 < window) × IsInWindow next window seq)
     ⊎ ((0 < len) × (0 < window) × (IsInWindow next window seq ⊎ IsInWindow next window (plus seq (len - 1))))
 
--- An acknowledgement to a sender whose oldest unacknowledged number is `una` and that sends `nxt` next. Offsets from 2^31 on are
--- those of numbers behind, a bound that is this project's.
+-- What an acknowledgement says to a sender whose oldest unacknowledged number is `una` and whose next number is `nxt`. A number with an offset of
+-- 2^31 or more counts as older; this bound is the project's own.
 abbrev pub IsAck : AckKind → ℕ → ℕ → ℕ → Type 0
 IsAck New una nxt ack = (0 < offset_from ack una) × (offset_from ack una ≤ offset_from nxt una)
 IsAck Old una nxt ack = (offset_from ack una ≡ 0) ⊎ (2 ^ 31 ≤ offset_from ack una)

@@ -1,5 +1,5 @@
-//! What 32-bit numbers say of places in a stream, what an endpoint keeps of what arrives, and what the two
-//! endpoints of a connection receive.
+//! What 32-bit numbers say of places in a stream, what an endpoint keeps of what arrives, and what the
+//! two endpoints of a connection receive.
 
 ghost use Rattle.std.specs.Prelude.{ℕ, ◌≡◌, ◌↔◌, ◌⊎◌, ◌≤◌, ◌<◌, ◌+◌, ◌^◌, List, length, take, Some, slice_get};
 ghost use Rattle.std.specs.FinMap as map;
@@ -11,15 +11,15 @@ ghost use Rattle.tcp_seq.specs.Placed.{placed};
 ghost use Rattle.tcp_seq.specs.declared.segment.Segment.{Segment};
 ghost use Rattle.tcp_seq.specs.Connection.{Connection, fresh_connection, ConnectionStep, ConnectionRun, IsConnection, IsEmittedBy, AreLinked, StaysLinked};
 
-/// Going on from a place's number is going on from the place, and the offset of a later place's number
-/// is the distance of the places.
+/// The number `n` after a place's number is the number of the place `n` further on, and the offset of a
+/// later place's number is the distance of the places.
 pub fn numbers_by_places()
     ensures on { (first place n : ℕ) → plus (number first place) n ≡ number first (place + n) }
     ensures apart { (first place n : ℕ) → n < 2 ^ 32 → offset_from (number first (place + n)) (number first place) ≡ n }
 {}
 
-/// A segment has the numbers of the places that it is placed at, and of no others in streams of at most 1 MiB or a window at their
-/// end.
+/// A segment has the numbers of the places at which it is placed, and of no other places in streams of
+/// at most 1 MiB or in a window at their end.
 pub fn a_segment_has_its_places()
     ensures numbers { (seq_first ack_first : ℕ) (g : Segment) → seq_first < 2 ^ 32 → ack_first < 2 ^ 32 → g.seq.0 < 2 ^ 32 → g.ack.0 < 2 ^ 32
         → (g.seq.0 ≡ number seq_first (placed seq_first ack_first g).place) × (g.ack.0 ≡ number ack_first (placed seq_first ack_first g).ack) }
@@ -27,13 +27,15 @@ pub fn a_segment_has_its_places()
         → g.seq.0 ≡ number seq_first p.place → g.ack.0 ≡ number ack_first p.ack → g.bytes ≡ p.bytes → p ≡ placed seq_first ack_first g }
 {}
 
-/// For streams of at most 1 MiB the test of numbers is the test of places, however old the segment is.
+/// For streams of at most 1 MiB the check by numbers agrees with the check by places, however old the
+/// segment is.
 pub fn acceptance_by_places()
     ensures { (first next window place len : ℕ) → IsInStream next → IsInStream place → window < 2 ^ 16 → len < 2 ^ 16
         → Acceptable (number first next) window (number first place) len ↔ AcceptablePlace next window place len }
 {}
 
-/// For streams of at most 1 MiB an acknowledgement by numbers is that by places, however old it is.
+/// For streams of at most 1 MiB what an acknowledgement says by numbers is what it says by places,
+/// however old it is.
 pub fn acknowledgement_by_places()
     ensures { (kind : AckKind) (first acked emitted ack : ℕ) → acked ≤ emitted → IsInStream emitted → IsInStream ack
         → IsAck kind (number first acked) (number first emitted) (number first ack) ↔ IsPlaceAck kind acked emitted ack }
@@ -46,8 +48,8 @@ pub fn received_is_greatest()
     ensures bytes { (arrived : Bytes) (k : ℕ) → k < length (bytes_in_order arrived) → slice_get (bytes_in_order arrived) k ≡ map.get arrived k }
 {}
 
-/// Whatever segment arrives, a place that has a byte keeps it, and what was received stays the first part
-/// of what is received.
+/// For every segment that arrives, a place that has a byte keeps it, and what was received before is
+/// the first part of what is received after.
 pub fn a_place_keeps_its_byte()
     ensures byte { (before after : Endpoint) (segment : PlacedSegment) (place byte : ℕ)
         → TakesSegment before segment after → map.get before.arrived place ≡ Some byte → map.get after.arrived place ≡ Some byte }
@@ -55,13 +57,14 @@ pub fn a_place_keeps_its_byte()
         → TakesSegment before segment after → received_bytes before ≡ take (received before) (received_bytes after) }
 {}
 
-/// Whatever segment arrives, it leaves one endpoint.
+/// A segment that arrives leaves exactly one endpoint.
 pub fn a_segment_leaves_one_endpoint()
     ensures some { (before : Endpoint) (segment : PlacedSegment) → IsTaken before segment }
     ensures one { (before a b : Endpoint) (segment : PlacedSegment) → TakesSegment before segment a → TakesSegment before segment b → a ≡ b }
 {}
 
-/// The next slice, and the one that a turn emits again, are slices that may be emitted.
+/// The slice that is emitted next, and the one that a retransmission turn emits again, are slices that
+/// may be emitted.
 pub fn emitted_slices_may_be_emitted()
     ensures next { (before after : Endpoint) (segment : PlacedSegment)
         → before.acked ≤ before.emitted → EmitsNext before segment after → EmitsSlice before segment after }
@@ -69,9 +72,9 @@ pub fn emitted_slices_may_be_emitted()
         → before.emitted ≤ before.acked + 15360 → EmitsAgain before segment after → EmitsSlice before segment after }
 {}
 
-/// Two endpoints stay linked, whatever one of them does: it sends or reads bytes, emits a segment, or takes one that the
-/// other emitted, however old. Segments that lie anywhere, lost, kept or in another order, are still slices of their stream,
-/// and their places are those of streams of at most 1 MiB.
+/// Two endpoints stay linked, whatever one of them does: it sends or reads bytes, emits a segment, or
+/// takes a segment that the other emitted, however old. Segments that are lost, delayed or reordered
+/// are still slices of their stream, and their places are those of streams of at most 1 MiB.
 pub fn ends_stay_linked()
     ensures fresh { AreLinked fresh_endpoint fresh_endpoint }
     ensures turned { (x y : Endpoint) → AreLinked x y → AreLinked y x }
@@ -84,10 +87,10 @@ pub fn ends_stay_linked()
     ensures in_streams { (x y : Endpoint) (segment : PlacedSegment) → AreLinked x y → IsEmittedBy x segment → IsInStreams segment }
 {}
 
-/// Two endpoints are joined by nothing but the segments that each of them ever emitted, and these arrive
-/// in any order, any number of times or never. In every connection that comes about from two fresh
-/// endpoints, what each received are the first bytes that the other sent, and no more than the other
-/// emitted; and of what it sent, no more counts as acknowledged than the other received.
+/// Two endpoints are joined only by the segments that each of them ever emitted. These arrive in any
+/// order, any number of times or never. In every connection that comes about from two fresh endpoints,
+/// the bytes that each endpoint received are the first bytes that the other sent, and at most those
+/// that the other emitted. At most as many bytes count as acknowledged as the other endpoint received.
 pub fn connection_carries_streams()
     ensures fresh { IsConnection fresh_connection }
     ensures step { (before after : Connection) → IsConnection before → ConnectionStep before after → IsConnection after }

@@ -1,5 +1,5 @@
-//! TCP's sequence numbers and acceptance rules, the segment that links carry, the state of an
-//! endpoint that is handed over, and, for contracts, the endpoint over whole numbers that the 32-bit
+//! TCP's sequence numbers and acceptance rules, the segment that links carry, and the state of an
+//! endpoint that is handed over. For contracts it has an endpoint over whole numbers, which the 32-bit
 //! rules stand for (RFC 9293, sections 3.4, 3.8 and 3.10.7.4).
 #![tactic(auto)]
 

@@ -7,7 +7,7 @@ ghost use Rattle.tcp_seq.specs.Rules.{Acceptable, IsAck};
 use crate::seq::Seq;
 
 /// Whether a segment of `len` bytes at `seq` is acceptable to a receiver that expects `next` and has
-/// this window (RFC 9293, section 3.4).
+/// this receive window (RFC 9293, section 3.4).
 pub fn acceptable(next: Seq, window: u32, seq: Seq, len: u32) -> bool
     ensures { IsTrue result ↔ Acceptable next.0 window seq.0 len }
 {
@@ -26,13 +26,14 @@ pub enum AckKind {
     New,
     /// It acknowledges nothing that wasn't acknowledged before.
     Old,
-    /// It acknowledges what wasn't sent.
+    /// It acknowledges bytes that weren't sent.
     Beyond,
 }
 
-/// What the acknowledgement `ack` says to a sender whose oldest unacknowledged number is `una` and
-/// that sends `nxt` next, at most 1,048,576 numbers further on (RFC 9293, sections 3.4 and 3.10.7.4). An
-/// offset from `una` of 2^31 or more is that of a number behind; this bound is the project's own.
+/// Returns what the acknowledgement `ack` says to a sender whose oldest unacknowledged number is `una`
+/// and whose next number is `nxt`, at most 1,048,576 numbers after `una` (RFC 9293, sections 3.4 and
+/// 3.10.7.4). A number whose offset from `una` is 2^31 or more counts as older; this bound is the
+/// project's own.
 pub fn ack_kind(una: Seq, nxt: Seq, ack: Seq) -> AckKind
     requires { offset_from nxt.0 una.0 ≤ 2 ^ 20 }
     ensures { IsAck result una.0 nxt.0 ack.0 }

@@ -26,14 +26,14 @@ pub struct Segment {
     pub bytes: Octets,
 }
 
-/// The last place that a byte can have, or be acknowledged up to, in a stream of at most 1 MiB or in a window of
-/// at most 65,536 at its end.
+/// The last place that a byte can have, or that can be acknowledged, in a stream of at most 1 MiB or in
+/// a window of at most 65,536 at its end.
 const LAST_PLACE: u32 = 1_114_112;
 
 impl Segment {
-    /// Whether its numbers are those of places of streams of at most 1 MiB, or of a window at their end, where
-    /// `seq_first` is the number of the first byte of the stream that its bytes are of, and `ack_first` that of the
-    /// one that it acknowledges.
+    /// Whether its numbers are those of places in streams of at most 1 MiB, or in a window at their
+    /// end. `seq_first` is the number of the first byte of the stream that its bytes are of, and
+    /// `ack_first` that of the stream that it acknowledges.
     pub fn is_in_streams(&self, seq_first: Seq, ack_first: Seq) -> bool
         ensures { MatchBool result (IsInStreams (placed seq_first.0 ack_first.0 self.now)) (¬ IsInStreams (placed seq_first.0 ack_first.0 self.now)) }
     {

@@ -1,4 +1,4 @@
-//! What is handed over of an endpoint.
+//! The state of an endpoint that is handed over.
 
 ghost use Rattle.std.specs.Prelude.{◌≡◌, ◌+◌, length};
 
@@ -6,7 +6,7 @@ use crate::segment::Way;
 use crate::seq::Seq;
 use graft_edge::{Items, NoMemory, Octets, PeeringId, TryCopy};
 
-/// Bytes that stand from a place of a stream on.
+/// Consecutive bytes of a stream, from a place on.
 #[derive(Debug, Drop)]
 pub struct Piece {
     /// The place of the first byte. In an [`EndState`] it is counted from the stream's first byte, and in a
@@ -19,7 +19,7 @@ pub struct Piece {
 pub type Pieces = Items<Piece>;
 
 impl Piece {
-    /// The place after its last byte.
+    /// Returns the place after its last byte.
     pub fn end(&self) -> usize
         ensures { result ≡ self.now.place + length self.now.bytes }
     {
@@ -45,14 +45,14 @@ pub struct EndState {
     pub way: Way,
     pub peering: PeeringId,
     pub send_first: Seq,
-    /// How many of the bytes that it sends were acknowledged.
+    /// The number of bytes that it sent and that were acknowledged.
     pub acked: u32,
-    /// How many of the bytes that it sends were emitted at least once.
+    /// The number of bytes that it emitted at least once.
     pub sent: u32,
-    /// The bytes that it sends, from place `acked` to the stream's end.
+    /// The bytes to be sent or acknowledged, from place `acked` to the stream's end.
     pub waiting: Octets,
     pub receive_first: Seq,
-    /// How many of the received bytes were read.
+    /// The number of received bytes that were read.
     pub taken: u32,
     /// The bytes that were received in order and not yet read.
     pub ready: Octets,
@@ -60,7 +60,7 @@ pub struct EndState {
     pub ahead: Pieces,
     /// The value of `acked` at the last retransmission turn.
     pub acked_at_turn: u32,
-    /// Whether an answer is owed.
+    /// Whether it owes an acknowledgement.
     pub owed: bool,
 }
 

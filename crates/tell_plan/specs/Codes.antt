@@ -1,4 +1,4 @@
--- Numbers that spell what is told of a prefix. A list is its numbers, each one higher, and a 0 at its end.
+-- Numbers that encode what is told of a prefix. A list is encoded as its numbers, each increased by 1, and a 0 at its end.
 use Rattle.std.specs.Prelude.{ℕ, ◌+◌, List, [], ◌∷◌, ◌++◌, map, Option, Some, None, Bool, if◌then◌else◌}
 use Rattle.std.specs.List.{flat_map}
 use Rattle.bgp_types.specs.declared.attrs.Aggregator.{Aggregator}

@@ -20,11 +20,11 @@ pub record LastThatTells (attrs : Option Attrs) (batches before : List Batch) (b
   pub told : batch.attrs ≡ attrs
   pub last : NoneTells attrs after
 
--- a batch with one prefix more
+-- a batch with one more prefix
 abbrev pub with_prefix : Batch → PrefixValue → Batch
 with_prefix batch prefix = record batch { prefixes = batch.prefixes ++ prefix ∷ [] }
 
--- A prefix joins the last UPDATE that tells what is to be told of it, where 4,096 octets hold it.
+-- A prefix joins the last UPDATE that tells what is to be told of it, if it then has at most 4,096 octets.
 pub record Joins (wide : Bool) (attrs : Option Attrs) (prefix : PrefixValue) (old new : List Batch) : Type 0 where
   pub before : List Batch
   pub batch : Batch
@@ -33,7 +33,7 @@ pub record Joins (wide : Bool) (attrs : Option Attrs) (prefix : PrefixValue) (ol
   pub fits : octets wide attrs (batch.prefixes ++ prefix ∷ []) ≤ 4096
   pub effect : new ≡ before ++ with_prefix batch prefix ∷ after
 
--- Where there is none, or where it is full, the prefix begins another behind all others.
+-- If there is no such UPDATE, or it is full, the prefix begins another behind all others.
 pub record Begins (wide : Bool) (attrs : Option Attrs) (prefix : PrefixValue) (old new : List Batch) : Type 0 where
   pub full : (before : List Batch) (batch : Batch) (after : List Batch) → LastThatTells attrs old before batch after → 4096 < octets wide attrs (batch.prefixes ++ prefix ∷ [])
   pub effect : new ≡ old ++ record { attrs = attrs; prefixes = prefix ∷ [] } ∷ []
@@ -41,13 +41,13 @@ pub record Begins (wide : Bool) (attrs : Option Attrs) (prefix : PrefixValue) (o
 abbrev pub Adds : Bool → Option Attrs → PrefixValue → List Batch → List Batch → Type 0
 Adds wide attrs prefix old new = Joins wide attrs prefix old new ⊎ Begins wide attrs prefix old new
 
--- Where a prefix was told as it is to be told, nothing changes. Else it is added.
+-- If what was told of a prefix is what is to be told, nothing changes. Else the prefix is added.
 abbrev pub Gathers : Bool → Option Attrs → (PrefixValue → Option Attrs) → PrefixValue → List Batch → List Batch → Type 0
 Gathers wide told to_tell prefix old new = ((told ≡ to_tell prefix) × (new ≡ old)) ⊎ ((told ≢ to_tell prefix) × Adds wide (to_tell prefix) prefix old new)
 
 -- ---- how the UPDATEs that may be joined are found
 
--- where the last UPDATE that tells this stands
+-- the place of the last UPDATE that tells this
 pub record IsPlace (attrs : Option Attrs) (batches : List Batch) (number : ℕ) : Type 0 where
   pub before : List Batch
   pub batch : Batch
@@ -59,7 +59,7 @@ abbrev pub PlaceFor : Option Attrs → List Batch → Option ℕ → Type 0
 PlaceFor attrs batches None = NoneTells attrs batches
 PlaceFor attrs batches (Some number) = IsPlace attrs batches number
 
--- how many octets the UPDATE has that tells a batch
+-- the number of octets in the UPDATE that tells a batch
 abbrev pub batch_octets : Bool → Batch → ℕ
 batch_octets wide batch = octets wide batch.attrs batch.prefixes
 
@@ -68,6 +68,6 @@ pub record Keeps (gathered : Gathered) : Type 0 where
   pub found : (attrs : Option Attrs) → PlaceFor attrs gathered.batches.items (get (slice_cmp nat_cmp) gathered.places (value_code attrs))
   pub counted : gathered.octets.items ≡ map (batch_octets gathered.wide) gathered.batches.items
 
--- All prefixes of UPDATEs are prefixes.
+-- All prefixes in UPDATEs are valid prefixes.
 abbrev pub AreSound : List Batch → Type 0
 AreSound batches = All (λ batch. All IsPrefix batch.prefixes) batches

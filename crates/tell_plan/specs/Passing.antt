@@ -1,5 +1,5 @@
--- Best routes that pass on with no change but the home AS in front of the path and the session's own address as next hop (RFC 4271, sections
--- 5.1.2, 5.1.3 and 5.1.4).
+-- Best routes that are passed on unchanged, except that the home AS is put in front of the path and the session's own address is the next hop (RFC
+-- 4271, sections 5.1.2, 5.1.3 and 5.1.4).
 use Rattle.std.specs.Prelude.{ℕ, ◌≡◌, ◌≤◌, nat_lt, List, [], ◌∷◌, length, Some, None, All, if◌then◌else◌}
 use Rattle.bgp_types.specs.declared.attrs.Attrs.{Attrs}
 use Rattle.bgp_types.specs.declared.path.PathPart.{PathPart}
@@ -11,14 +11,14 @@ use Rattle.route_policy.specs.Paths.{prepend}
 use Rattle.route_policy.specs.Telling.{OutSide}
 use Rattle.tell_plan.specs.ToTell.{to_tell}
 
--- ---- the two parts of a path that another AS is put in front of
+-- ---- the two parts into which a path is split when an AS is put in front of it
 
 -- the ASes of a leading sequence that has room for one more
 abbrev pub first_ases : List PathPart → List ℕ
 first_ases (Sequence ases ∷ parts) = if nat_lt (length ases) 255 then ases else []
 first_ases parts = []
 
--- and what stands behind it
+-- the parts behind that sequence
 abbrev pub parts_behind : List PathPart → List PathPart
 parts_behind (Sequence ases ∷ parts) = if nat_lt (length ases) 255 then parts else Sequence ases ∷ parts
 parts_behind parts = parts
@@ -28,16 +28,16 @@ parts_behind parts = parts
 abbrev pub IsShort : PathPart → Type 0
 IsShort part = length (ases_of part) ≤ 32
 
--- none of an unknown type, and a short path
+-- no attribute of an unknown type, and a short path
 pub record IsPlain (attrs : Attrs) : Type 0 where
   pub known : attrs.unknown ≡ []
   pub few : length attrs.path ≤ 8
   pub short : All IsShort attrs.path
 
--- as they pass on
+-- attributes as they are passed on
 abbrev pub passed_on : ℕ → ℕ → Attrs → Attrs
 passed_on home_as local_address attrs = record attrs { path = prepend home_as attrs.path; next_hop = local_address; med = None; unknown = [] }
 
--- what a router is to tell of a prefix is these as they pass on, so that the best route didn't go through the remote's AS
+-- what a router has to tell of a prefix is these attributes as they are passed on, so the best route didn't go through the remote's AS
 abbrev pub Passes : RibValue → OutSide → PrefixValue → Attrs → Type 0
 Passes rib out prefix attrs = to_tell rib out prefix ≡ Some (passed_on rib.config.home_as out.local_address attrs)

@@ -1,4 +1,4 @@
--- The UPDATEs that tell prefixes, each as many as it holds (RFC 4271, sections 4.1, 4.3 and 9.2).
+-- The UPDATEs that tell prefixes, each with as many as fit (RFC 4271, sections 4.1, 4.3 and 9.2).
 use Rattle.std.specs.Prelude.{ℕ, ◌≡◌, ◌≢◌, ◌≤◌, ◌<◌, List, [], ◌∷◌, ◌++◌, length, Option, Some, None, IfSome, Bool, false}
 use Rattle.std.specs.List.{list_any}
 use Rattle.std.specs.Ordering.{is_lt}
@@ -26,12 +26,12 @@ LeastOf Is (Some prefix) = IsLeast Is prefix
 
 -- ---- plans
 
--- how many octets the UPDATE has that tells this of prefixes
+-- the number of octets in the UPDATE that tells this of prefixes
 abbrev pub octets : Bool → Option Attrs → List PrefixValue → ℕ
 octets wide attrs prefixes = length (spell (UpdateMsg (update_for attrs prefixes)) wide)
 
--- The next UPDATE: of the prefixes that are to be told the same as the least one of all, the first in rising order, as many as one message of 4,096
--- octets holds (RFC 4271, section 4.1).
+-- The next UPDATE: of the prefixes that are to be told the same as the least one of all, the first in ascending order, as many as fit in one message
+-- of 4,096 octets (RFC 4271, section 4.1).
 pub record IsNext (Is : PrefixValue → Type 0) (to_tell : PrefixValue → Option Attrs) (wide : Bool) (batch : Batch) : Type 0 where
   pub first : PrefixValue
   pub least : IsLeast Is first
@@ -42,15 +42,15 @@ pub record IsNext (Is : PrefixValue → Type 0) (to_tell : PrefixValue → Optio
   pub fits : octets wide batch.attrs batch.prefixes ≤ 4096
   pub whole : (next : PrefixValue) (rest : List PrefixValue) → later ≡ next ∷ rest → 4096 < octets wide batch.attrs (batch.prefixes ++ next ∷ [])
 
--- those of a kind that don't stand in a list
+-- those of a kind that aren't in a list
 abbrev pub Without : (PrefixValue → Type 0) → List PrefixValue → PrefixValue → Type 0
 Without Is prefixes x = Is x × (list_any (same_prefix x) prefixes ≡ false)
 
--- Each UPDATE is the next one of what those before it leave, and the last one leaves nothing.
+-- Each UPDATE is the next one for what those before it leave, and the last one leaves nothing.
 abbrev pub IsPlan : (PrefixValue → Type 0) → (PrefixValue → Option Attrs) → Bool → List Batch → Type 0
 IsPlan Is to_tell wide [] = (x : PrefixValue) → Is x → ⊥
 IsPlan Is to_tell wide (batch ∷ batches) = IsNext Is to_tell wide batch × IsPlan (Without Is batch.prefixes) to_tell wide batches
 
--- the attributes that a batch announces, if it does, have a written form (RFC 4271, section 4.3)
+-- the attributes that a batch announces, if it announces any, have a written form (RFC 4271, section 4.3)
 abbrev pub IsWritableFor : Batch → Type 0
 IsWritableFor batch = IfSome batch.attrs IsWritableAttrs

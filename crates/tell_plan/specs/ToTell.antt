@@ -1,4 +1,4 @@
--- What a router is to tell on a session (RFC 4271, section 9.2).
+-- What a router has to tell on a session (RFC 4271, section 9.2).
 use Rattle.std.specs.Prelude.{◌≡◌, ◌≢◌, Option, true, false}
 use Rattle.std.specs.FinMap as map
 use Rattle.bgp_types.specs.declared.attrs.Attrs.{Attrs}
@@ -8,11 +8,11 @@ use Rattle.route_policy.specs.Telling.{OutSide, tell_out}
 use Rattle.session_value.specs.Sets.{Prefixes, has}
 use Rattle.rib_stages.specs.Values.{RibValue}
 
--- due, and not to be decided again
+-- the prefix is due and isn't dirty
 abbrev pub Waits : Prefixes → Prefixes → PrefixValue → Type 0
 Waits due dirty prefix = (has due prefix ≡ true) × (has dirty prefix ≡ false)
 
--- and told otherwise than it is to be told now
+-- the prefix waits, and what was told of it isn't what is to be told now
 abbrev pub IsToTell : Prefixes → Prefixes → Routes → (PrefixValue → Option Attrs) → PrefixValue → Type 0
 IsToTell due dirty told to_tell prefix = Waits due dirty prefix × (map.get told prefix ≢ to_tell prefix)
 

@@ -10,7 +10,7 @@ use crate::writable::are_writable;
 use bgp_types::{Attrs, Items, PrefixList, Update};
 use std::alloc::Global;
 
-/// What one UPDATE tells: that prefixes have these attributes, or that they have none any more.
+/// What one UPDATE tells: that prefixes have these attributes, or that they no longer have any.
 #[derive(Debug, Drop)]
 pub struct Batch {
     pub attrs: Option<Attrs>,
@@ -18,7 +18,7 @@ pub struct Batch {
 }
 
 impl Batch {
-    /// The UPDATE that tells it (RFC 4271, section 4.3).
+    /// Returns the UPDATE that tells it (RFC 4271, section 4.3).
     pub fn into_update(self, alloc: Global) -> Update
         ensures { result ≡ update_for self.attrs self.prefixes }
     {
@@ -37,8 +37,9 @@ impl Batch {
         }
     }
 
-    /// Whether its attributes, if it has any, can be written: the parts of the path have 1 to 255 ASes each, the next hop is the address of a
-    /// host, and the attributes of unknown types rise. It takes time in proportion to the attributes.
+    /// Whether its attributes, if it has any, can be written: the parts of the path have 1 to 255 ASes
+    /// each, the next hop is the address of a host, and the attributes of unknown types are in
+    /// ascending order of type. It takes time in proportion to the attributes.
     pub fn is_writable(&self) -> bool
         ensures { MatchBool result (IsWritableFor self.now) (¬ IsWritableFor self.now) }
     {
@@ -48,7 +49,7 @@ impl Batch {
         }
     }
 
-    /// What an UPDATE tells that either withdraws or announces.
+    /// Returns what an UPDATE tells that either withdraws or announces.
     pub(crate) fn of(update: Update) -> Batch
         ensures { (attrs : Option attributes.Attrs) (prefixes : List PrefixValue) → update ≡ update_for attrs prefixes → result ≡ record { attrs = attrs; prefixes = prefixes } }
     {

@@ -1,4 +1,4 @@
-//! Numbers that spell what is told, by which equal values are found.
+//! Sequences of numbers that encode what is told, by which equal values are found.
 
 ghost use Rattle.std.specs.Prelude.{◌≡◌, ◌++◌, Some, IfOk, OnOk};
 ghost use Rattle.route_policy.specs.Paths.{prepend};
@@ -11,10 +11,12 @@ use std::alloc::Global;
 use std::cmp::Ordering;
 use std::marker::Model;
 
-/// Room for the numbers of usual attributes: a path of seven ASes, and none of an unknown type.
+/// Room for the numbers of typical attributes: a path of seven ASes, and no attribute of an unknown
+/// type.
 const USUAL: usize = 16;
 
-/// The numbers that spell what is told of a prefix. Equal values have equal numbers, and other values have others.
+/// The numbers that encode what is told of a prefix. Equal values have equal numbers, and different
+/// values have different ones.
 #[derive(Drop)]
 pub(crate) struct Code {
     numbers: Vec<u64>,
@@ -80,7 +82,7 @@ impl Ord for Code {
     }
 }
 
-/// Adds a list of numbers, and its end.
+/// Adds a list of numbers, and an end mark.
 fn push_numbers(code: &mut Vec<u64>, numbers: &[u32]) -> Result<(), NoMemory>
     ensures { OnOk result (code.new.items ≡ code.old.items ++ listed numbers.now) }
 {
@@ -91,7 +93,7 @@ fn push_numbers(code: &mut Vec<u64>, numbers: &[u32]) -> Result<(), NoMemory>
     Ok(())
 }
 
-/// Adds a list of octets, and its end.
+/// Adds a list of octets, and an end mark.
 fn push_octets(code: &mut Vec<u64>, octets: &[u8]) -> Result<(), NoMemory>
     ensures { OnOk result (code.new.items ≡ code.old.items ++ listed octets.now) }
 {
@@ -118,7 +120,7 @@ fn push_part(code: &mut Vec<u64>, part: &PathPart) -> Result<(), NoMemory>
     }
 }
 
-/// Adds a path, and its end.
+/// Adds a path, and an end mark.
 fn push_path(code: &mut Vec<u64>, path: &[PathPart]) -> Result<(), NoMemory>
     ensures { OnOk result (code.new.items ≡ code.old.items ++ path_code path.now) }
 {
@@ -129,7 +131,7 @@ fn push_path(code: &mut Vec<u64>, path: &[PathPart]) -> Result<(), NoMemory>
     Ok(())
 }
 
-/// Adds a path with one more AS in front, and its end.
+/// Adds a path with one more AS in front, and an end mark.
 fn push_prepended(code: &mut Vec<u64>, as_number: u32, path: &[PathPart]) -> Result<(), NoMemory>
     ensures { OnOk result (code.new.items ≡ code.old.items ++ path_code (prepend as_number path.now)) }
 {
@@ -149,7 +151,7 @@ fn push_raw(code: &mut Vec<u64>, raw: &RawAttr) -> Result<(), NoMemory>
     push_octets(code, &raw.bytes)
 }
 
-/// Adds attributes of unknown types, and their end.
+/// Adds attributes of unknown types, and an end mark.
 fn push_raws(code: &mut Vec<u64>, raws: &RawAttrs) -> Result<(), NoMemory>
     ensures { OnOk result (code.new.items ≡ code.old.items ++ raws_code raws.now) }
 {
@@ -160,7 +162,7 @@ fn push_raws(code: &mut Vec<u64>, raws: &RawAttrs) -> Result<(), NoMemory>
     Ok(())
 }
 
-/// The number of an origin.
+/// Returns the number of an origin.
 fn origin_number(origin: Origin) -> u64
     ensures { result ≡ origin_place origin }
 {
@@ -197,7 +199,7 @@ fn push_aggregator(code: &mut Vec<u64>, aggregator: Option<Aggregator>) -> Resul
     Ok(())
 }
 
-/// Adds the attributes of one number each, with this next hop and this MED.
+/// Adds the attributes that take one number each, with this next hop and this MED.
 fn push_head(
     code: &mut Vec<u64>,
     attrs: &Attrs,
@@ -213,7 +215,7 @@ fn push_head(
     push_aggregator(code, attrs.aggregator)
 }
 
-/// The code of attributes, or of there being none.
+/// Returns the code of attributes, or of having none.
 pub(crate) fn code_of(alloc: Global, attrs: &Option<Attrs>) -> Result<Code, NoMemory>
     ensures { IfOk result (λ code. code ≡ value_code attrs.now) }
 {
@@ -227,7 +229,7 @@ pub(crate) fn code_of(alloc: Global, attrs: &Option<Attrs>) -> Result<Code, NoMe
     Ok(Code { numbers })
 }
 
-/// The code of plain attributes as they pass on.
+/// Returns the code of plain attributes as they are passed on.
 pub(crate) fn passed_code(
     alloc: Global,
     attrs: &Attrs,

@@ -1,4 +1,4 @@
-//! Prefixes that are told the same are gathered into UPDATEs.
+//! Gathers prefixes that are told the same into UPDATEs.
 
 ghost use Rattle.std.specs.Prelude.{◌≡◌, ◌+◌, ◌-◌, ◌^◌, ◌≤◌, ◌<◌, ◌∷◌, ◌++◌, [], length, slice_index, slice_set, Some, None, OnOk, min};
 ghost use Rattle.std.specs.BTreeMap.{get, Updates};
@@ -26,19 +26,19 @@ use std::collections::BTreeMap;
 /// The greatest number of octets in a message (RFC 4271, section 4.1).
 const LIMIT: usize = 4096;
 
-/// UPDATEs as they are gathered.
+/// The UPDATEs gathered so far.
 #[derive(Drop)]
 pub(crate) struct Gathered {
     alloc: Global,
     wide: bool,
     batches: Vec<Batch>,
-    /// How many octets each of them has.
+    /// The number of octets of each UPDATE.
     octets: Vec<usize>,
-    /// Where the last one stands that tells the value of a code.
+    /// For each code, the place of the last UPDATE that tells its value.
     places: BTreeMap<Code, usize>,
 }
 
-/// How many octets a prefix is written in.
+/// Returns the number of octets in which a prefix is written.
 fn prefix_len(prefix: Prefix) -> usize
     ensures octets { result ≡ prefix_size prefix }
     ensures sound { IsPrefix prefix }
@@ -46,7 +46,7 @@ fn prefix_len(prefix: Prefix) -> usize
     1 + usize::from(prefix.len()).div_ceil(8)
 }
 
-/// The batch that an UPDATE tells.
+/// Returns the batch that an UPDATE tells.
 fn batch_of(alloc: Global, message: Message) -> Batch
     ensures { (attrs : _) (prefixes : _) → message ≡ UpdateMsg (update_for attrs prefixes) → result ≡ record { attrs = attrs; prefixes = prefixes } }
 {
@@ -59,7 +59,7 @@ fn batch_of(alloc: Global, message: Message) -> Batch
     }
 }
 
-/// A batch, and how many octets its UPDATE has.
+/// Returns a batch, and the number of octets of its UPDATE.
 fn counted(alloc: Global, batch: Batch, wide: bool) -> (Batch, usize)
     ensures same { result.0 ≡ batch }
     ensures octets { result.1 ≡ min (octets_lem wide batch.attrs batch.prefixes) (2 ^ 64 - 1) }
@@ -70,7 +70,7 @@ fn counted(alloc: Global, batch: Batch, wide: bool) -> (Batch, usize)
 }
 
 impl Gathered {
-    /// No UPDATE yet, in one of the widths of AS numbers.
+    /// Returns no UPDATEs yet, in one of the widths of AS numbers.
     pub fn new(alloc: Global, wide: bool) -> Gathered
         ensures wide { result.wide ≡ wide }
         ensures none { result.batches.items ≡ [] }
@@ -85,14 +85,15 @@ impl Gathered {
         }
     }
 
-    /// The UPDATEs.
+    /// Returns the UPDATEs.
     pub fn into_batches(self) -> Items<Batch>
         ensures { result ≡ self.batches.items }
     {
         Items::from_vec(self.batches)
     }
 
-    /// Where the last UPDATE stands that tells the value of a code, if it holds so many octets more.
+    /// Returns the place of the last UPDATE that tells the value of a code, if it has room for `len`
+    /// more octets.
     fn room_for(&self, code: &Code, len: usize) -> Option<usize>
         requires counted { (number : _) → get (slice_cmp nat_cmp) self.now.places code.now ≡ Some number → number < length self.now.octets.items }
         requires len { len ≤ 4096 }
@@ -123,7 +124,7 @@ impl Gathered {
         Ok(())
     }
 
-    /// Begins an UPDATE.
+    /// Begins a new UPDATE.
     fn begin(&mut self, code: Code, prefix: Prefix, attrs: Option<Attrs>) -> Result<(), NoMemory>
         requires { octets_lem self.old.wide attrs (prefix ∷ []) ≤ 4096 }
         ensures wide { OnOk result (self.new.wide ≡ self.old.wide) }
@@ -139,8 +140,9 @@ impl Gathered {
         Ok(())
     }
 
-    /// Adds a prefix of which this is to be told to the last UPDATE that tells it, where 4,096 octets hold it, and else begins another. The
-    /// UPDATE that tells this of the one prefix has at most 4,096 octets.
+    /// Adds a prefix to the last UPDATE that tells these attributes if it then has at most 4,096
+    /// octets, or else begins another. The UPDATE that tells them of this one prefix has to have at
+    /// most 4,096 octets.
     pub fn add(&mut self, prefix: Prefix, attrs: Option<Attrs>) -> Result<(), NoMemory>
         requires fits { octets_lem self.old.wide attrs (prefix ∷ []) ≤ 4096 }
         requires keeps { Keeps self.old }
@@ -157,7 +159,8 @@ impl Gathered {
         }
     }
 
-    /// Adds a prefix whose best route passes on with these attributes, as `add` does. A copy of them is made only where an UPDATE begins.
+    /// Adds a prefix whose best route is passed on with these attributes, as `add` does. The attributes
+    /// are copied only if an UPDATE is begun.
     pub fn add_passing(
         &mut self,
         rib: &Rib,

@@ -12,19 +12,21 @@ ghost use Rattle.tell_plan.specs.declared.batch.Batch.{Batch};
 ghost use Rattle.tell_plan.specs.Plans.{IsNext, IsPlan, IsWritableFor};
 ghost use Rattle.tell_plan.specs.ToTell.{IsToTell};
 
-/// The next UPDATE changes what was told for each of its prefixes.
+/// The next UPDATE of a plan changes what was told for each of its prefixes.
 pub fn next_update_changes()
     ensures { (due dirty : Prefixes) (told : Routes) (to_tell : PrefixValue → Option Attrs) (wide : Bool) (batch : Batch)
         → IsNext (IsToTell due dirty told to_tell) to_tell wide batch → Changes told (update_for batch.attrs batch.prefixes) }
 {}
 
-/// It either withdraws or announces, and where its attributes can be written, it can be.
+/// The next UPDATE of a plan either withdraws or announces, and if its attributes can be written, it
+/// can be written.
 pub fn next_update_is_one_way()
     ensures { (due dirty : Prefixes) (told : Routes) (to_tell : PrefixValue → Option Attrs) (wide : Bool) (batch : Batch)
         → IsNext (IsToTell due dirty told to_tell) to_tell wide batch → All IsPrefix batch.prefixes → IsWritableFor batch → IsOneWay (update_for batch.attrs batch.prefixes) wide }
 {}
 
-/// Once it was told, and its prefixes are due no more, the rest of the plan is the plan of what stands then.
+/// Once the next UPDATE is told, and its prefixes are no longer due, the rest of the plan is the plan
+/// for the new state.
 pub fn rest_is_planned()
     ensures { (due then_due dirty : Prefixes) (told : Routes) (to_tell : PrefixValue → Option Attrs) (wide : Bool) (batch : Batch) (batches : List Batch)
         → IsPlan (IsToTell due dirty told to_tell) to_tell wide (batch ∷ batches)

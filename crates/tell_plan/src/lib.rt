@@ -1,5 +1,5 @@
-//! What a router says in a turn of what is due to a receiver: on a session, one UPDATE carries as many prefixes that are to be told the
-//! same as 4,096 octets hold (RFC 4271, sections 4.1, 4.3 and 9.2).
+//! What a router sends in a turn of what is due to a receiver: on a session, one UPDATE carries as many
+//! prefixes with the same attributes as fit in 4,096 octets (RFC 4271, sections 4.1, 4.3 and 9.2).
 #![tactic(auto)]
 
 mod batch;

@@ -1,5 +1,6 @@
-//! Best routes that pass on with no change but the home AS in front of the path and the session's own address as next hop. What is to be
-//! told of them is known without a copy of their attributes.
+//! Best routes that are passed on unchanged, except that the home AS is put in front of the path and
+//! the session's own address is the next hop. What is to be told of them is known without a copy of
+//! their attributes.
 
 ghost use Rattle.std.specs.Prelude.{◌≡◌, ◌≢◌, ◌↔◌, [], All, Some, None, IsTrue, IfSome, MatchBool, option_copied};
 ghost use Rattle.rib_stages.specs.Values.{rib_of};
@@ -11,10 +12,10 @@ use bgp_types::{Attrs, PathPart, Prefix};
 use rib_stages::{OutView, Rib};
 use route_policy::is_kept_back;
 
-/// How many parts the path of plain attributes has at most.
+/// The most parts in the path of plain attributes.
 const PARTS: usize = 8;
 
-/// How many ASes a part of such a path has at most.
+/// The most ASes in a part of such a path.
 const ASES: usize = 32;
 
 /// Whether a part of a path has at most 32 ASes.
@@ -34,7 +35,8 @@ fn are_short(path: &[PathPart]) -> bool
     path.iter().all(|part| is_short(part))
 }
 
-/// Whether none of the attributes is of an unknown type, and the path is short, so that no UPDATE that tells them of one prefix is too long.
+/// Whether no attribute is of an unknown type and the path is short, so that no UPDATE that tells them
+/// of one prefix is too long.
 fn is_plain(attrs: &Attrs) -> bool
     ensures { IsTrue result → IsPlain attrs.now }
 {
@@ -44,8 +46,8 @@ fn is_plain(attrs: &Attrs) -> bool
     are_short(&attrs.path)
 }
 
-/// The attributes of the best route, where they are plain and pass on: there is no export policy, the route didn't come from the
-/// session's own peering, and the remote's AS isn't in its path.
+/// Returns the attributes of the best route if they are plain and passed on: there is no export policy,
+/// the route didn't come from the session's own peering, and the remote's AS isn't in its path.
 pub(crate) fn passing<'a>(rib: &'a Rib, view: &OutView<'_>, prefix: Prefix) -> Option<&'a Attrs>
     ensures { IfSome (option_copied result) (Passes (rib_of rib.now) (out_side view.now) prefix) }
 {
@@ -59,14 +61,14 @@ pub(crate) fn passing<'a>(rib: &'a Rib, view: &OutView<'_>, prefix: Prefix) -> O
     Some(&best.route.attrs)
 }
 
-/// Whether attributes have this next hop, no MED, and none of an unknown type.
+/// Whether attributes have this next hop, no MED, and no attribute of an unknown type.
 fn has_next_hop_alone(attrs: &Attrs, next_hop: u32) -> bool
     ensures { IsTrue result ↔ ((attrs.now.next_hop ≡ next_hop) × (attrs.now.med ≡ None) × (attrs.now.unknown ≡ [])) }
 {
     attrs.next_hop == next_hop && attrs.med.is_none() && attrs.unknown.is_empty()
 }
 
-/// Whether attributes say the same of where the route was made.
+/// Whether attributes have the same ORIGIN, ATOMIC_AGGREGATE and AGGREGATOR.
 #[tactic(auto, using(crate::proofs::Same::origins_equal, crate::proofs::Same::aggregators_equal))]
 fn has_same_origin(attrs: &Attrs, other: &Attrs) -> bool
     ensures { IsTrue result ↔ ((attrs.now.origin ≡ other.now.origin) × (attrs.now.atomic ≡ other.now.atomic) × (attrs.now.aggregator ≡ other.now.aggregator)) }
@@ -76,7 +78,7 @@ fn has_same_origin(attrs: &Attrs, other: &Attrs) -> bool
         && attrs.aggregator == other.aggregator
 }
 
-/// Whether attributes are these plain ones as they pass on.
+/// Whether attributes are these plain ones as they are passed on.
 fn is_passed_on(told: &Attrs, attrs: &Attrs, home_as: u32, local_address: u32) -> bool
     ensures { IsTrue result ↔ (told.now ≡ passed_on home_as local_address attrs.now) }
 {
@@ -86,7 +88,7 @@ fn is_passed_on(told: &Attrs, attrs: &Attrs, home_as: u32, local_address: u32) -
     is_prepended(&told.path, home_as, &attrs.path)
 }
 
-/// Whether what was told is these plain attributes as they pass on.
+/// Whether what was told is these plain attributes as they are passed on.
 pub(crate) fn is_told_on(
     told: Option<&Attrs>,
     attrs: &Attrs,

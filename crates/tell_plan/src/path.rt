@@ -1,4 +1,4 @@
-//! Paths with one more AS in front, of which no copy is made (RFC 4271, section 5.1.2).
+//! Paths with one more AS in front, without making a copy (RFC 4271, section 5.1.2).
 
 ghost use Rattle.std.specs.Prelude.{◌≡◌, ◌↔◌, IsTrue};
 ghost use Rattle.route_policy.specs.Paths.{prepend};
@@ -6,10 +6,11 @@ ghost use Rattle.tell_plan.specs.Passing.{first_ases, parts_behind};
 
 use bgp_types::PathPart;
 
-/// How many ASes a part of a path has at most.
+/// The most ASes in a part of a path.
 const PART_LIMIT: usize = 255;
 
-/// The ASes of a leading sequence that has room for one more, and the parts behind it. Where there is none, no AS, and the whole path.
+/// Returns the ASes of a leading sequence that has room for one more, and the parts behind it. If there
+/// is no such sequence, it returns no AS and the whole path.
 pub(crate) fn split(path: &[PathPart]) -> (&[u32], &[PathPart])
     ensures ases { result.0.now ≡ first_ases path.now }
     ensures parts { result.1.now ≡ parts_behind path.now }

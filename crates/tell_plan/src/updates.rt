@@ -30,7 +30,7 @@ fn is_told(told: Option<&Attrs>, attrs: &Option<Attrs>) -> bool
     }
 }
 
-/// Gathers a prefix of which what is to be told has to be made, unless that was told.
+/// Adds a prefix whose attributes to be told have to be made, unless they were told.
 fn gather_made(
     rib: &Rib,
     told: &AdjRib,
@@ -51,7 +51,7 @@ fn gather_made(
     gathered.add(prefix, attrs)
 }
 
-/// Gathers a prefix whose best route passes on with these attributes, unless that was told.
+/// Adds a prefix whose best route is passed on with these attributes, unless they were told.
 fn gather_passing(
     rib: &Rib,
     told: &AdjRib,
@@ -73,7 +73,7 @@ fn gather_passing(
     gathered.add_passing(rib, view, prefix, attrs)
 }
 
-/// Gathers a prefix that waits, unless what was told of it is what is to be told.
+/// Adds a prefix that is due and isn't dirty, unless what was told of it is what is to be told.
 fn gather(
     rib: &Rib,
     told: &AdjRib,
@@ -93,12 +93,14 @@ fn gather(
     }
 }
 
-/// The UPDATEs by which a router tells on a session what is due, isn't to be decided again, and was told otherwise, in the session's width
-/// of AS numbers. Each tells as many prefixes as 4,096 octets hold, the first of those that are told the same as the least one that is left.
+/// Returns the UPDATEs by which a router tells on a session what is due, isn't dirty, and was told
+/// differently, in the session's width of AS numbers. Each UPDATE takes the least prefix that is left
+/// and the first of those that are told the same, as many as fit in 4,096 octets.
 ///
-/// It visits each prefix that is due once. Of each that waits it compares what was told with what is to be told, and where they differ, it
-/// searches among the values that are told. It copies the best route only for a prefix that begins an UPDATE, where the session has an
-/// export policy, and where the route has a long path or an attribute of an unknown type.
+/// It visits each prefix that is due once. For each that isn't dirty it compares what was told with
+/// what is to be told, and if they differ, it searches among the values that are told. It copies the
+/// best route only in three cases: the prefix begins an UPDATE, the session has an export policy, or
+/// the route has a long path or an attribute of an unknown type.
 pub fn plan(
     alloc: Global,
     rib: &Rib,

@@ -38,14 +38,14 @@ fn are_parts(path: &[PathPart]) -> bool
     true
 }
 
-/// Whether a type is none of those that this codec knows.
+/// Whether a type is unknown to this codec.
 fn is_other(kind: u8) -> bool
     ensures { result ≡ is_other_lem kind }
 {
     kind == 0 || 7 < kind && kind < 17 || 18 < kind
 }
 
-/// Whether attributes are of unknown types, in rising type.
+/// Whether attributes are of unknown types, in ascending order of type.
 fn are_others(others: &[RawAttr]) -> bool
     ensures { MatchBool result (All IsOther others.now × IsRising other_kind others.now) (¬ (All IsOther others.now × IsRising other_kind others.now)) }
 {
@@ -60,14 +60,14 @@ fn are_others(others: &[RawAttr]) -> bool
     true
 }
 
-/// What a MED is.
+/// A MED is a number of 32 bits.
 fn med_fits(med: Option<u32>)
     ensures { IfSome med (λ n. n < 2 ^ 32) }
 {
     if let Some(_med) = med {}
 }
 
-/// What an aggregator is.
+/// An aggregator has an AS and an address of 32 bits.
 fn aggregator_fits(aggregator: Option<Aggregator>)
     ensures { IfSome aggregator IsAggregator }
 {

@@ -1,4 +1,4 @@
-//! What a session answers.
+//! The answers of a session.
 
 ghost use Rattle.std.specs.Prelude.{◌≡◌, ◌≤◌, ◌↔◌, [], length, Some, IsTrue};
 ghost use Rattle.bgp_types.specs.Header.{frame_at};
@@ -11,19 +11,19 @@ use bgp_types::{Expected, Message, NoMemory, Notice, message_len};
 use bgp_wire::{CodecFault, header_notice, read_message, read_message_is_writable, write_message};
 use std::alloc::Global;
 
-/// How many octets an OPEN is written in at most, and another message.
+/// The limits of the written form in octets: of an OPEN, and of any other message.
 const LONGEST_OPEN: usize = 284;
 
 const LONGEST: usize = 4096;
 
-/// The octets of a NOTIFICATION's body: code, subcode and data.
+/// Returns the octets of a NOTIFICATION's body: code, subcode and data.
 fn notice_text(alloc: Global, notice: &Notice) -> Result<String> {
     let mut octets = vec![in alloc; notice.code, notice.subcode]?;
     octets.extend_from_slice(notice.info.as_slice())?;
     Ok(hex::encode_upper(alloc, octets)?)
 }
 
-/// Whether the written form of a message fits.
+/// Returns whether the written form of a message fits.
 fn fits(message: &Message, wide: bool) -> bool
     ensures { IsTrue result ↔ (length (spell message.now wide) ≤ written_limit message.now) }
 {
@@ -34,7 +34,7 @@ fn fits(message: &Message, wide: bool) -> bool
     message_len(message, wide) <= limit
 }
 
-/// The answer to a whole frame: the written form of the message that is read, or a NOTIFICATION.
+/// Returns the answer to a whole frame: the written form of the message that is read, or a NOTIFICATION.
 fn answer_to_frame(alloc: Global, frame: &[u8], expected: &Expected) -> Result<String>
     requires { frame_at frame.now ≡ Some (frame.now, []) }
 {
@@ -52,7 +52,7 @@ fn answer_to_frame(alloc: Global, frame: &[u8], expected: &Expected) -> Result<S
     Ok(format!(in alloc; "reads as {octets}")?)
 }
 
-/// The answer to the message at the front of a stream.
+/// Returns the answer to the first message of a stream.
 pub fn answer_to(alloc: Global, octets: &[u8], expected: &Expected) -> Result<String> {
     let mut framer = Framer::new(alloc);
     framer.feed(octets)?;

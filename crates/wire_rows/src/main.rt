@@ -1,5 +1,5 @@
-//! Frames and what a session answers to them, worked out by hand. Reads rows from standard input, and
-//! prints each that is answered otherwise, and how many there are.
+//! Frames and what a session answers to them, worked out by hand. Reads rows from standard input, prints each row whose
+//! answer differs, and then how many rows there are.
 #![tactic(auto)]
 
 mod answer;
@@ -11,7 +11,7 @@ use anyhow::{Context, Result};
 use std::alloc::Global;
 use std::io;
 
-/// The first answer to a row that isn't the one that it says.
+/// Returns the first answer to a row that differs from the expected one.
 fn wrong_answer(alloc: Global, row: &Row<'_>) -> Result<Option<String>> {
     for width in row.widths {
         let expected = row.expected(*width);

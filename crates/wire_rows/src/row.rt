@@ -12,7 +12,7 @@ pub enum Width {
     Wide,
 }
 
-/// A session, the octets that it gets, and what it is to answer in each of these widths.
+/// A session, the octets that it gets, and its expected answer in each of these widths.
 #[derive(Debug, Drop)]
 pub struct Row<'a> {
     state: SessionState,
@@ -24,7 +24,7 @@ pub struct Row<'a> {
 }
 
 impl<'a> Row<'a> {
-    /// What the session expects in a width.
+    /// Returns what the session expects in a width.
     pub fn expected(&self, width: Width) -> Expected {
         Expected {
             state: self.state,
@@ -34,8 +34,7 @@ impl<'a> Row<'a> {
         }
     }
 
-    /// Whether an answer is the one that the row says. Where it says no more than `reads`, any message
-    /// will do.
+    /// Returns whether an answer is the one that the row expects. If the row says only `reads`, any message will do.
     pub fn takes(&self, answer: &str) -> bool {
         answer == self.answer || self.answer == "reads" && answer.starts_with("reads ")
     }
@@ -61,12 +60,12 @@ fn widths_of(word: &str) -> Option<&'static [Width]> {
     }
 }
 
-/// The word at the front of a row, and what comes after it.
+/// Returns the first word of a row, and what follows it.
 fn word_of(text: &str) -> Result<(&str, &str)> {
     text.split_once(' ').context("too few words")
 }
 
-/// The row that a line says.
+/// Returns the row that a line stands for.
 pub fn row_of(alloc: Global, line: &str) -> Result<Row<'_>> {
     let (words, shows) = line.split_once(" ; ").context("what it shows")?;
     let (state, words) = word_of(words)?;

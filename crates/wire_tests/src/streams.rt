@@ -17,8 +17,8 @@ const KEEPALIVE: [u8; 19] = [
     255, 255, 255, 255, 255, 255, 255, 255, 255, 255, 255, 255, 255, 255, 255, 255, 0, 0x13, 4,
 ];
 
-/// Feeds a piece. Where memory runs out, as `rt try --test --fail-alloc` has it, nothing of it was
-/// taken, and it is fed again.
+/// Feeds a piece. If memory runs out, as under `rt try --test --fail-alloc`, nothing of the piece was taken, and it is
+/// fed again.
 fn feed(framer: &mut Framer, piece: &[u8]) -> Result<(), NoMemory> {
     match framer.feed(piece) {
         Ok(()) => Ok(()),
@@ -26,7 +26,7 @@ fn feed(framer: &mut Framer, piece: &[u8]) -> Result<(), NoMemory> {
     }
 }
 
-/// The next message. Where memory runs out, it stands there still.
+/// Returns the next message. If memory runs out, the message is still there.
 fn next(framer: &mut Framer) -> Result<Option<Frame>, FrameStop> {
     match framer.next() {
         Err(FrameStop::NoMemory) => framer.next(),
@@ -34,7 +34,7 @@ fn next(framer: &mut Framer) -> Result<Option<Frame>, FrameStop> {
     }
 }
 
-/// The messages that a stream gives which comes in pieces of this size, joined, each behind its type.
+/// Returns the messages of a stream that arrives in pieces of this size, joined, each after its type.
 fn messages_in_pieces(alloc: Global, stream: &[u8], size: usize) -> Result<Octets, Fail> {
     let mut framer = Framer::new(alloc);
     let mut messages = Octets::new(alloc);
@@ -75,8 +75,8 @@ fn a_stream_in_pieces(rt: HostRuntime) -> Result<(), Fail> {
     Ok(())
 }
 
-/// The data of a fault is the attribute, of which 4,075 octets have room in a NOTIFICATION of 4,096:
-/// a well-known attribute of an unknown type with a value of 4,072 octets has 4,076.
+/// The data of a fault is the attribute, cut to 4,075 octets, which have room in a NOTIFICATION of 4,096. A well-known
+/// attribute of an unknown type with a value of 4,072 octets has 4,076.
 #[test]
 fn data_is_cut(rt: HostRuntime) -> Result<(), Fail> {
     let mut field = vec![in rt.alloc(); 0x50u8, 99, 0x0F, 0xE8]?;

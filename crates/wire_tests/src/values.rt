@@ -14,7 +14,7 @@ const PREFIXES: [(&str, (u32, u8), &str); 5] = [
     ("192.0.2.1/32", (0xC000_0201, 32), "192.0.2.1/32"),
 ];
 
-/// Texts that write none: no sign, no leading zero, no part that is missing or too great.
+/// Texts that write no prefix: no sign, no leading zero, no part that is missing or too great.
 const NO_PREFIXES: [&str; 9] = [
     "",
     "10.0.0.0",
@@ -41,8 +41,8 @@ fn texts_of_prefixes(rt: HostRuntime) -> Result<(), Fail> {
     Ok(())
 }
 
-/// The address of a text, by its four decimals; none where one is missing, too great or has a leading
-/// zero. It is printed as it was written.
+/// The address of a text, by its four decimals; none if one is missing, too great or has a leading zero. It is printed
+/// as it was written.
 #[test]
 fn texts_of_addresses(rt: HostRuntime) -> Result<(), Fail> {
     for (text, address, host) in [
@@ -66,8 +66,7 @@ fn texts_of_addresses(rt: HostRuntime) -> Result<(), Fail> {
     Ok(())
 }
 
-/// The path of the set 7, 8 and the sequence 65001, 70000 (RFC 4271, section 9.1.2.2: a set counts as
-/// one AS).
+/// Returns the path of the set 7, 8 and the sequence 65001, 70000 (RFC 4271, section 9.1.2.2: a set counts as one AS).
 fn path(alloc: Global) -> Result<AsPath, NoMemory> {
     let set = PathPart::Set(AsList::from_slice(alloc, &[7, 8])?);
     let sequence = PathPart::Sequence(AsList::from_slice(alloc, &[65001, 70000])?);

@@ -1,5 +1,5 @@
-//! Reads commands, a line each with single spaces between its words, and prints the job that each one
-//! asks for. Which words are accepted is proved; these are worked cases as people type them.
+//! Reads commands, one a line with single spaces between the words, and prints the job that each one asks for. Which
+//! words are accepted is proved; these are worked cases as people type them.
 #![tactic(auto)]
 
 use anyhow::Result;
@@ -8,7 +8,7 @@ use lab_words::read_words;
 use std::alloc::Global;
 use std::io;
 
-/// The words of a line. An empty line has none.
+/// Returns the words of a line. An empty line has none.
 fn words_of(alloc: Global, line: &str) -> Result<Words, NoMemory> {
     let mut words = Words::new(alloc);
     if !line.is_empty() {

@@ -1,4 +1,4 @@
--- What contracts see of a laboratory that runs.
+-- What contracts see of a running laboratory.
 use Rattle.std.specs.Prelude.{ℕ, ◌≡◌, ◌+◌, length}
 use Rattle.std.specs.List.{AllByRecursion}
 use Rattle.ring_net.specs.Shown.{view, marks}
@@ -9,11 +9,11 @@ use Rattle.world_nodes.specs.declared.course.Course.{Course}
 abbrev pub stand : Course → Stand
 stand c = record { view = view c.net; marks = marks c.net }
 
--- how many routers and peerings there are
+-- the numbers of routers and of peerings
 abbrev pub counts : Course → ℕ × ℕ
 counts c = (c.routers, c.peerings)
 
--- Every actor is there, and works.
+-- Every actor exists and works: it never ran out of memory.
 pub record AllWork (c : Course) : Type 0 where
   pub size : length (stand c).view.actors ≡ (counts c).0 + (counts c).1 + 1
   pub each : AllByRecursion Works (stand c).view.actors

@@ -25,15 +25,15 @@ pub record AreEdgesOf (setup : Setup) (edges : List (ℕ × ℕ)) : Type 0 where
   pub sound : AreEdges (actors_in setup) edges
   pub each : (a b : ℕ) → is_edge edges a b ≡ has_channel setup a b
 
--- the laboratory has as many routers and peerings
+-- the laboratory has these numbers of routers and peerings
 pub record HasCounts (setup : Setup) (counts : ℕ × ℕ) : Type 0 where
   pub routers : routers_in setup ≡ counts.0
   pub peerings : peerings_in setup ≡ counts.1
 
--- the edges from one actor more
+-- the edges from one more actor are added
 abbrev pub AddsEdgesFrom : Setup → ℕ → List (ℕ × ℕ) → List (ℕ × ℕ) → Type 0
 AddsEdgesFrom setup from old new = (a b : ℕ) → is_edge new a b ≡ (is_edge old a b || (a == from && has_channel setup a b))
 
--- no edge leads from this actor, nor from one behind it
+-- no edge leads from this actor, or from a later one
 abbrev pub NoneFrom : ℕ → List (ℕ × ℕ) → Type 0
 NoneFrom from edges = (a b : ℕ) → from ≤ a → is_edge edges a b ≡ false

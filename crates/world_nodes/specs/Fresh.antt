@@ -1,4 +1,4 @@
--- An actor that has done nothing yet, in what it keeps beside its part of the world.
+-- An actor that has done nothing yet, by what it keeps beside its part of the world.
 use Rattle.std.specs.Prelude.{ℕ, ◌≡◌, List, [], Option, Some, option_map, slice_get}
 use Rattle.link_bag.specs.declared.plan.Fault.{Fault}
 use Rattle.link_bag.specs.Planned.{fate_in, fate_of}
@@ -13,7 +13,7 @@ use Rattle.far_side.specs.declared.far as fars
 use Rattle.world_nodes.specs.declared.node.Node.{Node}
 use Rattle.world_nodes.specs.declared.node.Node.TheVariants.{Router, Far, Operator}
 
--- no turn was made, and no session had a retransmission turn
+-- no turn was made, and no session has had a retransmission turn
 pub record IsFreshRouter (router : routers.Router.Router) : Type 0 where
   pub turns : router.fields.turns ≡ 0
   pub at_turn : (p : ℕ) (s : RunningSession) (o : Option Errand) → RunsAt router.fields.places.places p s o → s.acked_at_turn ≡ 0

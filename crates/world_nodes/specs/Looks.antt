@@ -1,4 +1,4 @@
--- What a stand of the net tells of the world that it is.
+-- What a stand of the net tells about the world that it is seen as.
 use Rattle.std.specs.Prelude.{ℕ, ◌≡◌, ◌≢◌, ◌<◌, ◌⊎◌, List, [], Option, Some, None}
 use Rattle.std.specs.Option.{option_map}
 use Rattle.std.specs.List.{Any}
@@ -19,18 +19,18 @@ use Rattle.world_runs.specs.Runs.{IsSeenAs}
 use Rattle.world_nodes.specs.Nodes.{own}
 use Rattle.world_nodes.specs.Ways.{Stand}
 
--- the world of a run that a stand is
+-- the world of a run as which a stand is seen
 abbrev pub IsWorldAt : Setup → Stand → World → Type 0
 IsWorldAt setup a w = IsSeenAs own carried setup a.view w × Reached setup w
 
 -- ---- a stuck session
 
--- of the peerings that are so with a number, the lowest with its number, if there is one
+-- the lowest peering for which the property holds with some number, and that number, if there is one
 abbrev pub IsLowest : (ℕ → ℕ → Type 0) → Option (ℕ × ℕ) → Type 0
 IsLowest Is None = (p n : ℕ) → ¬ Is p n
 IsLowest Is (Some x) = Is x.0 x.1 × ((p n : ℕ) → p < x.0 → ¬ Is p n)
 
--- the live session of a peering, at whatever router, is stuck at a length
+-- the live session of a peering, at some router, is stuck at a length
 pub record IsStuckIn (setup : Setup) (w : World) (p n : ℕ) : Type 0 where
   pub router : ℕ
   pub there : router < routers_in setup
@@ -51,7 +51,7 @@ numbers answer = option_map (λ x. (x.0.0, x.1)) answer
 abbrev pub IsOneOf : Option (ℕ × ℕ) → Option (ℕ × ℕ) → ℕ → ℕ → Type 0
 IsOneOf one other p n = (one ≡ Some (p, n)) ⊎ (other ≡ Some (p, n))
 
--- one of these actors has the peering, with the number
+-- the property holds for the peering and the number at one of these actors
 abbrev pub IsStuckAtOne : List OwnPart → ℕ → ℕ → Type 0
 IsStuckAtOne actors p n = Any (λ actor. IsStuckWith actor p n) actors
 

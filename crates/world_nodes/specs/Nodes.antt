@@ -1,4 +1,4 @@
--- The actors of a laboratory as one type: what each is in the world, and what is said of its calls.
+-- The actors of a laboratory as one type: what each is in the world, and the contracts of its calls.
 use Rattle.std.specs.Prelude.{ℕ, ◌≡◌, List, []}
 use Rattle.ring_net.specs.Deeds.{Deed, Replay, TakesFirst}
 use Rattle.graft_steps.specs.declared.item.Item.{Item}
@@ -22,11 +22,11 @@ own (Operator operator) = operators.own_part operator
 
 -- ---- calls
 
--- the events lead from what an actor was to what it is
+-- the events lead from the actor's old value to its new one
 abbrev pub Leads : Node → List (Deed Mail) → Node → Type 0
 Leads old deeds new = Replay (acts carried) 0 (own old) deeds (own new)
 
--- what each kind of actor says of a take, and of a turn
+-- what each kind of actor promises of a take, and of a turn
 abbrev pub TookBy : Node → ℕ → Mail → List (Deed Mail) → Node → Type 0
 TookBy (Router old) from item deeds (Router new) = routers.took old from item deeds new
 TookBy (Far old) from item deeds (Far new) = fars.took old from item deeds new
@@ -52,7 +52,7 @@ paused (Far old) deeds (Far new) = (deeds ≡ []) × (new ≡ old)
 paused (Operator old) deeds (Operator new) = operators.Paused old deeds new
 paused old deeds new = ⊥
 
--- memory never ran out in a call of it
+-- memory never ran out in one of its calls
 abbrev pub Works : Node → Type 0
 Works (Router router) = routers.Works router
 Works (Far far) = Unit {0}

@@ -10,12 +10,12 @@ use Rattle.world_nodes.specs.Edges.{AreEdgesOf}
 use Rattle.world_nodes.specs.Nodes.{Mail, own, took, turned, paused}
 use Rattle.world_nodes.specs.declared.node.Node.{Node}
 
--- where a net stands: its actors, journals and channels, and its marks
+-- the stand of a net: its actors, journals and channels, and its marks
 pub record Stand : Type 0 where
   pub view : View Node Mail
   pub marks : List (List ℕ)
 
--- It stands at its beginning: all actors of the laboratory as they begin, with its edges, and one mark, of empty journals.
+-- The stand at the beginning: all actors of the laboratory as they begin, with its edges, and one mark, of empty journals.
 pub record Begins (setup : Setup) (a : Stand) : Type 0 where
   pub actors : List Node
   pub edges : List (ℕ × ℕ)
@@ -29,14 +29,15 @@ pub record Round (a b : Stand) : Type 0 where
   pub phase : Phase own (acts carried) took turned a.view b.view
   pub marked : Marked b.view a.marks b.marks
 
--- At a mark all clocks are levelled, and the operator, the last actor, does or doesn't begin the next group.
+-- At a mark all clocks are levelled, and the operator, which is the last actor, begins the next group or doesn't.
 pub record Pause (k : ℕ) (a b : Stand) (answer : Bool) : Type 0 where
   pub level : View Node Mail
   pub levelled : Levelled a.view level
   pub between : Between own (acts carried) paused k level b.view answer
   pub marks : b.marks ≡ a.marks
 
--- The way from one stand to another, with the number of rounds of each group that has begun since, the one at work last. A group begins where the world is quiet.
+-- The way from one stand to another, with the number of rounds of each group that has begun since, the current one last. A group begins only in a
+-- quiet world.
 pub data Way (setup : Setup) (a : Stand) : List ℕ → Stand → Type 0 where
   Here : Way setup a (0 ∷ []) a
   Rounds : (past : List ℕ) (n : ℕ) {b c : Stand} → Way setup a (past ++ n ∷ []) b → Round b c → Way setup a (past ++ (n + 1) ∷ []) c

@@ -1,4 +1,4 @@
-//! The net of a laboratory, on its way.
+//! The net of a running laboratory.
 
 ghost use Rattle.std.specs.Prelude.{◌≡◌, ◌≤◌};
 ghost use Rattle.ring_net.specs.Shown.{edge_list};
@@ -16,7 +16,7 @@ use std::alloc::Global;
 use std::thread::Threads;
 use world_runs::worlds_are_on_the_way;
 
-/// A laboratory that runs: its actors in a net, with the mark behind each round.
+/// A running laboratory: its actors in a net, with a mark after each round.
 #[derive(Drop)]
 pub struct Course {
     net: Net<Node>,
@@ -44,8 +44,8 @@ impl Course {
     ghost use Rattle.world_nodes.specs.Courses.{stand, counts, AllWork};
     ghost use Rattle.world_nodes.specs.Looks.{IsWorldAt, IsLowest, IsPending, IsStuckIn, numbers};
 
-    /// The laboratory at its beginning, with these actors, of which the first `routers` are routers, the next `peerings` far sides, and the last the operator. There
-    /// are at most 256 routers and at most 256 peerings.
+    /// Returns a laboratory at its beginning, with these actors: the first `routers` are routers, the next `peerings`
+    /// are far sides, and the last one is the operator. There must be at most 256 routers and at most 256 peerings.
     pub fn begin(
         alloc: Global,
         actors: Actors<Node>,
@@ -70,14 +70,15 @@ impl Course {
         })
     }
 
-    /// How many actors there are.
+    /// Returns the number of actors.
     fn count(&self) -> usize
         ensures { result ≡ (counts self.now).0 + (counts self.now).1 + 1 }
     {
         usize::from(self.routers) + usize::from(self.peerings) + 1
     }
 
-    /// One round, in 1 to 8 threads: each actor takes what comes to it and makes its turn, and a mark follows. If memory runs out, nothing more is said of the actors.
+    /// Makes one round, in 1 to 8 threads: each actor takes the items that come to it and makes its turn, and a mark
+    /// follows. If memory runs out, nothing is known of the actors from then on.
     pub fn round<R: Threads + Sync, G: Gate>(
         &mut self,
         rt: &R,
@@ -94,8 +95,9 @@ impl Course {
         self.net.mark()
     }
 
-    /// Begins the next group of the script. The world has to be quiet. It answers false, and no actor does anything, exactly where the group at work has a step that
-    /// wasn't issued or a graft without an outcome, or is the last one. If memory runs out, nothing more is said of the actors.
+    /// Begins the next group of the script. The world must be quiet. Returns false, and no actor does anything, exactly
+    /// if the current group has a step that wasn't issued or a graft without an outcome, or is the last one. If memory
+    /// runs out, nothing is known of the actors from then on.
     pub fn go(&mut self) -> Result<bool, NoMemory>
         requires works { AllWork self.old }
         ensures pause { IfOk result (Pause ((counts self.old).0 + (counts self.old).1) (stand self.old) (stand self.new)) }
@@ -109,8 +111,8 @@ impl Course {
         self.net.between(last)
     }
 
-    /// The lowest peering whose session is stuck, and the length to which its next message would take what was put, above 1,044,480 bytes. None where no session is
-    /// stuck.
+    /// Returns the lowest peering whose session is stuck, with the length that its stream would have with its next
+    /// message, above 1,044,480 bytes. `None` if no session is stuck.
     pub fn stuck(&self) -> Result<Option<(PeeringId, usize)>, NoMemory>
         requires works { AllWork self.now }
         ensures lowest { IfOk result (λ answer. (setup : Setup) (w : World) → HasCounts setup (counts self.now) → IsWorldAt setup (stand self.now) w
@@ -119,7 +121,7 @@ impl Course {
         stuck_up_to(&self.net, self.count())
     }
 
-    /// The first thing that is left to do. None where the world is quiet.
+    /// Returns the first thing that is left to do, or `None` if the world is quiet.
     pub fn pending(&self) -> Option<Pending>
         requires works { AllWork self.now }
         ensures first { (setup : Setup) (w : World) → HasCounts setup (counts self.now) → IsSetup setup → IsWorldAt setup (stand self.now) w → IsPending setup w result }
@@ -134,14 +136,15 @@ impl Course {
         )
     }
 
-    /// How many events there were. The count stands still at 2^64 - 1.
+    /// Returns the number of events. The count saturates at 2^64 - 1.
     pub fn events(&self) -> u64
         ensures { CountsAll (stand self.now).view result }
     {
         self.net.events()
     }
 
-    /// The actors, their journals, the marks, and what is left on its way. After a call that failed it answers `NoMemory`. If memory runs out, the laboratory is gone.
+    /// Consumes the laboratory, and returns the actors, their journals, the marks, and the items that are still on
+    /// their way. Returns `NoMemory` after a call that failed, or if memory runs out; the laboratory is gone then.
     pub fn finish(self) -> Result<Parts<Node>, NoMemory>
         ensures actors { IfOk result (λ parts. parts.actors ≡ (stand self).view.actors) }
         ensures journals { IfOk result (λ parts. HasJournals (stand self).view parts.journals) }

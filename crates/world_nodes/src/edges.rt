@@ -8,7 +8,7 @@ ghost use Rattle.world_nodes.specs.Edges.{AddsEdgesFrom, AreEdgesOf, HasCounts, 
 use graft_edge::NoMemory;
 use std::alloc::Global;
 
-/// Whether there is a channel from one actor to another.
+/// Returns whether there is a channel from one actor to another.
 fn may_talk(from: u16, to: u16, routers: u16, peerings: u16) -> bool
     requires few { (routers ≤ 256) × (peerings ≤ 256) }
     requires there { (from ≤ routers + peerings) × (to ≤ routers + peerings) }
@@ -25,7 +25,7 @@ fn may_talk(from: u16, to: u16, routers: u16, peerings: u16) -> bool
     }
 }
 
-/// Adds the channels from one actor. There are none yet from it nor from those behind it.
+/// Adds the channels from one actor. There must be none yet from it or from later actors.
 fn add_from(
     edges: &mut Vec<(u16, u16)>,
     from: u16,
@@ -48,8 +48,8 @@ fn add_from(
     Ok(())
 }
 
-/// The channels of a laboratory of so many routers and peerings: each way between two routers, between a router and a far side, and between a router and the
-/// operator, and from the operator to each far side.
+/// Returns the channels of a laboratory, by the numbers of routers and peerings: each way between two routers, between
+/// a router and a far side, and between a router and the operator, and from the operator to each far side.
 pub(crate) fn edges_of(
     alloc: Global,
     routers: u16,

@@ -1,4 +1,4 @@
-//! What the way of a laboratory's net is in the world.
+//! Laws: what the way of a laboratory's net is in the world.
 
 ghost use Rattle.std.specs.Prelude.{ℕ, List};
 ghost use Rattle.ring_net.specs.Phases.{InOrder};
@@ -13,8 +13,8 @@ use bgp_session::Capsule;
 use journal_merge::{marks_grow, phases_grow, pieces_grow};
 use world_runs::nets_run;
 
-/// Whatever way a laboratory's net went, however its workers took turns, its merged journal is that of a run of the world, from the first world to the one
-/// that the net is. Its journals are in order, as those that are merged have to be.
+/// Whatever way a laboratory's net went, and however its workers took turns, its merged journal is that of a run of the
+/// world, from the first world to the one that the net is. Its journals are in order, as merging requires.
 pub fn the_way_is_a_run()
     ensures run { (setup : Setup) (a b : Stand) (rounds : List ℕ) → IsSetup setup → Begins setup a → Way setup a rounds b → Ran own carried setup b.view }
     ensures order { (setup : Setup) (a b : Stand) (rounds : List ℕ) → IsSetup setup → Begins setup a → Way setup a rounds b → InOrder b.view }

@@ -1,4 +1,4 @@
-//! What is read of the actors and the channels.
+//! Looks at the actors and the channels.
 
 ghost use Rattle.std.specs.Prelude.{◌≤◌, length, map, take, IfOk};
 ghost use Rattle.std.specs.List.{AllByRecursion};
@@ -13,7 +13,8 @@ use graft_steps::Pending;
 use ring_net::Net;
 use settled_check::{far_rest, first_pending, operator_rest, rests_tell_what_is_left, router_rest};
 
-/// The lowest peering of an actor whose session is stuck, and the length to which its next message would take what was put.
+/// Returns the lowest peering of an actor whose session is stuck, with the length that its stream would have with its
+/// next message.
 fn stuck_at(node: &Node) -> Result<Option<(PeeringId, usize)>, NoMemory>
     ensures { IfOk result (λ answer. IsLowest (IsStuckWith (own node.now)) (numbers answer)) }
 {
@@ -23,7 +24,7 @@ fn stuck_at(node: &Node) -> Result<Option<(PeeringId, usize)>, NoMemory>
     }
 }
 
-/// The one of the lower peering.
+/// Returns the answer with the lower peering.
 fn lower(
     one: Option<(PeeringId, usize)>,
     other: Option<(PeeringId, usize)>,
@@ -37,7 +38,7 @@ fn lower(
     }
 }
 
-/// The same of the first `count` actors.
+/// Returns the lowest peering whose session is stuck at one of the first `count` actors, with that length.
 pub(crate) fn stuck_up_to(
     net: &Net<Node>,
     count: usize,
@@ -52,7 +53,7 @@ pub(crate) fn stuck_up_to(
     Ok(lowest)
 }
 
-/// The first thing that is left to do for an actor.
+/// Returns the first thing that is left to do for an actor.
 fn left_at(node: &Node) -> Option<Pending>
     requires { Works node.now }
     ensures { IsFirstOf (IsLeftWith (own node.now)) result }
@@ -65,7 +66,7 @@ fn left_at(node: &Node) -> Option<Pending>
     }
 }
 
-/// The first thing that is left to do for one of the first `count` actors.
+/// Returns the first thing that is left to do for one of the first `count` actors.
 pub(crate) fn left_up_to(net: &Net<Node>, count: usize) -> Option<Pending>
     requires count { count ≤ length (view net.now).actors }
     requires works { AllByRecursion Works (view net.now).actors }
@@ -78,7 +79,7 @@ pub(crate) fn left_up_to(net: &Net<Node>, count: usize) -> Option<Pending>
     first
 }
 
-/// The first channel of these edges in which an item is on its way.
+/// Returns the first channel of these edges in which an item is on its way, as a pending thing.
 pub(crate) fn on_its_way(net: &Net<Node>, edges: &[(u16, u16)]) -> Option<Pending>
     ensures { IsFirstOf (IsSentOnOne (view net.now).channel edges.now) result }
 {

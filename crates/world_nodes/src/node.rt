@@ -12,8 +12,8 @@ use operator_core::Operator;
 use ring_net::{Actor, Post};
 use router_core::Router;
 
-/// An actor of a laboratory. The routers have the numbers from 0, in the order of the input, the far sides those behind them, in the order of the peerings,
-/// and the operator is last.
+/// An actor of a laboratory. Routers have the numbers from 0, in the order of the input; far sides have those after
+/// them, in the order of the peerings; and the operator has the last one.
 #[derive(Drop)]
 pub enum Node {
     /// A home router.

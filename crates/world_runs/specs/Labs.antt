@@ -12,28 +12,28 @@ use Rattle.graft_runs.specs.Seen.{Net, Sees}
 use Rattle.graft_actors.specs.Items.{thing_of, MayGo}
 use Rattle.graft_actors.specs.Acts.{OwnPart}
 
--- the number of a laboratory's actors
+-- how many actors a laboratory has
 abbrev pub actors_in : Setup → ℕ
 actors_in setup = routers_in setup + peerings_in setup + 1
 
 module _ {C : Type 0} (session : C → SessionValue) where
-  -- each item may go from the one actor to the other; where either is nobody, nothing is on its way
+  -- each item may go from the one actor to the other; if either doesn't exist, nothing is on its way
   abbrev pub AllMayGo : Setup → Option ActorName → Option ActorName → List (Item C) → Type 0
   AllMayGo setup (Some from) (Some to) items = AllByRecursion (MayGo session setup from to) items
   AllMayGo setup from to items = items ≡ []
 
-  -- the net of the parts and things that actors and items are
+  -- the net of the parts and things that actors and items stand for
   abbrev pub net_of : Setup → worlds.World OwnPart (Item C) → Net
   net_of setup lab = record { part = λ n. (lab.part n).part; channel = λ a b. map (thing_of session setup) (lab.channel a b) }
 
-  -- Each actor is of this laboratory and has its name, what is on its way may go there, and the parts and items are the world.
+  -- Each actor is of this laboratory and has its name, each item in a channel may go there, and the parts and items are those of the world.
   pub record IsLab (setup : Setup) (lab : worlds.World OwnPart (Item C)) (w : World) : Type 0 where
     pub setups : (n : ℕ) (x : ActorName) → actor_at setup n ≡ Some x → (lab.part n).setup ≡ setup
     pub names : (n : ℕ) (x : ActorName) → actor_at setup n ≡ Some x → (lab.part n).name ≡ x
     pub fits : (a b : ℕ) → AllMayGo setup (actor_at setup a) (actor_at setup b) (lab.channel a b)
     pub sees : Sees setup (net_of setup lab) w
 
--- All actors of a laboratory, each as it begins: the routers, then the far sides by their peerings, then the operator.
+-- All actors of a laboratory, each as it begins: the routers, then the far sides in the order of their peerings, then the operator.
 pub record AreFirst {A : Type 0} (own : A → OwnPart) (setup : Setup) (actors : List A) : Type 0 where
   pub all : length actors ≡ actors_in setup
   pub routers : (r : ℕ) (d : A) → r < routers_in setup → own (slice_index_or actors r d) ≡ record { setup = setup; name = Router r; part = RouterIs (first_router setup r) }

@@ -30,12 +30,12 @@ IsNoGo deed = IsGo deed.entry → ⊥
 -- ---- one world
 
 module _ {C : Type 0} (session : C → SessionValue) where
-  -- What an actor of the laboratory does is a step of the world: it drops nothing that comes on its way. A Go needs a quiet world.
+  -- What an actor of the laboratory does is a step of the world: it drops no item that arrives. A Go needs a quiet world.
   abbrev pub AnActIsAStep : Type 0
   AnActIsAStep = (setup : Setup) (lab next : worlds.World OwnPart (Item C)) (deed : Deed (Item C)) (w : World) (x : ActorName) → IsSetup setup → Reached setup w → IsLab session setup lab w
       → actor_at setup deed.entry.actor ≡ Some x → worlds.Step (acts session) lab deed next → (IsGo deed.entry → Quiet setup w) → IsStepOfLab session setup w deed.entry next
 
-  -- The same of a run without a Go.
+  -- The same for a run without a Go.
   abbrev pub ActsAreARun : Type 0
   ActsAreARun = (setup : Setup) (lab last : worlds.World OwnPart (Item C)) (deeds : List (Deed (Item C))) (w : World) → IsSetup setup → Reached setup w → IsLab session setup lab w
       → AllByRecursion (λ d. d.entry.actor < actors_in setup) deeds → AllByRecursion IsNoGo deeds → worlds.Run (acts session) lab deeds last → IsRunOfLab session setup w (map (λ d. d.entry) deeds) last
@@ -47,30 +47,30 @@ NothingWasDropped = (setup : Setup) (events : List Event) (entries : List Journa
 -- ---- a net
 
 module _ {A C : Type 0} (own : A → OwnPart) (session : C → SessionValue) where
-  -- a new net of the actors of a laboratory ran without an event
+  -- a new net of a laboratory's actors has a run without events
   abbrev pub NewNetsRan : Type 0
   NewNetsRan = (setup : Setup) (actors : List A) (edges : List (ℕ × ℕ)) (v : View A (Item C)) → AreFirst own setup actors → IsNew actors edges v → Ran own session setup v
 
-  -- what a net did since all clocks were level, without a Go, goes on with its run
+  -- what a net did since all clocks were level, without a Go, extends its run
   abbrev pub RunsGoOn : Type 0
   RunsGoOn = (setup : Setup) (u v : View A (Item C)) (levels : List ℕ) (notes : ℕ → List (Noted (Item C))) (clock : ℕ) → IsSetup setup → length u.actors ≡ actors_in setup → InOrder u → AllAt u clock
       → Grew own (acts session) u v levels notes → ((k : ℕ) → AllByRecursion IsNoGo (deeds (notes k))) → Ran own session setup u → Ran own session setup v
 
-  -- so does what an actor did at a mark, one event at most, where the world is quiet: a Go too
+  -- what an actor did at a mark, which is at most one event, extends it too if the world is quiet, even a Go
   abbrev pub GoesOn : Type 0
   GoesOn = (setup : Setup) (k : ℕ) (u v : View A (Item C)) (levels : List ℕ) (did : List (Deed (Item C))) (clock : ℕ) → IsSetup setup → length u.actors ≡ actors_in setup → InOrder u → AllAt u clock
       → Grew own (acts session) u v levels (at_mark own (acts session) k did) → length did ≤ 1 → QuietAt own session setup u → Ran own session setup u → Ran own session setup v
 
--- ---- what holds on the way
+-- ---- what holds throughout a run
 
 -- every run is transparent at every moment
 abbrev pub RunsAreTransparent : Type 0
 RunsAreTransparent = (setup : Setup) (events : List Event) (w : World) → IsSetup setup → Run setup (first_world setup) events w → TransparentThroughout setup events
 
--- what a settled check asks of a world is so on the way of a run
+-- what a settled check requires of a world holds in each world of a run
 abbrev pub WorldsAreOnTheWay : Type 0
 WorldsAreOnTheWay = (setup : Setup) (w : World) → IsSetup setup → Reached setup w → IsWithin setup w → IsOnTheWay setup w
 
--- no router writes to itself
+-- no router sends items to itself
 abbrev pub NobodyWritesToItself : Type 0
 NobodyWritesToItself = (setup : Setup) (w : World) (r : ℕ) → IsSetup setup → Reached setup w → w.mesh r r ≡ []

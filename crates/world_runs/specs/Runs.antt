@@ -18,7 +18,7 @@ use Rattle.graft_runs.specs.Laws.{IsEntryOf, AreEntriesOf}
 use Rattle.graft_actors.specs.Acts.{OwnPart}
 use Rattle.world_runs.specs.Labs.{IsLab}
 
--- At every moment of these events, from the world's beginning, each peering is transparent: the moment after each first part of them.
+-- Each peering is transparent in the world after each front of these events, from the first world on.
 abbrev pub TransparentThroughout : Setup → List Event → Type 0
 TransparentThroughout setup events = (front back : List Event) → events ≡ front ++ back
     → (w : World) × Run setup (first_world setup) front w × ((p : ℕ) → p < peerings_in setup → Transparent setup w p)
@@ -41,13 +41,13 @@ module _ {C : Type 0} (session : C → SessionValue) where
     pub lab : IsLab session setup last after
 
 module _ {A C : Type 0} (own : A → OwnPart) (session : C → SessionValue) where
-  -- A view of a net is a world.
+  -- A view of a net is seen as a world.
   pub record IsSeenAs (setup : Setup) (v : View A (Item C)) (w : World) : Type 0 where
     pub lab : worlds.World OwnPart (Item C)
     pub is : IsWorldOf own v lab
     pub sees : IsLab session setup lab w
 
-  -- The journal is that of a run from the first world, to the one that the net is.
+  -- The journal is that of a run from the first world, to the one as which the net is seen.
   pub record RanAs (setup : Setup) (journal : List JournalEntry) (v : View A (Item C)) : Type 0 where
     pub events : List Event
     pub entries_of : AreEntriesOf setup events journal
@@ -59,6 +59,6 @@ module _ {A C : Type 0} (own : A → OwnPart) (session : C → SessionValue) whe
   abbrev pub Ran : Setup → View A (Item C) → Type 0
   Ran setup v = (merged : List JournalEntry) → Interleaves v.journal merged → RanAs setup merged v
 
-  -- as whatever world of a run a net is seen, that is quiet
+  -- every world of a run as which the net is seen is quiet
   abbrev pub QuietAt : Setup → View A (Item C) → Type 0
   QuietAt setup v = (w : World) → IsSeenAs setup v w → Reached setup w → Quiet setup w

@@ -1,4 +1,4 @@
-//! What a net of actors did, in the world.
+//! Laws: what a net of actors did, in the world.
 
 ghost use Rattle.session_value.specs.Sessions.{SessionValue};
 ghost use Rattle.graft_actors.specs.Acts.{OwnPart};
@@ -12,8 +12,9 @@ use graft_laws::{
 use graft_model::codes_are_exact;
 use graft_runs::{an_event_is_a_step, parts_begin_as_the_first_world};
 
-/// What an actor of the laboratory does is a step of the world, and what actors do one after another is a run: each item that comes on its way is
-/// welcome, so that none is dropped. The entries are those of events, and none of these has kind 0, which the entry of a dropped item has.
+/// What an actor of the laboratory does is a step of the world, and what actors do one after another is a run. Each
+/// item that arrives is welcome, so none is dropped. The entries are those of events, none of which has kind 0, the
+/// kind of a dropped item's entry.
 pub fn an_act_is_a_step<C>()
     ensures step { (session : C → SessionValue) → AnActIsAStep session }
     ensures run { (session : C → SessionValue) → ActsAreARun session }
@@ -25,7 +26,8 @@ pub fn an_act_is_a_step<C>()
     no_item_is_dropped();
 }
 
-/// A new net of the actors of a laboratory ran without an event; what it does then goes on with the run, a Go where the world is quiet.
+/// A new net of a laboratory's actors has a run without events. Whatever it does then extends the run; a Go needs a
+/// quiet world.
 pub fn nets_run<A, C>()
     ensures new { (own : A → OwnPart) (session : C → SessionValue) → NewNetsRan own session }
     ensures phases { (own : A → OwnPart) (session : C → SessionValue) → RunsGoOn own session }
@@ -35,14 +37,15 @@ pub fn nets_run<A, C>()
     an_act_is_a_step::<C>();
 }
 
-/// At every moment of a run each peering has one session with a legal story, and its bytes each way are first bytes of what was put and said.
+/// At every moment of a run each peering has one session with a legal story, and the bytes received each way are the
+/// first bytes of what was put and said.
 pub fn runs_are_transparent()
     ensures { RunsAreTransparent }
 {
     always_transparent();
 }
 
-/// On the way of a run a world is one of which the rests of its actors tell whether it is quiet, and no router writes to itself.
+/// In each world of a run, the rests of the actors tell whether it is quiet, and no router sends items to itself.
 pub fn worlds_are_on_the_way()
     ensures way { WorldsAreOnTheWay }
     ensures itself { NobodyWritesToItself }

@@ -1,5 +1,6 @@
-//! The runs of the program's actors are runs of the world: whatever a net of routers, far sides and the operator did, its merged journal is that of a run
-//! of `graft_model`, in which no item was dropped, so that all laws of the world hold of it.
+//! The runs of the program's actors are runs of the world: whatever a net of routers, far sides and the operator did,
+//! its merged journal is that of a run of `graft_model`, in which no item was dropped. So all laws of the world hold
+//! for it.
 #![tactic(auto)]
 
 mod laws;

@@ -1,4 +1,4 @@
-//! The retransmission turns.
+//! Retransmission turns.
 
 ghost use Rattle.std.specs.Prelude.{◌<◌, length, OnOk};
 ghost use Rattle.ring_net.specs.Posts.{SameEdges};
@@ -13,7 +13,7 @@ use graft_edge::NoMemory;
 use graft_steps::Item;
 use ring_net::Post;
 
-/// The retransmission turn at a place.
+/// Makes the retransmission turn of the session at a place.
 fn send_again_at(
     router: &mut Fields,
     n: usize,

@@ -20,7 +20,8 @@ use session_places::Places;
 use session_value::SessionConfig;
 use std::alloc::Global;
 
-/// So many places, with the sessions that begin: of two that begin at a place the first is there. There is room for all of them.
+/// Returns `count` places with the sessions that begin in them. Of two sessions for one place, the first is kept. There
+/// must be room for all of them.
 fn begin_places(
     alloc: Global,
     count: usize,
@@ -44,7 +45,7 @@ fn begin_places(
     Ok(places)
 }
 
-/// The fields of a router that begins with this configuration.
+/// Returns the fields of a router that begins with this configuration.
 pub(crate) fn begin(alloc: Global, known: Known, config: RouterConfig) -> Result<Fields, NoMemory>
     requires setup { IsSetup known.setup }
     requires config { IsConfigOf known.setup config }

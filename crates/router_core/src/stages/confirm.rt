@@ -1,5 +1,5 @@
-//! Of each session that has landed, the other routers are asked, one after another, whether they have heard what was told; and once all
-//! have answered, its source is told.
+//! For each session that has landed, the other routers are asked, one after another, whether they have heard what was
+//! told. Once all have answered, the session's source is told.
 
 ghost use Rattle.std.specs.Prelude.{ℕ, ◌≡◌, ◌<◌, length, OnOk};
 ghost use Rattle.std.specs.FinMap as map;
@@ -21,7 +21,7 @@ use graft_steps::{GraftIds, Item};
 use ring_net::Post;
 use session_places::Places;
 
-/// What is to be said of a session that has landed.
+/// What is to be sent for a session that has landed.
 #[derive(Clone, Copy, Debug)]
 pub(crate) enum Word {
     /// This router is to be asked whether it has heard what was told.
@@ -30,8 +30,9 @@ pub(crate) enum Word {
     Confirm(GraftIds),
 }
 
-/// What is to be said of the session that is live there, if it has landed and waits for no answer. The next of so many routers is to be
-/// asked, whose answer it waits for then; or where none is left, its source is to be told, and then nothing is to be done for the graft.
+/// Returns what is to be sent for the live session, if it has landed and waits for no answer. The next of `routers`
+/// routers is to be asked, and the session then waits for its answer. If none is left to ask, the source is to be told,
+/// and the session has no errand from then on.
 fn word_of(place: &mut Place, routers: u32) -> Option<Word>
     ensures { TakesWord routers (Some place.old) result (Some place.new) }
 {
@@ -53,7 +54,7 @@ fn word_of(place: &mut Place, routers: u32) -> Option<Word>
     Some(Word::Ask { ids, router })
 }
 
-/// The same of what is at a place.
+/// Returns what is to be sent for the session at a place, as `word_of` does for its content.
 fn take_word(places: &mut Places<Place>, n: usize, routers: u32) -> Option<Word>
     ensures { AtOne (λ old new. TakesWord routers old result new) places.old n places.new }
 {
@@ -63,7 +64,7 @@ fn take_word(places: &mut Places<Place>, n: usize, routers: u32) -> Option<Word>
     }
 }
 
-/// Asks the next router about the session that has landed at a place, or tells its source, if either is to be done.
+/// Asks the next router about the session that has landed at a place, or tells its source, if either is due.
 fn confirm_at(router: &mut Fields, n: usize, post: &mut Post<Item<Capsule>>) -> Result<(), NoMemory>
     requires keeps { Keeps router.old }
     requires place { n < length router.old.places.places }
@@ -93,8 +94,8 @@ fn confirm_at(router: &mut Fields, n: usize, post: &mut Post<Item<Capsule>>) -> 
     }
 }
 
-/// Asks the next router about each session that has landed here, or tells its source. Nothing is to be decided, and nothing is to be told to
-/// another router.
+/// Asks the next router about each session that has landed here, or tells its source. No prefix may be dirty, and
+/// nothing may be due to another router.
 pub(crate) fn confirm_all(
     router: &mut Fields,
     post: &mut Post<Item<Capsule>>,

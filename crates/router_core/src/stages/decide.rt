@@ -24,7 +24,7 @@ use graft_steps::Item;
 use ring_net::Post;
 use session_places::Places;
 
-/// Makes a prefix due at a number, where it is to be.
+/// Adds a prefix to set `n` if `is_due`.
 fn add_where(sets: &mut DueSets, n: usize, prefix: Prefix, is_due: bool) -> Result<(), NoMemory>
     requires { n < length sets.old }
     ensures length { OnOk result (length sets.new ≡ length sets.old) }
@@ -33,7 +33,7 @@ fn add_where(sets: &mut DueSets, n: usize, prefix: Prefix, is_due: bool) -> Resu
     if is_due { sets.add(n, prefix) } else { Ok(()) }
 }
 
-/// Whether an established session is held at a place.
+/// Returns whether an established session is held at a place.
 fn is_up(places: &Places<Place>, n: usize) -> bool
     ensures { result ≡ holds_established (place_of (place_at places.now.places n)) }
 {
@@ -43,7 +43,7 @@ fn is_up(places: &Places<Place>, n: usize) -> bool
     }
 }
 
-/// Makes a prefix due to each other router.
+/// Adds a prefix to what is due to each other router.
 fn due_to_routers(router: &mut Fields, prefix: Prefix) -> Result<(), NoMemory>
     requires { Keeps router.old }
     ensures added { OnOk result (AddsBelow (length router.old.due_in) (is_other router.old) prefix router.old.due_in router.new.due_in) }
@@ -56,7 +56,7 @@ fn due_to_routers(router: &mut Fields, prefix: Prefix) -> Result<(), NoMemory>
     Ok(())
 }
 
-/// Makes a prefix due on each established session.
+/// Adds a prefix to what is due on each established session.
 fn due_on_sessions(router: &mut Fields, prefix: Prefix) -> Result<(), NoMemory>
     requires { Keeps router.old }
     ensures added { OnOk result (AddsBelow (length router.old.due_out) (is_up_at router.old) prefix router.old.due_out router.new.due_out) }
@@ -69,7 +69,7 @@ fn due_on_sessions(router: &mut Fields, prefix: Prefix) -> Result<(), NoMemory>
     Ok(())
 }
 
-/// Makes a prefix due wherever another best route is to be told.
+/// Makes a prefix due to each other router and on each established session.
 fn due_to_all(router: &mut Fields, prefix: Prefix) -> Result<(), NoMemory>
     requires { Keeps router.old }
     ensures { OnOk result (DueToAll prefix router.old router.new) }
@@ -96,7 +96,7 @@ fn decide_one(
     Ok(())
 }
 
-/// Decides every dirty prefix, in rising order.
+/// Decides every dirty prefix, in ascending order.
 pub(crate) fn decide_all(
     router: &mut Fields,
     post: &mut Post<Item<Capsule>>,

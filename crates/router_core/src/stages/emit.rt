@@ -1,4 +1,4 @@
-//! What is emitted.
+//! Emission of segments.
 
 ghost use Rattle.std.specs.Prelude.{◌<◌, length, OnOk};
 ghost use Rattle.ring_net.specs.Posts.{SameEdges};
@@ -33,7 +33,7 @@ fn send_new_at(
     }
 }
 
-/// Gives the answer that a session owes.
+/// Emits the acknowledgement that a session owes.
 fn send_answer_at(
     router: &mut Fields,
     n: usize,
@@ -51,7 +51,7 @@ fn send_answer_at(
     outlet.send(segment, post)
 }
 
-/// Emits on a session all that may be emitted, and the answer that is owed.
+/// Emits on a session all that may be emitted, and the acknowledgement that it owes.
 fn emit_at(router: &mut Fields, n: usize, post: &mut Post<Item<Capsule>>) -> Result<(), NoMemory>
     requires keeps { Keeps router.old }
     requires place { n < length router.old.places.places }
@@ -62,7 +62,7 @@ fn emit_at(router: &mut Fields, n: usize, post: &mut Post<Item<Capsule>>) -> Res
     send_answer_at(router, n, post)
 }
 
-/// Emits on each session all that may be emitted, and the answer that is owed.
+/// Emits on each session all that may be emitted, and the acknowledgement that it owes.
 pub(crate) fn emit_all(router: &mut Fields, post: &mut Post<Item<Capsule>>) -> Result<(), NoMemory>
     requires { Keeps router.old }
     ensures edges { SameEdges post.old post.new }

@@ -1,4 +1,4 @@
-//! The grafts that begin at their source.
+//! Grafts that begin at their source.
 
 ghost use Rattle.std.specs.Prelude.{◌<◌, ◌+◌, ◌≡◌, length, OnOk, None, Some};
 ghost use Rattle.ring_net.specs.Posts.{SameEdges};
@@ -23,10 +23,10 @@ use ring_net::Post;
 use session_places::Places;
 use std::mem;
 
-/// What became of the graft that was stored at a place.
+/// The outcome of the graft that was stored at a place.
 #[derive(Drop)]
 pub(crate) enum Begun {
-    /// None was stored.
+    /// No graft was stored.
     Nothing,
     /// It was refused, and the session stays.
     Refused(GraftIds, Refusal),
@@ -34,7 +34,7 @@ pub(crate) enum Begun {
     Left(GraftIds, Capsule),
 }
 
-/// Begins a graft of the session that is live at a place: it is refused, or the session leaves.
+/// Begins a graft of the live session at a place: the graft is refused, or the session leaves.
 fn begin_with(place: &mut Place, order: Ordered) -> Begun
     ensures { (s : RunningSession) → place.old ≡ Live s None → BegunAs (Some (Live s (Some (Leaving order)))) result (Some place.new) }
 {
@@ -53,7 +53,7 @@ fn begin_with(place: &mut Place, order: Ordered) -> Begun
     }
 }
 
-/// Takes the order of the graft that is stored with the session that is live there, if one is.
+/// Takes the order of the graft that is stored with the live session, if there is one.
 fn take_order(place: &mut Place) -> Option<Ordered>
     ensures { TakesOrder place.old result place.new }
 {
@@ -69,7 +69,7 @@ fn take_order(place: &mut Place) -> Option<Ordered>
     }
 }
 
-/// Begins the graft that is stored with the session that is live there, if one is.
+/// Begins the graft that is stored with the live session, if there is one.
 fn begin_of(place: &mut Place) -> Begun
     ensures { BegunAs (Some place.old) result (Some place.new) }
 {
@@ -97,7 +97,7 @@ fn operator(router: &Fields) -> usize
     router.routers as usize + router.places.len()
 }
 
-/// Begins the graft that is stored at a place, if one is.
+/// Begins the graft that is stored at a place, if there is one.
 fn begin_graft_at(
     router: &mut Fields,
     n: usize,
@@ -128,7 +128,7 @@ fn begin_graft_at(
     }
 }
 
-/// Refuses each stored graft that has a reason for it, and sends the sessions of the others away.
+/// Refuses each stored graft for which there is a reason, and sends away the sessions of the others.
 pub(crate) fn begin_grafts(
     router: &mut Fields,
     post: &mut Post<Item<Capsule>>,

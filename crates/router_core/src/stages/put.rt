@@ -31,13 +31,13 @@ use session_places::Places;
 use std::alloc::Global;
 use tell_plan::{Batch, plan};
 
-/// How many bytes an established session puts at most, so that a NOTIFICATION has room behind them.
+/// The limit of the bytes put on an established session, so that a NOTIFICATION has room after them.
 const MOST_PUT: usize = 1_044_480;
 
-/// How many bytes a KEEPALIVE has.
+/// The length of a KEEPALIVE in bytes (RFC 4271, section 4.4).
 const KEEPALIVE_LEN: usize = 19;
 
-/// Offers an UPDATE to the session that is live there, and answers whether its stream had room.
+/// Offers an UPDATE to the live session, and returns whether its stream had room.
 fn offer_to(place: &mut Place, update: Update) -> Result<bool, NoMemory>
     requires { OffersAt (Some place.old) update }
     ensures { IfOk result (λ put. OfferedAt put update (Some place.old) (Some place.new)) }
@@ -52,7 +52,7 @@ fn offer_to(place: &mut Place, update: Update) -> Result<bool, NoMemory>
     }
 }
 
-/// Offers an UPDATE to the session that is live at a place, and answers whether its stream had room.
+/// Offers an UPDATE to the live session at a place, and returns whether its stream had room.
 fn offer(places: &mut Places<Place>, n: usize, update: Update) -> Result<bool, NoMemory>
     requires { OffersAt (place_at places.old.places n) update }
     ensures { IfOk result (λ put. AtOne (OfferedAt put update) places.old n places.new) }
@@ -63,7 +63,7 @@ fn offer(places: &mut Places<Place>, n: usize, update: Update) -> Result<bool, N
     }
 }
 
-/// Prefixes are due no more.
+/// Removes prefixes from set `n`.
 fn settle(due: &mut DueSets, n: usize, prefixes: &[Prefix])
     requires { n < length due.old }
     ensures length { length due.new ≡ length due.old }
@@ -74,7 +74,7 @@ fn settle(due: &mut DueSets, n: usize, prefixes: &[Prefix])
     }
 }
 
-/// What is to be put on the session at a place, the last UPDATE first.
+/// Returns the pending UPDATEs of the session at a place, the last one first.
 fn planned(router: &Fields, n: usize) -> Result<Vec<Batch>, NoMemory>
     requires keeps { Keeps router.now }
     requires place { n < length router.now.places.places }
@@ -108,7 +108,7 @@ fn planned(router: &Fields, n: usize) -> Result<Vec<Batch>, NoMemory>
     Ok(batches)
 }
 
-/// Puts an UPDATE on the session at a place, and answers whether its stream had room.
+/// Puts an UPDATE on the session at a place, and returns whether its stream had room.
 fn put_one(
     router: &mut Fields,
     n: usize,
@@ -135,7 +135,7 @@ fn put_one(
     Ok(true)
 }
 
-/// Where everything that is due on the session at a place was told as it is to be, it is due no more.
+/// Clears what is due on the session at a place, if everything that is due was told as it is to be.
 fn put_nothing(
     router: &mut Fields,
     n: usize,
@@ -173,8 +173,8 @@ fn put_at(router: &mut Fields, n: usize, post: &mut Post<Item<Capsule>>) -> Resu
     put_nothing(router, n, post)
 }
 
-/// Puts on each established session what is due on it, in UPDATEs that each tell as many prefixes as a message holds. Nothing is to be
-/// decided.
+/// Puts on each established session what is due on it, in UPDATEs that each tell as many prefixes as a message holds.
+/// No prefix may be dirty.
 pub(crate) fn put_all(router: &mut Fields, post: &mut Post<Item<Capsule>>) -> Result<(), NoMemory>
     requires keeps { Keeps router.old }
     requires clean { router.old.rib.dirty ≡ map.empty }
@@ -187,7 +187,7 @@ pub(crate) fn put_all(router: &mut Fields, post: &mut Post<Item<Capsule>>) -> Re
     Ok(())
 }
 
-/// How many octets the UPDATE of a batch has.
+/// Returns the number of octets of a batch's UPDATE.
 fn update_len(alloc: Global, batch: Batch, wide: bool) -> usize
     ensures { result ≡ min (octets wide batch.attrs batch.prefixes) (2 ^ 64 - 1) }
 {
@@ -195,7 +195,7 @@ fn update_len(alloc: Global, batch: Batch, wide: bool) -> usize
     message_len(&message, wide)
 }
 
-/// How long what was put on the session at a place would be with the UPDATE of a batch.
+/// Returns the length that the stream of the session at a place would have with a batch's UPDATE.
 fn len_with(router: &Fields, n: usize, batch: Batch) -> usize
     requires place { n < length router.now.places.places }
     requires next { NextAt router.now.known.setup router.now.number.0 (router_part router.now) n (place_at router.now.places.places n) batch }
@@ -209,7 +209,8 @@ fn len_with(router: &Fields, n: usize, batch: Batch) -> usize
     }
 }
 
-/// The length to which its next UPDATE would take what was put on the session at a place, if it has no room.
+/// Returns the length that the stream of the session at a place would have with its next UPDATE, if there is no room
+/// for it.
 fn no_room_at(router: &Fields, n: usize) -> Result<Option<usize>, NoMemory>
     requires keeps { Keeps router.now }
     requires place { n < length router.now.places.places }
@@ -230,7 +231,8 @@ fn no_room_at(router: &Fields, n: usize) -> Result<Option<usize>, NoMemory>
     }
 }
 
-/// The length to which a KEEPALIVE would take what a session put, where its hold time runs and no KEEPALIVE has room.
+/// Returns the length that a session's stream would have with a KEEPALIVE, if its hold time runs and there is no room
+/// for one.
 fn late(session: &Session) -> Option<usize>
     ensures some { IfSome result (λ n. IsStuckInTime session.now.session n) }
     ensures none { IfNone result ((n : ℕ) → ¬ IsStuckInTime session.now.session n) }
@@ -249,7 +251,7 @@ fn late(session: &Session) -> Option<usize>
     }
 }
 
-/// The same of the session that is live at a place.
+/// Returns the same length for the live session at a place.
 fn late_at(places: &Places<Place>, n: usize) -> Option<usize>
     ensures { TimeAnswer (place_at places.now.places n) result }
 {
@@ -259,7 +261,7 @@ fn late_at(places: &Places<Place>, n: usize) -> Option<usize>
     }
 }
 
-/// The length at which the session at a place is stuck, if it is.
+/// Returns the length at which the session at a place is stuck, if it is.
 fn stuck_at(router: &Fields, n: usize) -> Result<Option<usize>, NoMemory>
     requires keeps { Keeps router.now }
     requires place { n < length router.now.places.places }
@@ -271,8 +273,8 @@ fn stuck_at(router: &Fields, n: usize) -> Result<Option<usize>, NoMemory>
     }
 }
 
-/// The lowest peering whose live session is stuck: it has an UPDATE to put that would take what it put above 1,044,480 bytes, or else its hold time runs and a KEEPALIVE would. Beside it
-/// that length.
+/// Returns the lowest peering whose live session is stuck, with the length that its stream would have: its next UPDATE
+/// would take it above 1,044,480 bytes, or else its hold time runs and a KEEPALIVE would.
 pub(crate) fn stuck(router: &Fields) -> Result<Option<(PeeringId, usize)>, NoMemory>
     requires { Keeps router.now }
     ensures { IfOk result (λ answer. IsFirstStuck router.now.known.setup router.now.number.0 (router_part router.now) (option_map (λ x. (x.0.0, x.1)) answer)) }

@@ -20,7 +20,7 @@ use graft_steps::Item;
 use ring_net::Post;
 use session_places::Places;
 
-/// Lets a round pass on a session, where it may.
+/// Lets a round pass on a session, if one may.
 fn tick_session(session: &mut Session, round: u32) -> Result<Option<TickStep>, NoMemory>
     ensures { IfOk result (λ step. Ticked round session.old step session.new) }
 {
@@ -31,7 +31,7 @@ fn tick_session(session: &mut Session, round: u32) -> Result<Option<TickStep>, N
     Ok(Some(session.tick(round)?))
 }
 
-/// Lets a round pass on the session that is live there, where it may.
+/// Lets a round pass on the live session, if one may.
 fn tick_of(place: &mut Place, round: u32) -> Result<Option<TickStep>, NoMemory>
     ensures { IfOk result (λ step. AtPlace (Ticked round) (Some place.old) step (Some place.new)) }
 {
@@ -41,7 +41,7 @@ fn tick_of(place: &mut Place, round: u32) -> Result<Option<TickStep>, NoMemory>
     }
 }
 
-/// Lets a round pass on the session that is live at a place, where it may.
+/// Lets a round pass on the live session at a place, if one may.
 fn tick(places: &mut Places<Place>, n: usize, round: u32) -> Result<Option<TickStep>, NoMemory>
     ensures { IfOk result (λ step. AtOne (λ old new. AtPlace (Ticked round) old step new) places.old n places.new) }
 {
@@ -51,7 +51,7 @@ fn tick(places: &mut Places<Place>, n: usize, round: u32) -> Result<Option<TickS
     }
 }
 
-/// What the router follows of a round: the end of the session, or nothing.
+/// Returns the change that the router follows after a round: the end of the session, or none.
 fn followed(step: TickStep) -> ReadStep
     ensures { result ≡ followed_lem step }
 {
@@ -62,7 +62,7 @@ fn followed(step: TickStep) -> ReadStep
     }
 }
 
-/// Lets the round of this turn pass at a place, where it may, and follows it.
+/// Lets the round of this turn pass at a place, if it may, and follows the change.
 fn pass_round_at(
     router: &mut Fields,
     n: usize,
@@ -82,7 +82,7 @@ fn pass_round_at(
     follow(router, PeeringId(n as u8), followed(step))
 }
 
-/// Lets the round of this turn pass on each session on which one may.
+/// Lets the round of this turn pass on each session on which it may pass.
 pub(crate) fn pass_rounds(
     router: &mut Fields,
     post: &mut Post<Item<Capsule>>,

@@ -21,7 +21,7 @@ use ring_net::Post;
 use session_places::Places;
 use tcp_seq::{Segment, Seq};
 
-/// The retransmission turn of the session that is live there.
+/// Makes the retransmission turn of the live session.
 fn again_of(place: &mut Place) -> Result<Option<Segment>, NoMemory>
     ensures { IfOk result (λ answer. AtPlace SentAgain (Some place.old) answer (Some place.new)) }
 {
@@ -31,7 +31,7 @@ fn again_of(place: &mut Place) -> Result<Option<Segment>, NoMemory>
     }
 }
 
-/// The next new slice of the session that is live there.
+/// Emits the next new slice of the live session.
 fn next_of(place: &mut Place) -> Result<Option<Segment>, NoMemory>
     ensures { IfOk result (λ answer. AtPlace SentNext (Some place.old) answer (Some place.new)) }
 {
@@ -41,7 +41,7 @@ fn next_of(place: &mut Place) -> Result<Option<Segment>, NoMemory>
     }
 }
 
-/// The answer that the session owes which is live there.
+/// Emits the acknowledgement that the live session owes.
 fn answer_of(place: &mut Place) -> Option<Segment>
     ensures { AtPlace SentAnswer (Some place.old) result (Some place.new) }
 {
@@ -51,7 +51,7 @@ fn answer_of(place: &mut Place) -> Option<Segment>
     }
 }
 
-/// The retransmission turn of the session that is live at a place.
+/// Makes the retransmission turn of the live session at a place.
 pub(crate) fn again(places: &mut Places<Place>, n: usize) -> Result<Option<Segment>, NoMemory>
     ensures { IfOk result (λ answer. AtOne (λ old new. AtPlace SentAgain old answer new) places.old n places.new) }
 {
@@ -61,7 +61,7 @@ pub(crate) fn again(places: &mut Places<Place>, n: usize) -> Result<Option<Segme
     }
 }
 
-/// The next new slice of the session that is live at a place.
+/// Emits the next new slice of the live session at a place.
 pub(crate) fn next(places: &mut Places<Place>, n: usize) -> Result<Option<Segment>, NoMemory>
     ensures { IfOk result (λ answer. AtOne (λ old new. AtPlace SentNext old answer new) places.old n places.new) }
 {
@@ -71,7 +71,7 @@ pub(crate) fn next(places: &mut Places<Place>, n: usize) -> Result<Option<Segmen
     }
 }
 
-/// The answer that the session owes which is live at a place.
+/// Emits the acknowledgement that the live session at a place owes.
 pub(crate) fn answer(places: &mut Places<Place>, n: usize) -> Option<Segment>
     ensures { AtOne (λ old new. AtPlace SentAnswer old result new) places.old n places.new }
 {
@@ -81,8 +81,8 @@ pub(crate) fn answer(places: &mut Places<Place>, n: usize) -> Option<Segment>
     }
 }
 
-/// Where the segments go that are emitted on a peering: its number, that of the actor of its far side, and the number of the first byte
-/// of its home side.
+/// The destination of the segments that are emitted on a peering: its number, the number of its far side's actor, and
+/// the initial sequence number of its home side.
 #[derive(Clone, Copy, Debug)]
 pub(crate) struct Outlet {
     place: u32,
@@ -90,7 +90,7 @@ pub(crate) struct Outlet {
     first: Seq,
 }
 
-/// The outlet of the peering of a place.
+/// Returns the outlet of the peering of a place.
 pub(crate) fn outlet_of(router: &Fields, n: usize) -> Outlet
     requires keeps { Keeps router.now }
     requires place { n < length router.now.places.places }

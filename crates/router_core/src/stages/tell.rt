@@ -18,7 +18,7 @@ use graft_model::RouterEvent;
 use graft_steps::Item;
 use ring_net::Post;
 
-/// Tells a router what is best for a prefix that is due to it and decided.
+/// Tells a router the best route to a prefix that is due to it and isn't dirty.
 fn tell_one(
     router: &mut Fields,
     q: usize,
@@ -39,7 +39,7 @@ fn tell_one(
     note_router_sent(post, RouterEvent::Tell { router, prefix }, q, told)
 }
 
-/// Tells a router all that is due to it, by rising prefix.
+/// Tells a router all that is due to it, in ascending order of prefix.
 fn tell_router(
     router: &mut Fields,
     q: usize,
@@ -57,7 +57,7 @@ fn tell_router(
     Ok(())
 }
 
-/// Tells each other router what is due to it. Nothing is to be decided.
+/// Tells each other router what is due to it. No prefix may be dirty.
 pub(crate) fn tell_all(router: &mut Fields, post: &mut Post<Item<Capsule>>) -> Result<(), NoMemory>
     requires keeps { Keeps router.old }
     requires clean { router.old.rib.dirty ≡ map.empty }

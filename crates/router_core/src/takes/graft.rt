@@ -1,4 +1,5 @@
-//! Sessions that come: those that move here, those that come back, the question of their target and its answer, and word that one landed.
+//! Items of grafts: sessions that move here or come back, the question of their target and its answer, and word that
+//! one landed.
 
 ghost use Rattle.std.specs.Prelude.{◌≡◌, ◌<◌, ◌≤◌, ◌^◌, ◌∷◌, [], None, Some, true, is_some, length, count_by, IfOk, OnOk, MatchBool};
 ghost use Rattle.ring_net.specs.Posts.{SameEdges};
@@ -30,7 +31,8 @@ use graft_steps::{Item, Landed, Outcome, Refusal, admit};
 use ring_net::Post;
 use session_value::SessionConfig;
 
-/// Whether a session on its way, of a peering that is there, is established and has the first numbers of the peering.
+/// Returns whether the session in a capsule is of a known peering, is established, and has the initial sequence numbers
+/// of the peering.
 fn is_on_its_way(router: &Fields, capsule: &Capsule) -> bool
     requires keeps { Keeps router.now }
     requires there { capsule.now.session.config.peering.0 < length router.now.places.places }
@@ -49,7 +51,7 @@ fn is_on_its_way(router: &Fields, capsule: &Capsule) -> bool
     config.receive_first.0 == firsts.remote.0
 }
 
-/// A copy of a session's name for a policy that the router doesn't have.
+/// Returns a copy of the policy name that a session gives, if the router has no policy of that name.
 fn unknown(policies: &Policies, name: &Option<Name>) -> Result<Option<Name>, NoMemory>
     ensures { IfOk result (λ unknown. unknown ≡ unknown_by policies.now name.now) }
 {
@@ -62,7 +64,8 @@ fn unknown(policies: &Policies, name: &Option<Name>) -> Result<Option<Name>, NoM
     }
 }
 
-/// The name of the first policy that a session names and the router doesn't have: the import policy before the export policy.
+/// Returns the first policy name of a session for which the router has no policy. The import policy comes before the
+/// export policy.
 fn missing_policy(policies: &Policies, config: &SessionConfig) -> Result<Option<Name>, NoMemory>
     ensures { IfOk result (λ missing. missing ≡ missing_by policies.now config.now) }
 {
@@ -72,7 +75,7 @@ fn missing_policy(policies: &Policies, config: &SessionConfig) -> Result<Option<
     }
 }
 
-/// Why the router doesn't take a session in, if it doesn't.
+/// Returns why the router refuses a session, if it does.
 fn admission(router: &Fields, config: &SessionConfig) -> Result<Option<Refusal>, NoMemory>
     requires { router.now.places.room ≡ router.now.room }
     ensures { IfOk result (λ refusal. refusal ≡ admit_refusal (count_by is_some router.now.places.places) router.now.room (missing_by router.now.policies config.now)) }
@@ -104,8 +107,8 @@ fn turn_back(
     note_router_sent(post, RouterEvent::TurnBack { router: source }, from, back)
 }
 
-/// A session is live at a place, where none was, and routers are to be asked and its source to be told: what was told on it and what is best
-/// is due. It takes the memory that was reserved for it.
+/// Makes a session that landed live at a vacant place. Routers are to be asked, and then its source is to be told. What
+/// was told on it and what is best is due. It uses the room that was reserved for it.
 fn make_live(
     router: &mut Fields,
     place: usize,
@@ -125,7 +128,7 @@ fn make_live(
     Ok(())
 }
 
-/// A session that had left is live at its place again: what was told on it and what is best is due.
+/// Makes a session that had left live at its place again. What was told on it and what is best is due.
 fn live_again(router: &mut Fields, place: usize, session: Session) -> Result<(), NoMemory>
     requires there { is_some (place_at router.old.places.places place) ≡ true }
     requires sets { place < length router.old.due_out }
@@ -139,7 +142,8 @@ fn live_again(router: &mut Fields, place: usize, session: Session) -> Result<(),
     Ok(())
 }
 
-/// Takes in the routes of a session that lands, which is live then. Routers are to be asked and its source to be told.
+/// Takes in the routes of a session that lands, and makes it live. Routers are to be asked, and then its source is to
+/// be told.
 fn settle_in(router: &mut Fields, session: Session, landed: Landed) -> Result<(), NoMemory>
     requires place { session.session.config.peering.0 < length router.old.places.places }
     requires vacant { place_at router.old.places.places session.session.config.peering.0 ≡ None }
@@ -159,7 +163,9 @@ fn settle_in(router: &mut Fields, session: Session, landed: Landed) -> Result<()
     make_live(router, place, session, landed)
 }
 
-/// Takes a session that moves here: it lands, and reads all that it can, or is sent back. It is dropped where it isn't a router's, where its place is taken, and where it isn't established or hasn't the numbers of a peering.
+/// Takes a session that moves here: it lands, and reads all that it can, or is sent back. It is dropped if it isn't
+/// from a router, its place is taken, it isn't established, or it doesn't have the initial sequence numbers of its
+/// peering.
 pub(crate) fn take_moved(
     router: &mut Fields,
     from: usize,
@@ -197,7 +203,8 @@ pub(crate) fn take_moved(
     read_all(router, peering, post)
 }
 
-/// Takes a session that comes back refused, and reports it. It is dropped where no shadow is of that graft, and where it isn't established or hasn't the numbers of its peering.
+/// Takes a session that comes back refused, and reports it. It is dropped if there is no shadow of that graft, it isn't
+/// established, or it doesn't have the initial sequence numbers of its peering.
 pub(crate) fn take_back(
     router: &mut Fields,
     from: usize,
@@ -240,8 +247,8 @@ pub(crate) fn take_back(
     read_all(router, peering, post)
 }
 
-/// Answers a router that asks whether all was heard that it told: whatever came before the question is heard. The question is dropped where
-/// it isn't a router's.
+/// Answers a router that asks whether all that it told was heard. Everything that came before the question was heard.
+/// The question is dropped if it isn't from a router.
 pub(crate) fn take_asked(
     router: &mut Fields,
     from: usize,
@@ -261,8 +268,8 @@ pub(crate) fn take_asked(
     note_router_sent(post, RouterEvent::Answer { router: asker }, from, answered)
 }
 
-/// Takes the answer of a router that was asked: where the session of the peering waits for it in this graft, the next router may be asked.
-/// The answer is dropped where it isn't a router's.
+/// Takes the answer of a router that was asked. If the session of the peering waits for it in this graft, the next
+/// router may be asked. The answer is dropped if it isn't from a router.
 pub(crate) fn take_answered(
     router: &mut Fields,
     from: usize,
@@ -284,7 +291,8 @@ pub(crate) fn take_answered(
     Ok(())
 }
 
-/// Takes word that a session landed: its shadow ends here, with its routes. It is dropped where no shadow is of that graft.
+/// Takes word that a session landed, and removes its shadow and its routes. The word is dropped if there is no shadow
+/// of that graft.
 pub(crate) fn take_done(
     router: &mut Fields,
     from: usize,

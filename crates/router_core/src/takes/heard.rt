@@ -1,4 +1,4 @@
-//! What sessions' routes are here.
+//! The routes that sessions bring in at this router.
 
 ghost use Rattle.std.specs.Prelude.{◌≡◌, option_copied, IfOk, OnOk};
 ghost use Rattle.route_policy.specs.Candidates.{SessionRoute, imported};
@@ -13,10 +13,11 @@ use bgp_types::{Attrs, From, NoMemory, Prefix, Route, TryCopy, holds_as};
 use rib_stages::{InEntry, Rib};
 use route_policy::Policy;
 
-/// The preference of a route for which no policy sets one.
+/// The preference of a route if no policy sets one.
 const PREFERENCE: u32 = 100;
 
-/// What an import policy makes of attributes that are heard. A route whose path has the home AS would be a loop, and is none (RFC 4271, sections 9.1.1 and 9.1.2).
+/// Returns the route that an import policy makes of attributes that were heard. If the path has the home AS it would be
+/// a loop, so there is no route (RFC 4271, sections 9.1.1 and 9.1.2).
 fn import(
     home_as: u32,
     policy: Option<&Policy>,
@@ -43,7 +44,7 @@ fn import(
     }
 }
 
-/// What a session brings in for a prefix, by the policies that the router has.
+/// Returns the entry that a session brings in for a prefix, by the router's policies.
 fn brought(
     home_as: u32,
     policies: &Policies,
@@ -64,7 +65,7 @@ fn brought(
     })
 }
 
-/// Gives a prefix the entry that a session brings in for it, or none.
+/// Sets a session's entry for a prefix to what the session brings in, or removes it.
 fn enter_one(
     rib: &mut Rib,
     home_as: u32,
@@ -78,7 +79,7 @@ fn enter_one(
     rib.set_in(From::Peering(session.config().peering), entry)
 }
 
-/// Gives each of the prefixes the entry that a session brings in for it, or none.
+/// Sets a session's entry for each of the prefixes to what the session brings in, or removes it.
 pub(crate) fn enter(
     rib: &mut Rib,
     home_as: u32,

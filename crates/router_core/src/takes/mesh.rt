@@ -1,4 +1,4 @@
-//! What another router tells.
+//! Routes that another router tells.
 
 ghost use Rattle.std.specs.Prelude.{OnOk};
 ghost use Rattle.ring_net.specs.Posts.{SameEdges};
@@ -16,7 +16,7 @@ use graft_steps::Item;
 use rib_stages::InEntry;
 use ring_net::Post;
 
-/// Hears what another router tells of a prefix. It drops what isn't a router's.
+/// Hears what another router tells about a prefix. An item that isn't from a router is dropped.
 pub(crate) fn hear(
     router: &mut Fields,
     from: usize,

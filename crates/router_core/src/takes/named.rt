@@ -8,7 +8,7 @@ use crate::config::{NamedPolicy, Policies};
 use graft_edge::Name;
 use route_policy::Policy;
 
-/// The first of these policies that has a name.
+/// Returns the first of these policies that has this name.
 pub(crate) fn find_named<'a>(policies: &'a [NamedPolicy], name: &Name) -> Option<&'a Policy>
     ensures { option_copied result ≡ rules_at policies.now name.now }
 {
@@ -18,7 +18,8 @@ pub(crate) fn find_named<'a>(policies: &'a [NamedPolicy], name: &Name) -> Option
     Some(&named.policy)
 }
 
-/// The policy that the router has for a session's name. None where the session names none, or the router has none of the name.
+/// Returns the router's policy of the name that a session gives. `None` if the session names none, or the router has
+/// none of that name.
 pub(crate) fn policy_of<'a>(policies: &'a Policies, name: &Option<Name>) -> Option<&'a Policy>
     ensures { option_copied result ≡ rules_by policies.now name.now }
 {

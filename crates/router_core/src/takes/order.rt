@@ -1,4 +1,4 @@
-//! The orders that a router takes, and items that no router takes.
+//! Orders that a router takes, and items that no router takes.
 
 ghost use Rattle.std.specs.Prelude.{OnOk};
 ghost use Rattle.ring_net.specs.Posts.{SameEdges};
@@ -15,7 +15,8 @@ use graft_model::RouterEvent;
 use graft_steps::{Item, Ordered};
 use ring_net::Post;
 
-/// Stores the order of a graft with the live session that it is for. It drops one that isn't the operator's, whose session isn't live here or has something to be done for another graft, or whose target isn't one of the routers.
+/// Stores the order of a graft with the live session that it names. It is dropped if it isn't from the operator, if its
+/// session isn't live here or has an errand, or if its target isn't one of the routers.
 pub(crate) fn admit(
     router: &mut Fields,
     from: usize,

@@ -9,7 +9,7 @@ use due_set::DueSet;
 use rib_stages::Rib;
 use std::alloc::Global;
 
-/// Puts prefixes into a set.
+/// Adds prefixes to a set.
 fn add_all(set: &mut DueSet, prefixes: &[Prefix]) -> Result<(), NoMemory>
     ensures { OnOk result (AddsAll set.old prefixes.now set.new) }
 {
@@ -19,7 +19,7 @@ fn add_all(set: &mut DueSet, prefixes: &[Prefix]) -> Result<(), NoMemory>
     Ok(())
 }
 
-/// The set of the prefixes that have a best route: what is due on a session once it is established.
+/// Returns the set of the prefixes that have a best route: those that are due on a session once it is established.
 pub(crate) fn all_best(alloc: Global, rib: &Rib) -> Result<DueSet, NoMemory>
     ensures { IfOk result (λ set. IsDueBest rib.now.best set) }
 {
@@ -28,7 +28,8 @@ pub(crate) fn all_best(alloc: Global, rib: &Rib) -> Result<DueSet, NoMemory>
     Ok(set)
 }
 
-/// The set of the prefixes that were told on a session or have a best route: what is due on a session that is live again.
+/// Returns the set of the prefixes that were told on a session or have a best route: those that are due on a session
+/// that is live again.
 pub(crate) fn due_again(alloc: Global, rib: &Rib, session: &Session) -> Result<DueSet, NoMemory>
     ensures { IfOk result (λ set. IsDueAgain session.now.session.told rib.now.best set) }
 {

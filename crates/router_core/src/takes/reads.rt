@@ -21,7 +21,7 @@ use graft_model::RouterEvent;
 use graft_steps::Item;
 use ring_net::Post;
 
-/// Gives each of the prefixes the entry that the live session at a place brings in for it.
+/// Sets the entry of each of the prefixes to what the live session at a place brings in.
 fn enter_at(router: &mut Fields, place: usize, prefixes: &[Prefix]) -> Result<(), NoMemory>
     requires { place < length router.old.places.places }
     ensures same { OnOk result (router.new ≡ record router.old { rib = router.new.rib }) }
@@ -40,8 +40,8 @@ fn enter_at(router: &mut Fields, place: usize, prefixes: &[Prefix]) -> Result<()
     }
 }
 
-/// Follows what the live session of a peering read: its entries are what it brings in now, and all best routes are due on it once it is established, nothing once
-/// it is closed.
+/// Follows what the live session of a peering read. Its entries become what it brings in now. All best routes are due
+/// on it once it is established, and nothing is due once it is closed.
 pub(crate) fn follow(
     router: &mut Fields,
     peering: PeeringId,
@@ -68,7 +68,7 @@ pub(crate) fn follow(
     }
 }
 
-/// Lets the live session of a peering read one message, and follows it. It answers whether there was one.
+/// Lets the live session of a peering read one message, and follows it. Returns whether there was one.
 fn read_one(
     router: &mut Fields,
     peering: PeeringId,

@@ -1,4 +1,4 @@
-//! The segments that a router takes.
+//! Segments that a router takes.
 
 ghost use Rattle.std.specs.Prelude.{◌<◌, length, MatchBool, OnOk};
 ghost use Rattle.ring_net.specs.Posts.{SameEdges};
@@ -19,10 +19,10 @@ use graft_steps::Item;
 use ring_net::Post;
 use tcp_seq::{Segment, Way};
 
-/// How many bytes a segment has at most.
+/// The most bytes that a segment has.
 const MOST_BYTES: usize = 65_535;
 
-/// Whether a segment is of this peering and goes home, with numbers of places in streams.
+/// Returns whether a segment is of this peering and goes home, with sequence numbers within its streams.
 fn is_of(router: &Fields, peering: PeeringId, segment: &Segment) -> bool
     requires keeps { Keeps router.now }
     requires there { peering.0 < length router.now.places.places }
@@ -37,7 +37,9 @@ fn is_of(router: &Fields, peering: PeeringId, segment: &Segment) -> bool
         && segment.is_in_streams(firsts.remote, firsts.home)
 }
 
-/// Takes a segment of a far side: it arrives at the live session of its peering, which then reads all that it can, or it finds none and strays. It drops one that isn't of its sender's peering, and one that goes to the remote, is too long, or has the numbers of no place.
+/// Takes a segment of a far side: it arrives at the live session of its peering, which then reads all that it can, or
+/// it finds none and strays. A segment is dropped if it isn't of its sender's peering, goes to the remote, is too long,
+/// or has sequence numbers outside the streams.
 pub(crate) fn take_segment(
     router: &mut Fields,
     from: usize,

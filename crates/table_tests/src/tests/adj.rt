@@ -36,10 +36,10 @@ fn attrs(alloc: Global, next_hop: u32) -> Attrs {
     }
 }
 
-/// What an UPDATE withdraws, and what it announces by a next hop.
+/// What an UPDATE withdraws, and what it announces with a next hop.
 type Told<'a> = (&'a [(u32, u8)], u32, &'a [(u32, u8)]);
 
-/// Takes an UPDATE. These prefixes, and no others, have then changed.
+/// Applies an UPDATE, and checks that exactly these prefixes have changed.
 fn take(
     rt: &impl Abort,
     alloc: Global,
@@ -57,7 +57,7 @@ fn take(
     Ok(())
 }
 
-/// The next hop of a prefix, where it has a route.
+/// Returns the next hop of a prefix, if it has a route.
 fn next_hop(rib: &AdjRib, at: (u32, u8)) -> Result<Option<u32>, Fail> {
     Ok(rib.get(prefix(at)?).map(|attrs| attrs.next_hop))
 }
@@ -87,8 +87,8 @@ fn one_update_withdraws_and_announces(rt: HostRuntime) -> Result<(), Fail> {
     Ok(())
 }
 
-/// What is as it was isn't listed: a route that is announced again, also after its own withdrawal, and
-/// the withdrawal of what isn't there.
+/// What doesn't change isn't listed: a route that is announced again, also after its own withdrawal, and the withdrawal
+/// of an absent route.
 #[test]
 fn what_stays_is_not_listed(rt: HostRuntime) -> Result<(), Fail> {
     let mut rib = AdjRib::new(rt.alloc());

@@ -4,7 +4,7 @@ use std::alloc::Global;
 use std::process::Abort;
 use std::test::Fail;
 
-/// What is done with a set, with numbers that stand for prefixes: n for 10.n.0.0/16.
+/// A call on a set. Numbers stand for prefixes: n for 10.n.0.0/16.
 #[derive(Clone, Copy)]
 enum Step {
     Insert(u8),
@@ -99,7 +99,7 @@ fn run(set: &mut DueSet, step: Step) -> Result<(), Fail> {
     Ok(())
 }
 
-/// Whether a set is left with the prefixes of a case.
+/// Runs a case, and checks that the set is left with its prefixes.
 fn run_case(rt: &impl Abort, alloc: Global, case: &Case) -> Result<(), Fail> {
     let mut set = DueSet::new(alloc);
     for step in case.steps {

@@ -8,7 +8,7 @@ fn prefix(address: u32, len: u8) -> Result<Prefix, Fail> {
     Ok(Prefix::new(address, len).ok_or("the length is at most 32")?)
 }
 
-/// A route of the router's own, with this preference.
+/// Returns a route of the router's own, with this preference.
 fn best(alloc: Global, pref: u32) -> Best {
     Best {
         from: From::Own,
@@ -27,7 +27,7 @@ fn best(alloc: Global, pref: u32) -> Best {
     }
 }
 
-/// What `set` answers, one call after another.
+/// Checks what `set` returns, one call after another.
 #[test]
 fn a_best_route_changes(rt: HostRuntime) -> Result<(), Fail> {
     let ten = prefix(0x0A00_0000, 8)?;
@@ -48,7 +48,7 @@ fn a_best_route_changes(rt: HostRuntime) -> Result<(), Fail> {
     Ok(())
 }
 
-/// Dirty prefixes are settled in rising order, and each once.
+/// Dirty prefixes are settled in ascending order, each once.
 #[test]
 fn dirty_prefixes(rt: HostRuntime) -> Result<(), Fail> {
     let (low, high) = (prefix(0x0A00_0000, 8)?, prefix(0x0A00_0000, 9)?);

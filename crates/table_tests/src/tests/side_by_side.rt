@@ -22,15 +22,15 @@ impl Numbers {
     }
 }
 
-/// One of four addresses, or one that differs from it in a bit: so many prefixes of them are equal,
-/// cover one another or part at some bit.
+/// One of four addresses, or one that differs from it in a bit: so that many prefixes of them are equal, cover one
+/// another or diverge at some bit.
 fn any_address(numbers: &mut Numbers) -> u32 {
     let base = numbers.next() % 4 * 0x5555_5555;
     let bit = numbers.next() % 64;
     if bit < 32 { base ^ 1 << bit } else { base }
 }
 
-/// A prefix of any length.
+/// Returns a prefix of any length.
 fn any_prefix(numbers: &mut Numbers) -> Option<Prefix> {
     let address = any_address(numbers);
     Prefix::new(address, (numbers.next() % 33) as u8)
@@ -73,7 +73,7 @@ fn run<T: Table<u32>>(table: &mut T, command: &Command) -> Result<Answer, NoMemo
     })
 }
 
-/// What a walk through a table passes, at most one more than there are.
+/// Returns what a walk through a table passes, at most one entry more than the table has.
 fn passed<T: Table<u32>>(alloc: Global, table: &T) -> Result<Vec<(Prefix, u32)>, AllocError> {
     let mut passed = Vec::new(alloc);
     let mut at = None;
@@ -89,7 +89,7 @@ fn passed<T: Table<u32>>(alloc: Global, table: &T) -> Result<Vec<(Prefix, u32)>,
     Ok(passed)
 }
 
-/// Gives two empty tables so many commands, which are to be answered alike.
+/// Runs `commands` commands on two empty tables, and checks that both answer alike.
 fn run_both<R: Abort>(
     rt: &R,
     alloc: Global,

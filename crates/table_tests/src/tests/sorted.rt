@@ -16,7 +16,7 @@ fn prefix(address: u32, len: u8) -> Result<Prefix, Fail> {
     Ok(Prefix::new(address, len).ok_or("the length is at most 32")?)
 }
 
-/// A table with the prefixes of `RISING`, each with its length as value. The greatest is set first.
+/// Returns a table with the prefixes of `RISING`, each with its length as value. The greatest is set first.
 fn filled(alloc: Global) -> Result<SortedTable<u32>, Fail> {
     let mut table = SortedTable::new(alloc);
     for (address, len) in RISING.iter().rev() {
@@ -50,7 +50,7 @@ fn a_walk_passes_all_prefixes_by_address_and_then_by_length(rt: HostRuntime) -> 
         assert_eq!(rt; at.map(|p| (p.address(), p.len())), Some((address, len)));
     }
     assert_eq!(rt; table.next_after(at), None);
-    // a walk goes on from a prefix that isn't there
+    // a walk goes on from an absent prefix
     let absent = prefix(0x0A00_0000, 12)?;
     assert_eq!(rt;
         table.next_after(Some(absent)),

@@ -18,7 +18,7 @@ fn prefix(at: (u32, u8)) -> Result<Prefix, Fail> {
     Ok(Prefix::new(at.0, at.1).ok_or("the length is at most 32")?)
 }
 
-/// A table with these prefixes, each of which has its length as its value.
+/// Returns a table with these prefixes, each of which has its length as its value.
 fn table_of(alloc: Global, prefixes: &[(u32, u8)]) -> Result<TrieTable<u8>, Fail> {
     let mut table = TrieTable::new(alloc);
     for at in prefixes {
@@ -44,7 +44,7 @@ fn each_call(rt: HostRuntime) -> Result<(), Fail> {
     Ok(())
 }
 
-/// Whether each host has this longest prefix.
+/// Checks that each host has this longest prefix.
 fn match_hosts(rt: &impl Abort, table: &TrieTable<u8>, cases: &[(u32, Option<Prefix>)]) {
     for case in cases {
         assert_eq!(rt; table.longest_match(case.0), case.1, "host {}", case.0);
@@ -73,8 +73,8 @@ fn the_longest_prefix_matches(rt: HostRuntime) -> Result<(), Fail> {
     Ok(())
 }
 
-/// A host's own prefix matches it alone. Between two prefixes that are apart there is a node for the
-/// bits that they share, and that is no match.
+/// A host's own prefix matches it alone. Two diverging prefixes have a node for the bits that they share, which is no
+/// match.
 #[test]
 fn what_has_no_value_matches_nothing(rt: HostRuntime) -> Result<(), Fail> {
     let table = table_of(
@@ -95,7 +95,7 @@ fn what_has_no_value_matches_nothing(rt: HostRuntime) -> Result<(), Fail> {
     Ok(())
 }
 
-/// Whether a walk from the least prefix meets these, and no other.
+/// Checks that a walk from the least prefix passes these prefixes, and no others.
 fn walk(rt: &impl Abort, table: &TrieTable<u8>, prefixes: &[(u32, u8)]) -> Result<(), Fail> {
     let mut last = None;
     for at in prefixes {
@@ -135,7 +135,7 @@ fn a_walk_meets_the_shorter_first(rt: HostRuntime) -> Result<(), Fail> {
             last,
         ],
     )?;
-    // from what is not there
+    // from an absent prefix
     assert_eq!(rt;
         table.next_after(Some(prefix((0x0A00_0000, 7))?)),
         Some(prefix(TEN)?)
@@ -151,8 +151,8 @@ fn a_walk_meets_the_shorter_first(rt: HostRuntime) -> Result<(), Fail> {
     Ok(())
 }
 
-/// The two halves and what they share are three nodes, of four that were taken ahead; where one of them goes, its branch is
-/// joined with what stays, and two nodes are free.
+/// The two halves and their common node take three nodes of the four that were reserved. When one half is removed, its
+/// branch is joined with the other, and two nodes are free.
 #[test]
 fn a_removal_joins_branches(rt: HostRuntime) -> Result<(), Fail> {
     let mut table: TrieTable<u8> = TrieTable::new(rt.alloc());
@@ -179,7 +179,7 @@ fn memory_that_was_taken_ahead_is_used(rt: HostRuntime) -> Result<(), Fail> {
     let mut table = table_of(rt.alloc(), &[LOW_HALF])?;
     table.reserve(2)?;
     assert_eq!(rt; table.spare(), 2);
-    // more than there are prefixes
+    // more nodes than there are prefixes
     assert!(rt; table.reserve(1 << 33).is_err());
     assert_eq!(rt; table.set_reserved(prefix(LOW_HALF)?, 1), Some(9));
     assert_eq!(rt; table.spare(), 2);

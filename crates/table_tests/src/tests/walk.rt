@@ -1,6 +1,6 @@
 use bgp_types::{Prefix, Table};
 
-/// The longest prefix of a table that covers an address, by a walk over all of them.
+/// Returns the longest prefix of a table that covers an address, by a walk over all of them.
 pub fn longest<T: Table<u32>>(table: &T, address: u32) -> Option<Prefix> {
     let host = Prefix::new(address, 32)?;
     let mut longest = None;
