@@ -22,7 +22,7 @@ use Rattle.lab_keys.specs.Kinds.{flaw_if, beyond, words_of, is_one_of, hold_time
 use Rattle.lab_keys.specs.Keys.{required, optional, present, key_flaw, keys_flaw, stray_flaw, tables_flaw}
 use Rattle.lab_keys.specs.Texts.{is_hex, octets_in}
 use Rattle.lab_keys.specs.Values.{number_in, number_or, address_or, items_at, tables_at}
-use Rattle.lab_keys.proofs.NoFlaws.{none_left, none_right, IsWithin, number_within, host_required, maybe_fits, tables_all}
+use Rattle.lab_keys.proofs.NoFlaws.{none_left, none_right, IsWithin, number_within, host_required, host_optional, maybe_fits, tables_all}
 use Rattle.lab_tables.specs.Routers.{router_keys, router_flaw}
 use Rattle.lab_tables.specs.Peerings.{cost_flaw, fault_flaw, peering_ends, peering_rest, peering_flaw, opening_of, default_opening, remote_id_of, remote_as4_of}
 use Rattle.lab_tables.specs.declared.input.PeeringInput.{PeeringInput}
@@ -176,6 +176,8 @@ pub record IsPeeringTable (t : Members) : Type 0 where
   pub address : is_no_host (address_or 0 (codes "remote_address") t) ≡ false
   pub local : is_no_host (address_or 0 (codes "local_address") t) ≡ false
   pub home_hold : is_short_hold (number_or 16 0 (codes "home_hold") t) ≡ false
+  pub remote_id : is_no_host (remote_id_of t) ≡ false
+  pub hold : is_short_hold (number_or 16 180 (codes "hold") t) ≡ false
   pub opening : length (opening_of t) ≤ 4096
 
 peering_kept : (doc : Members) (i : ℕ) (t : Members) → peering_flaw doc i t ≡ None → IsPeeringTable t
@@ -185,12 +187,16 @@ peering_kept doc i t none =
     let behind = none_right (keys_flaw at peering_ends t) _ none in
     let rest_on = none_right (flaw_if (number_or 32 0 (codes "remote_as") t == number_or 32 0 (codes "home_as") doc) (Shape (place at (codes "remote_as")))) _ behind in
     let rest = none_left (keys_flaw at peering_rest t) _ rest_on in
+    let address = host_required at t (codes "remote_address") 0 (none_of (map (key_flaw at t) peering_rest) 0 (key_flaw at t (required (codes "remote_address") Host)) rest refl) in
     record {
       remote_as = number_within at t (codes "remote_as") 32 0 1 4294967295 (omega arith)
           (none_of (map (key_flaw at t) peering_ends) 2 (key_flaw at t (required (codes "remote_as") (Number 1 4294967295))) ends refl);
-      address = host_required at t (codes "remote_address") 0 (none_of (map (key_flaw at t) peering_rest) 0 (key_flaw at t (required (codes "remote_address") Host)) rest refl);
+      address = address;
       local = host_required at t (codes "local_address") 0 (none_of (map (key_flaw at t) peering_rest) 1 (key_flaw at t (required (codes "local_address") Host)) rest refl);
       home_hold = hold_kept at t (codes "home_hold") 0 (none_of (map (key_flaw at t) peering_rest) 11 (key_flaw at t (optional (codes "home_hold") HoldTime)) rest refl) refl;
+      remote_id = host_optional at t (codes "remote_id") (address_or 0 (codes "remote_address") t)
+          (none_of (map (key_flaw at t) peering_rest) 2 (key_flaw at t (optional (codes "remote_id") Host)) rest refl) address;
+      hold = hold_kept at t (codes "hold") 180 (none_of (map (key_flaw at t) peering_rest) 7 (key_flaw at t (optional (codes "hold") HoldTime)) rest refl) refl;
       opening = opening_few at t (none_of (map (key_flaw at t) peering_rest) 8 (key_flaw at t (optional (codes "opening") (Hex 0 4096))) rest refl);
     }
 

@@ -6,4 +6,6 @@ pub mod Lists
 pub mod Names
 pub mod Octets
 pub mod Ready
+pub mod Accepted
+pub mod Setups
 pub mod Said

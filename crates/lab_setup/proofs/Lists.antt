@@ -1,10 +1,11 @@
 -- Lists by place: what stands in a list that was made from another one, and what is first in it.
-use Rattle.std.proofs.Common.{◌≡◌, ℕ, ◌+◌, ◌<◌, zero, suc, Bool, true, false, cond, not, ◌||◌, List, [], ◌∷◌, ◌++◌, length, map, refl, sym, ap, ◌∙◌, subst, arith, nat_lt}
+use Rattle.std.proofs.Common.{◌≡◌, ℕ, ◌+◌, ◌<◌, zero, suc, Bool, true, false, cond, not, ◌||◌, List, [], ◌∷◌, ◌++◌, length, map, refl, sym, ap, ◌∙◌, subst, arith, nat_lt, slice_index_or}
 use Rattle.std.specs.Prelude.{Option, Some, None, option_map, unwrap_or, slice_get, find, count_by, is_some}
 use Rattle.std.specs.List.{AllByRecursion, enumerate_from, list_any, position_or_len, position}
 use Rattle.std.proofs.lemmas.Bool.{false≢true}
 use Rattle.std.proofs.lemmas.Bool.Decides.{nat_tests}
 use Rattle.std.proofs.lemmas.List.Sums.{sum_by-cons}
+use Rattle.std.proofs.lemmas.Option.{slice_get-get_or}
 use Rattle.lab_keys.specs.Kinds.{first_of, each_from}
 use Rattle.lab_keys.proofs.NoFlaws.{none_left, none_right}
 use Rattle.lab_tables.proofs.Groups.{any_of_mapped}
@@ -68,6 +69,11 @@ pub below_get : {A : Type 0} (xs : List A) (k : ℕ) → k < length xs → IsIn 
 below_get [] k lt = absurd (omega arith)
 below_get (y ∷ xs) zero lt = record { x = y; is = refl }
 below_get (y ∷ xs) (suc k) lt = let rest = below_get xs k (omega arith) in record { x = rest.x; is = rest.is }
+
+-- what was read at a place
+pub read_at : {X : Type 0} (xs ys : List X) (i k : ℕ) (x : X) → ys ≡ xs → i ≡ k → k < length xs → x ≡ slice_index_or ys i x → slice_get xs k ≡ Some x
+read_at xs ys i k x same place below is =
+    slice_get-get_or xs k x below ∙ ap Some (sym (is ∙ ap (λ zs. slice_index_or zs i x) same ∙ ap (λ n. slice_index_or xs n x) place))
 
 pub all_at : {A : Type 0} (P : A → Type 0) (xs : List A) (k : ℕ) (x : A) → AllByRecursion P xs → slice_get xs k ≡ Some x → P x
 all_at P [] k x all e = absurd (none_is x e)

@@ -14,8 +14,12 @@ use Rattle.lab_tables.specs.declared.input.Step.{Step}
 use Rattle.lab_tables.specs.declared.input.Step.TheVariants.{Announce, Withdraw, Raw, Graft, Settle, Evacuate}
 use Rattle.lab_input.specs.Said.{update_of}
 use Rattle.lab_input.specs.Counts.{is_wide, octets_if, said_by}
-use Rattle.lab_setup.specs.Setups.{is_wide_at, script_step, ended_by, ended}
+use Rattle.lab_tables.specs.declared.input.LabInput.{LabInput}
+use Rattle.lab_setup.specs.Said.{some_if, said_over}
+use Rattle.lab_setup.specs.Said.{said_by as bytes_by}
+use Rattle.lab_setup.specs.Setups.{is_wide_at, script_step, ended_by, ended, setup_of}
 use Rattle.lab_setup.proofs.Lists.{all_append}
+use Rattle.lab_setup.proofs.Setups.{steps_are}
 
 module _ (peerings : List PeeringInput) (p : ℕ) (peering : PeeringInput) (there : slice_get peerings p ≡ Some peering) where
   width : is_wide_at peerings p ≡ is_wide peering
@@ -61,6 +65,50 @@ module _ (peerings : List PeeringInput) (p : ℕ) (peering : PeeringInput) (ther
   -- what a remote says over the script has as many octets as over the steps of the input
   pub said_whole : (steps : List Step) → length (flat_map (said_in_model p) (ended (map (script_step peerings) steps))) ≡ sum_by (said_by (is_wide peering) p) steps
   said_whole steps = said_steps steps (ended_by (last_or None (map (script_step peerings) steps))) (nothing_more (last_or None (map (script_step peerings) steps)))
+
+  -- ---- the bytes themselves
+
+  bytes_as : (q : ℕ) (u : Bool → List ℕ) → said_in_model p (SayStep q (u (is_wide_at peerings q))) ≡ unwrap_or (some_if (eqb q p) (u (is_wide peering))) []
+  bytes_as q u = by_test (eqb q p) refl where
+    by_test : (t : Bool) → eqb q p ≡ t → cond t (u (is_wide_at peerings q)) [] ≡ unwrap_or (some_if t (u (is_wide peering))) []
+    by_test true e = ap (λ n. u (is_wide_at peerings n)) (eqb-true q p e) ∙ ap u width
+    by_test false e = refl
+
+  raw_bytes : (q : ℕ) (bytes : List ℕ) → said_in_model p (SayStep q bytes) ≡ unwrap_or (some_if (eqb q p) bytes) []
+  raw_bytes q bytes = by_test (eqb q p) where
+    by_test : (t : Bool) → cond t bytes [] ≡ unwrap_or (some_if t bytes) []
+    by_test true = refl
+    by_test false = refl
+
+  step_bytes : (step : Step) → said_in_model p (script_step peerings step) ≡ unwrap_or (bytes_by (is_wide peering) p step) []
+  step_bytes (Announce q prefixes a) = bytes_as q.0 (λ wide. spell (UpdateMsg (update_of (Announce q prefixes a))) wide)
+  step_bytes (Withdraw q prefixes) = bytes_as q.0 (λ wide. spell (UpdateMsg (update_of (Withdraw q prefixes))) wide)
+  step_bytes (Raw q bytes) = raw_bytes q.0 bytes
+  step_bytes (Graft q target) = refl
+  step_bytes (Settle rounds least) = refl
+  step_bytes (Evacuate router) = refl
+
+  steps_bytes : (steps : List Step) (more : List ScriptStep) → flat_map (said_in_model p) more ≡ []
+      → flat_map (said_in_model p) (map (script_step peerings) steps ++ more) ≡ said_over (is_wide peering) p steps
+  steps_bytes [] more nothing = nothing
+  steps_bytes (step ∷ steps) more nothing =
+      ap (λ bytes. bytes ++ flat_map (said_in_model p) (map (script_step peerings) steps ++ more)) (step_bytes step)
+      ∙ ap (λ bytes. unwrap_or (bytes_by (is_wide peering) p step) [] ++ bytes) (steps_bytes steps more nothing)
+
+  silent_end : (o : Option ScriptStep) → flat_map (said_in_model p) (ended_by o) ≡ []
+  silent_end None = refl
+  silent_end (Some (SayStep q bytes)) = refl
+  silent_end (Some (MoveStep q target)) = refl
+  silent_end (Some (EvacuateStep router)) = refl
+  silent_end (Some SettleStep) = refl
+
+  -- what a remote says over the script is what the steps of the input have it say
+  pub script_bytes : (steps : List Step) → flat_map (said_in_model p) (ended (map (script_step peerings) steps)) ≡ said_over (is_wide peering) p steps
+  script_bytes steps = steps_bytes steps (ended_by (last_or None (map (script_step peerings) steps))) (silent_end (last_or None (map (script_step peerings) steps)))
+
+pub setup_bytes : (input : LabInput) (p : ℕ) (peering : PeeringInput) → slice_get input.peerings p ≡ Some peering
+    → flat_map (said_in_model p) (setup_of input).steps ≡ said_over (is_wide peering) p input.steps
+setup_bytes input p peering there = ap (flat_map (said_in_model p)) (steps_are input) ∙ script_bytes input.peerings p peering there input.steps
 
 -- ---- the last step
 

@@ -1,1 +1,3 @@
 pub mod Setups
+pub mod Said
+pub mod Accepted

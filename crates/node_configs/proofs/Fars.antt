@@ -15,7 +15,7 @@ use Rattle.node_configs.specs.Accepted.{IsAccepted}
 use Rattle.node_configs.specs.Says.{says_of}
 use Rattle.node_configs.proofs.Accepted.{HasFew, few, is_setup}
 use Rattle.lab_setup.proofs.Ready.{as_many_routers, as_many_peerings}
-use Rattle.node_configs.proofs.Setups.{peering_there, steps_are}
+use Rattle.lab_setup.proofs.Setups.{peering_there, steps_are}
 use Rattle.node_configs.proofs.Said.{says_are}
 
 pub width : (input : LabInput) (p : ℕ) (x : PeeringInput) → slice_get input.peerings p ≡ Some x → is_wide x ≡ is_wide_at input.peerings p

@@ -1,6 +1,5 @@
 pub mod Lists
 pub mod Accepted
-pub mod Setups
 pub mod Said
 pub mod Fars
 pub mod Scripts

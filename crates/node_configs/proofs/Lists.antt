@@ -1,8 +1,7 @@
 -- Lists that are made from numbered elements.
-use Rattle.std.proofs.Common.{◌≡◌, ℕ, ◌+◌, ◌-◌, ◌<◌, Bool, true, false, cond, List, [], ◌∷◌, ◌++◌, length, map, filter, refl, ap, sym, ◌∙◌, slice_index_or, arith}
+use Rattle.std.proofs.Common.{◌≡◌, ℕ, ◌+◌, ◌-◌, Bool, true, false, cond, List, [], ◌∷◌, ◌++◌, length, map, filter, refl, ap, ◌∙◌, arith}
 use Rattle.std.specs.Prelude.{Option, Some, None, option_map, slice_get}
 use Rattle.std.specs.List.{flat_map, enumerate_from, last_or}
-use Rattle.std.proofs.lemmas.Option.{slice_get-get_or}
 
 -- what is made from elements with their numbers, and then seen without them
 pub map_numbered : {X Y Z : Type 0} (f : ℕ × X → Y) (g : Y → Z) (h : X → Z) → ((n : ℕ) (x : X) → g (f (n, x)) ≡ h x) → (xs : List X) (n : ℕ) → map g (map f (enumerate_from n xs)) ≡ map h xs
@@ -40,8 +39,3 @@ last_from o x (y ∷ ys) = last_from (Some x) y ys
 pub last_is : {X : Type 0} (xs : List X) → slice_get xs (length xs - 1) ≡ last_or None xs
 last_is [] = refl
 last_is (x ∷ xs) = let e : length (x ∷ xs) - 1 ≡ length xs = omega arith in ap (slice_get (x ∷ xs)) e ∙ last_from None x xs
-
--- what was read at a place
-pub read_at : {X : Type 0} (xs ys : List X) (i k : ℕ) (x : X) → ys ≡ xs → i ≡ k → k < length xs → x ≡ slice_index_or ys i x → slice_get xs k ≡ Some x
-read_at xs ys i k x same place below is =
-    slice_get-get_or xs k x below ∙ ap Some (sym (is ∙ ap (λ zs. slice_index_or zs i x) same ∙ ap (λ n. slice_index_or xs n x) place))

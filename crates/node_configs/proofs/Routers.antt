@@ -23,7 +23,7 @@ use Rattle.node_configs.specs.Tables.{named_policy, firsts_of, sessions_at}
 use Rattle.node_configs.proofs.Accepted.{HasFew, few}
 use Rattle.node_configs.proofs.Lists.{filter_numbered}
 use Rattle.lab_setup.proofs.Ready.{as_many_routers, as_many_peerings, router_there}
-use Rattle.node_configs.proofs.Setups.{router_at, peering_at}
+use Rattle.lab_setup.proofs.Setups.{router_at, peering_at}
 
 -- ---- policies
 

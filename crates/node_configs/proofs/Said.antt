@@ -15,7 +15,8 @@ use Rattle.lab_setup.specs.Setups.{is_wide_at, script_step, ended_by, ended}
 use Rattle.far_side.specs.Says.{bytes_of}
 use Rattle.far_side.specs.Parts.{say_by}
 use Rattle.far_side.specs.declared.says.Say.{Say}
-use Rattle.node_configs.specs.Says.{said_by, say_if, says_of}
+use Rattle.lab_setup.specs.Said.{said_by}
+use Rattle.node_configs.specs.Says.{say_if, says_of}
 
 -- ---- by the script
 

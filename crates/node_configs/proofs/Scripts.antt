@@ -20,7 +20,7 @@ use Rattle.node_configs.specs.Orders.{order_of, is_end, end_after, orders_of}
 use Rattle.node_configs.proofs.Accepted.{HasFew, few, is_setup}
 use Rattle.node_configs.proofs.Lists.{map_numbered, map_append, map_mapped, last_mapped, last_is}
 use Rattle.lab_setup.proofs.Ready.{as_many_routers, as_many_peerings}
-use Rattle.node_configs.proofs.Setups.{steps_are}
+use Rattle.lab_setup.proofs.Setups.{steps_are}
 
 -- ---- the script is that of the laboratory
 

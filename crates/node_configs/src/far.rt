@@ -3,9 +3,7 @@
 ghost use Rattle.std.specs.Prelude.{ℕ, ◌≡◌, ◌<◌, length, IfOk};
 ghost use Rattle.tcp_seq.specs.declared.segment.Way.{Way};
 ghost use Rattle.link_bag.specs.Planned.{fate_of, fate_in};
-ghost use Rattle.graft_model.specs.Setups.{beat_of as beat_of_lem};
-ghost use Rattle.lab_input.specs.Counts.{is_wide as is_wide_lem};
-ghost use Rattle.lab_setup.specs.Setups.{setup_of, peering_setup, is_wide_at};
+ghost use Rattle.lab_setup.specs.Setups.{setup_of, is_wide_at};
 ghost use Rattle.far_side.specs.Fars.{IsConfigOf};
 ghost use Rattle.node_configs.specs.Accepted.{IsAccepted};
 
@@ -13,28 +11,11 @@ use crate::counted::counts;
 use crate::says::says_of;
 use far_side::FarConfig;
 use graft_edge::{NoMemory, PeeringId, TryCopy};
-use lab_tables::{LabInput, PeeringInput};
+use lab_setup::{beat_of, is_wide};
+use lab_tables::LabInput;
 use link_bag::Plan;
 use std::alloc::Global;
 use tcp_seq::Seq;
-
-/// Whether the remote of a peering speaks with AS numbers of four octets: both sides support them (RFC 6793, section 4.1).
-fn is_wide(peering: &PeeringInput) -> bool
-    ensures { result ≡ is_wide_lem peering.now }
-{
-    peering.as4 && peering.remote_as4
-}
-
-/// After how many turns the remote says a KEEPALIVE again: a third of the hold time in force, or 0 where it doesn't.
-fn beat_of(peering: &PeeringInput) -> u32
-    ensures { (input : LabInput) (p : ℕ) → result ≡ beat_of_lem (peering_setup input (p, peering.now)) }
-{
-    if peering.beats {
-        u32::from(peering.home_hold.min(peering.hold) / 3)
-    } else {
-        0
-    }
-}
 
 /// What the far side of a peering begins with: how many routers and peerings there are, the peering's start, numbers and opening, the
 /// bytes that its remote says at steps, and its planned faults. The input is one that was accepted, and has the peering.

@@ -7,7 +7,7 @@ use Rattle.lab_input.specs.Counts.{is_wide}
 use Rattle.lab_input.specs.Said.{update_of}
 use Rattle.node_configs.specs.Says.{says_of}
 use Rattle.node_configs.proofs.Accepted.{few, writable}
-use Rattle.node_configs.proofs.Lists.{read_at}
+use Rattle.lab_setup.proofs.Lists.{read_at}
 use Rattle.node_configs.proofs.Fars.{width, is_config}
 use Rattle.node_configs.proofs.far.far_config.Goals as goal
 

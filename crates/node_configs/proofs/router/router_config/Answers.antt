@@ -3,7 +3,7 @@ use Rattle.lab_tables.specs.declared.input.RouterInput.{RouterInput}
 use Rattle.lab_setup.specs.Setups.{costs_from}
 use Rattle.node_configs.specs.Tables.{named_policy, firsts_of}
 use Rattle.node_configs.proofs.Accepted.{few}
-use Rattle.node_configs.proofs.Lists.{read_at}
+use Rattle.lab_setup.proofs.Lists.{read_at}
 use Rattle.node_configs.proofs.Routers.{is_config}
 use Rattle.node_configs.proofs.router.router_config.Goals as goal
 

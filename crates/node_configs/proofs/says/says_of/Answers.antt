@@ -3,7 +3,8 @@ use Rattle.std.specs.Prelude.{Option}
 use Rattle.lab_tables.specs.declared.input.Step.{Step}
 use Rattle.lab_input.proofs.Numbered.{flat_map_numbered}
 use Rattle.far_side.specs.declared.says.Say.{Say}
-use Rattle.node_configs.specs.Says.{said_by, say_if, says_of}
+use Rattle.lab_setup.specs.Said.{said_by}
+use Rattle.node_configs.specs.Says.{say_if, says_of}
 use Rattle.node_configs.proofs.says.says_of.Goals as goal
 
 -- what one step more says

@@ -1,0 +1,24 @@
+-- What a step of an input has a remote say.
+use Rattle.std.specs.Prelude.{ℕ, ◌==◌, Bool, List, [], Option, Some, None, unwrap_or, if◌then◌else◌}
+use Rattle.std.specs.List.{flat_map}
+use Rattle.bgp_types.specs.declared.message.Message.TheVariants.{UpdateMsg}
+use Rattle.bgp_types.specs.Spelling.{spell}
+use Rattle.lab_tables.specs.declared.input.Step.{Step}
+use Rattle.lab_tables.specs.declared.input.Step.TheVariants.{Announce, Withdraw, Raw, Graft, Settle, Evacuate}
+use Rattle.lab_input.specs.Said.{update_of}
+
+abbrev pub some_if : {A : Type 0} → Bool → A → Option A
+some_if test x = if test then Some x else None
+
+-- the bytes that a step has the remote of a peering say, by the width of AS numbers there
+abbrev pub said_by : Bool → ℕ → Step → Option (List ℕ)
+said_by wide p (Announce q prefixes a) = some_if (q.0 == p) (spell (UpdateMsg (update_of (Announce q prefixes a))) wide)
+said_by wide p (Withdraw q prefixes) = some_if (q.0 == p) (spell (UpdateMsg (update_of (Withdraw q prefixes))) wide)
+said_by wide p (Raw q bytes) = some_if (q.0 == p) bytes
+said_by wide p (Graft q target) = None
+said_by wide p (Settle rounds least) = None
+said_by wide p (Evacuate router) = None
+
+-- all bytes that steps have the remote of a peering say
+abbrev pub said_over : Bool → ℕ → List Step → List ℕ
+said_over wide p steps = flat_map (λ step. unwrap_or (said_by wide p step) []) steps
