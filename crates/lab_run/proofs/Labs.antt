@@ -26,7 +26,9 @@ use Rattle.real_rounds.proofs.Chain.{rounds_run}
 use Rattle.run_clocks.specs.Laws.{WaysAreClocked}
 use Rattle.silent_rounds.specs.Laws.{SilentWorldsAreQuiet}
 use Rattle.bounded_moves.specs.Laws.{MovesAreBounded}
-use Rattle.one_answer.specs.Laws.{SettledRunsHaveOneAnswer}
+use Rattle.even_inputs.specs.Laws.{SettledWorldsAreTheSolution}
+use Rattle.sure_results.specs.Laws.{SureLaboratoriesHaveResults}
+use Rattle.one_answer.specs.Settled.{IsSettled}
 use Rattle.graft_runs.specs.Laws.{AreEntriesOf}
 use Rattle.run_marks.specs.Marks.{before, IsWorldAtMark}
 use Rattle.lab_setup.specs.Setups.{setup_of}
@@ -87,8 +89,8 @@ holds_along transparent unchanged made by_plan setup events w sound run = record
 }
 
 pub labs_tell : WayRan → RunsAreTransparent → AlwaysUnchanged → AlwaysMadeBefore → QuietSolves → AlwaysTransparent → WalksAreShort → WalksLeaveThere → EvacuationsGoByPlan → EmptiedAreLeft
-    → OneAtEachMark → RoundsAreReal → WaysAreClocked → SilentWorldsAreQuiet → MovesAreBounded → SettledRunsHaveOneAnswer → LabsTellOfRuns
-labs_tell way_ran transparent unchanged made_before solves always short leave by_plan left one rounds clocked silent bounded answer lab a z sound alone ranged soon tells = record {
+    → OneAtEachMark → RoundsAreReal → WaysAreClocked → SilentWorldsAreQuiet → MovesAreBounded → SettledWorldsAreTheSolution → SureLaboratoriesHaveResults → LabsTellOfRuns
+labs_tell way_ran transparent unchanged made_before solves always short leave by_plan left one rounds clocked silent bounded answer result lab a z sound alone ranged soon sure tells = record {
   events = ran.events;
   entries_of = ran.entries_of;
   world = ran.world;
@@ -109,8 +111,8 @@ labs_tell way_ran transparent unchanged made_before solves always short leave by
   moves = bounded (setup_of lab.input) lab.input.faults lab.journal lab.marks sound real;
   quiet = quiet;
   solves = solved;
-  answers = λ settled timeless even v there at_end same_log. answer (setup_of lab.input) ran.world v sound timeless reached there
-      (record { quiet = quiet settled; last = group_is_last settled }) at_end same_log even;
+  answers = λ settled. answer (setup_of lab.input) ran.world sound reached (at_end settled);
+  results = λ settled is. result (setup_of lab.input) ran.world sound (sure is) reached (at_end settled);
   forwards = λ settled. forwards_as_solved short leave (setup_of lab.input) ran.world lab sound (solved settled)
       (λ p there. always (setup_of lab.input) ran.events ran.world p sound ran.run there) observed;
   left = λ settled. left (setup_of lab.input) ran.world sound alone reached (quiet settled);
@@ -135,6 +137,9 @@ labs_tell way_ran transparent unchanged made_before solves always short leave by
     group_is_last : lab.end ≡ Settled → ran.world.operator.group + 1 ≡ groups_in (setup_of lab.input)
     group_is_last settled = settled_last way_ran (setup_of lab.input) sound a tells.begins z lab.journal tells.merged (budgets_in lab.input) lab.rounds (each_has_one lab.input)
         (subst (λ (e : RunEnd). RunGoes (setup_of lab.input) a (budgets_in lab.input) lab.rounds e z) settled tells.goes) ran
+
+    at_end : lab.end ≡ Settled → IsSettled (setup_of lab.input) ran.world
+    at_end settled = record { quiet = quiet settled; last = group_is_last settled }
 
     solved : lab.end ≡ Settled → Solves (setup_of lab.input) ran.world
     solved settled = solves (setup_of lab.input) ran.events ran.world sound ran.run (quiet settled)

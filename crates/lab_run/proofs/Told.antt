@@ -1,5 +1,5 @@
 -- What is seen of a net that has finished tells of it.
-use Rattle.std.proofs.Common.{◌≡◌, ℕ, List, [], length, get_or, Result, Ok, Err, sym, ◌∙◌, ap, subst}
+use Rattle.std.proofs.Common.{◌≡◌, ℕ, true, List, [], length, get_or, Result, Ok, Err, sym, ◌∙◌, ap, subst}
 use Rattle.std.specs.Prelude.{IfOk}
 use Rattle.graft_edge.specs.declared.memory.NoMemory.{NoMemory}
 use Rattle.ring_net.specs.declared.entry.JournalEntry.{JournalEntry}
@@ -18,6 +18,9 @@ use Rattle.world_nodes.specs.Ways.{Stand}
 use Rattle.lab_tables.specs.declared.input.LabInput.{LabInput}
 use Rattle.lab_setup.specs.Setups.{setup_of}
 use Rattle.lab_setup.proofs.InRange.{accepted_in_range}
+use Rattle.sure_results.specs.Results.{IsSure}
+use Rattle.sure_inputs.specs.Sure.{is_sure}
+use Rattle.sure_inputs.proofs.Sound.{sure_is_sure}
 use Rattle.lab_report.specs.declared.lab.Lab.{Lab}
 use Rattle.lab_report.specs.declared.lab.RunEnd.{RunEnd}
 use Rattle.lab_budgets.specs.declared.budget.Budget.{Budget}
@@ -55,6 +58,7 @@ record IsTold (input : LabInput) (lab : Lab) (a z : Stand) : Type 0 where
   alone : EmptyAlone (setup_of input)
   in_range : IsInRange (setup_of input)
   soon : AreShort input.faults
+  sure : is_sure input ≡ true → IsSure (setup_of input)
   begins : BeginsFresh (setup_of input) input.faults a
   goes : RunGoes (setup_of input) a (budgets_in input) lab.rounds lab.end z
   observed : (w : World) → IsNetOf (setup_of input) z w → Observed (setup_of input) w lab
@@ -65,7 +69,7 @@ module _ (tell : LabsTellOfRuns) (input : LabInput) (accepted : IsAccepted input
     (actors_are : actors ≡ z.view.actors) (journals_are : HasJournals z.view journals) (marks_are : marks ≡ z.marks) (left_is : left ≡ left_of z.view edges) (edges_are : AreEdgesOf (setup_of input) edges) where
   ran_as_told : (lab : Lab) → lab.input ≡ input → lab.end ≡ end → lab.marks ≡ marks → lab.rounds ≡ rounds → Interleaves (λ k. get_or journals k []) lab.journal
       → ((w : World) → IsFinished (setup_of input) w actors left → Observed (setup_of input) w lab) → RanLab lab
-  ran_as_told lab input_is end_is marks_is rounds_are merge seen = tell lab a z told.setup told.alone told.in_range told.soon
+  ran_as_told lab input_is end_is marks_is rounds_are merge seen = tell lab a z told.setup told.alone told.in_range told.soon told.sure
       (record { begins = told.begins.begins; fresh = told.begins.fresh; goes = told.goes; marks = marks_is ∙ marks_are; merged = merge_of z journals lab.journal journals_are merge; observed = told.observed }) where
         here : IsTold input lab a z
         here = record {
@@ -73,6 +77,7 @@ module _ (tell : LabsTellOfRuns) (input : LabInput) (accepted : IsAccepted input
           alone = is_alone input accepted;
           in_range = accepted_in_range accepted.bytes input accepted.is;
           soon = accepted_soon accepted.bytes input accepted.is;
+          sure = sure_is_sure input accepted;
           begins = begins;
           goes = subst (λ (e : RunEnd). RunGoes (setup_of input) a (budgets_in input) lab.rounds e z) (sym end_is)
               (subst (λ (ns : List ℕ). RunGoes (setup_of input) a (budgets_in input) ns end z) (sym rounds_are) (subst (λ (bs : List Budget). RunGoes (setup_of input) a bs rounds end z) budgets_are goes));

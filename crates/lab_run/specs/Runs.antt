@@ -1,5 +1,5 @@
 -- What a lab says of its run.
-use Rattle.std.specs.Prelude.{ℕ, ◌≡◌, ◌<◌, ◌+◌, ◌-◌, List, length}
+use Rattle.std.specs.Prelude.{ℕ, ◌≡◌, ◌<◌, ◌+◌, ◌-◌, true, List, length}
 use Rattle.std.specs.List.{AllByRecursion}
 use Rattle.link_bag.specs.declared.plan.Fault.{Fault}
 use Rattle.journal_merge.specs.Merges.{AreSorted, Interleaves}
@@ -21,7 +21,9 @@ use Rattle.world_nodes.specs.Ways.{Stand, Begins}
 use Rattle.run_clocks.specs.Clocks.{AreClocked, clocked_in}
 use Rattle.real_rounds.specs.Whole.{RealRounds, round_by_round}
 use Rattle.graft_laws.specs.Ranges.{IsInRange}
-use Rattle.one_answer.specs.Laws.{IsTheAnswer}
+use Rattle.even_inputs.specs.Laws.{IsTheAnswer}
+use Rattle.sure_results.specs.Results.{IsSure, HasResults}
+use Rattle.sure_inputs.specs.Sure.{is_sure}
 use Rattle.bounded_moves.specs.Moves.{MovesEnd}
 use Rattle.silent_rounds.specs.Silence.{AreSilent, AreShort}
 use Rattle.lab_setup.specs.Setups.{setup_of}
@@ -48,10 +50,11 @@ pub record HoldsAlong (setup : Setup) (events : List Event) : Type 0 where
 -- one world stands at each mark, and the last one's is that to which the run leads. The marks say of their worlds how the run went on and how it ended.
 -- The claims hold along the journal, and along the events round by round. Where eight rounds behind a mark have no event, nothing is left to do at it.
 -- A session that is frozen has landed or come back four rounds later, where few items are in its source's channels. Where it is settled, nothing is
--- left to do in the last world, and the tables solve the decision equations (RFC 4271, section 9.1) for the placement after the accepted grafts; every
--- other run of the laboratory that is settled with the same log has the same tables, where no session has a timer and MEDs are even (RFC 4271, section
--- 9.1.2.2 (c)); a packet from whichever router meets at most two routers, and leaves only where the session of that peering is placed; and what
--- evacuate steps gave to a router is there, unless it was refused, though not for want of room, or moved again.
+-- left to do in the last world, and the tables solve the decision equations (RFC 4271, section 9.1) for the placement after the accepted grafts. What
+-- became of the grafts tells where the sessions are; where no session has a timer and MEDs are even (RFC 4271, section 9.1.2.2 (c)), the tables and
+-- sessions are those that the laboratory has for these places; and where the input is sure, its script alone tells what became of the grafts.
+-- A packet from whichever router meets at most two routers, and leaves only where the session of that peering is placed; and what evacuate steps gave
+-- to a router is there, unless it was refused, though not for lack of room, or moved again.
 pub record RanIn (setup : Setup) (lab : Lab) : Type 0 where
   pub events : List Event
   pub entries_of : AreEntriesOf setup events lab.journal
@@ -71,6 +74,7 @@ pub record RanIn (setup : Setup) (lab : Lab) : Type 0 where
   pub quiet : lab.end ≡ Settled → Quiet setup world
   pub solves : lab.end ≡ Settled → Solves setup world
   pub answers : lab.end ≡ Settled → IsTheAnswer setup world
+  pub results : lab.end ≡ Settled → is_sure lab.input ≡ true → HasResults setup world.operator
   pub forwards : lab.end ≡ Settled → Forwards lab setup world
   pub left : lab.end ≡ Settled → AreEmptied setup world.operator
 
@@ -103,4 +107,4 @@ pub record TellsOf (lab : Lab) (a z : Stand) : Type 0 where
 -- such a lab says what its run was
 abbrev pub LabsTellOfRuns : Type 0
 LabsTellOfRuns = (lab : Lab) (a z : Stand) → IsSetup (setup_of lab.input) → EmptyAlone (setup_of lab.input) → IsInRange (setup_of lab.input)
-    → AreShort lab.input.faults → TellsOf lab a z → RanLab lab
+    → AreShort lab.input.faults → (is_sure lab.input ≡ true → IsSure (setup_of lab.input)) → TellsOf lab a z → RanLab lab

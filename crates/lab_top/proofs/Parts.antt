@@ -10,13 +10,12 @@ use Rattle.lab_words.specs.declared.job.Job.TheVariants.{Check, Make}
 use Rattle.lab_words.specs.Asked.{Asks}
 use Rattle.lab_make.specs.Made.{made}
 use Rattle.lab_report.specs.BadText.{bad_line}
-use Rattle.lab_report.specs.CheckText.{check_line}
 use Rattle.lab_report.specs.declared.lab.Lab.{Lab}
 use Rattle.lab_report.specs.Journals.{journal_text}
 use Rattle.lab_report.specs.Summary.{summary_text}
 use Rattle.lab_report.specs.Traces.{IsReport}
 use Rattle.lab_top.specs.Built.{is_built}
-use Rattle.lab_top.specs.Ends.{AskToRun, AskForJournal, RunsSource, AskToDrill, Reads, SaysWhy, Writes, end_status, not_built_text}
+use Rattle.lab_top.specs.Ends.{AskToRun, AskForJournal, RunsSource, AskToDrill, Reads, SaysWhy, Writes, end_status, not_built_text, verdict_text}
 use Rattle.lab_top.specs.declared.finish.Finish.{Finish}
 use Rattle.lab_top.specs.declared.finish.InputStop.{InputStop}
 use Rattle.lab_top.specs.declared.finish.InputStop.TheVariants as stops
@@ -68,7 +67,7 @@ writes_as text told planned meant faults_before faults_after before after status
     subst (λ t. Writes t meant faults_before faults_after before after status) same (subst (λ k. Writes text k faults_before faults_after before after status) also w)
 
 pub checked_ends : (words : List (List ℕ)) (o n : Outside) (input : LabInput) (text : List ℕ) (status : ℕ) (lab : Option Lab) → Asks words Check → Reads o.left n.left (Ok input)
-    → text ≡ check_line input → lab ≡ None → Writes text 0 o.write_faults n.write_faults o.written n.written status → Ended words o n status lab
+    → text ≡ verdict_text (Ok input) → lab ≡ None → Writes text 0 o.write_faults n.write_faults o.written n.written status → Ended words o n status lab
 checked_ends words o n input text status lab check read is none w = wrote text 0 (checks (Ok input) check read is refl none) w
 
 -- ---- runs of what was read

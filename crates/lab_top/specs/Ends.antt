@@ -13,7 +13,10 @@ use Rattle.lab_report.specs.declared.lab.Lab.{Lab}
 use Rattle.lab_report.specs.declared.lab.RunEnd.{RunEnd}
 use Rattle.lab_report.specs.declared.lab.RunEnd.TheVariants.{Settled, Unsettled, StreamFull, JournalFull}
 use Rattle.lab_report.specs.BadText.{bad_line}
-use Rattle.lab_report.specs.CheckText.{check_line}
+use Rattle.lab_report.specs.CheckText.{check_text}
+use Rattle.lab_setup.specs.Setups.{setup_of}
+use Rattle.even_inputs.specs.Evenness.{is_even}
+use Rattle.sure_inputs.specs.Sure.{is_sure}
 use Rattle.lab_report.specs.Journals.{journal_text}
 use Rattle.lab_report.specs.Traces.{IsReport}
 
@@ -103,9 +106,9 @@ abbrev pub Writes : (text : List ℕ) → (planned : ℕ) → (faults_before fau
 Writes text planned faults_before faults_after before after status =
     ((status ≡ planned) × Appended before after text) ⊎ ((status ≡ 5) × FaultRose faults_before faults_after × AppendedFront before after text)
 
--- what a check says of what it read, and under which status
+-- what a check says of what it read, and under which status: of an input whether it is even and sure
 abbrev pub verdict_text : Result LabInput BadInput → List ℕ
-verdict_text (Ok input) = check_line input
+verdict_text (Ok input) = check_text input (is_even (setup_of input)) (is_sure input)
 verdict_text (Err bad) = bad_line bad
 
 abbrev pub verdict_status : Result LabInput BadInput → ℕ

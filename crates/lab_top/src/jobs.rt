@@ -1,12 +1,12 @@
 //! What each job does.
 
-ghost use Rattle.std.specs.Prelude.{◌≡◌, ◌⊎◌, ◌≤◌, ◌<◌, ℕ, List, Option};
+ghost use Rattle.std.specs.Prelude.{◌≡◌, ◌⊎◌, ◌≤◌, ◌<◌, ℕ, List, Option, Ok, IfOk};
 ghost use Rattle.lab_words.specs.declared.job.Job.TheVariants.{Check};
 ghost use Rattle.lab_words.specs.Asked.{Asks};
 ghost use Rattle.lab_make.specs.Made.{made};
 ghost use Rattle.lab_input.specs.Labs.{input_of, too_long as too_long_bad};
 ghost use Rattle.node_configs.specs.Accepted.{IsAccepted};
-ghost use Rattle.lab_top.specs.Ends.{AskToRun, AskForJournal, AskToDrill, end_status};
+ghost use Rattle.lab_top.specs.Ends.{AskToRun, AskForJournal, AskToDrill, end_status, verdict_text};
 ghost use Rattle.lab_top.specs.Cases.{outside, BytesOrStops, ReadsOrStops, AnswersOrStops, WritesOr, BuiltOr, EndsRun, EndsUnbuilt, StopsFor, EndsOr};
 
 use crate::built::is_built;
@@ -14,6 +14,7 @@ use crate::finish::{
     BAD_INPUT, DONE, Finish, InputStop, LIMIT, READ_FAILED, UNSETTLED, end_with, without_run,
 };
 use graft_edge::{Gate, NoMemory, Octets, ReadStop, Sink, Source, read_all};
+use lab_answers::{even, sure};
 use lab_input::{LabInput, LabStop, MOST_BYTES, read_lab, too_long};
 use lab_make::make_lab;
 use lab_report::{Lab, RunEnd, bad_text, check_text, journal_text, report, summary};
@@ -206,6 +207,16 @@ pub(crate) fn drill_job<R: Threads + Sync + AllocGlobal, K: Sink, G: Gate>(
     }
 }
 
+/// What a check says of an input that was accepted.
+fn accepted_text(alloc: Global, input: &LabInput) -> Result<Octets, NoMemory>
+    requires { IsAccepted input.now }
+    ensures { IfOk result (λ text. text ≡ verdict_text (Ok input.now)) }
+{
+    let even = even(alloc, input)?;
+    let sure = sure(alloc, input)?;
+    check_text(alloc, input, even, sure)
+}
+
 /// Reads an input from the source and writes whether it is one.
 pub(crate) fn check_job<S: Source, K: Sink>(
     alloc: Global,
@@ -218,7 +229,7 @@ pub(crate) fn check_job<S: Source, K: Sink>(
         Ok(input) => input,
         Err(stop) => return end_stopped(alloc, sink, stop),
     };
-    let text = check_text(alloc, &input)?;
+    let text = accepted_text(alloc, &input)?;
     Ok(end_with(sink, &text, DONE, None))
 }
 

@@ -1,6 +1,6 @@
 -- Two settled worlds with one log have the same tables.
 use Rattle.std.proofs.Common.{◌≡◌, ◌≢◌, ℕ, zero, suc, ◌+◌, ◌<◌, List, [], ◌∷◌, ◌++◌, map, Option, refl, sym, ap, ◌∙◌, arith, ◌⊎◌, inl, inr}
-use Rattle.std.specs.Prelude.{slice_get, option_map, unwrap_or}
+use Rattle.std.specs.Prelude.{option_map, unwrap_or}
 use Rattle.std.specs.List.{AllByRecursion, flat_map, range_with_len}
 use Rattle.std.specs.FinMap as map
 use Rattle.std.proofs.lemmas.Bool.{cases_eq}
@@ -17,16 +17,11 @@ use Rattle.session_value.specs.declared.config.SessionConfig.{SessionConfig}
 use Rattle.session_value.specs.Sessions.{peering_of, state, while_established}
 use Rattle.graft_model.specs.Claims as claims
 use Rattle.graft_model.specs.Decisions.{session_route, out_side}
-use Rattle.graft_model.specs.OperatorRows.{is_accepted, placement}
-use Rattle.graft_model.specs.Parts.{Gift, Place, World}
-use Rattle.graft_model.specs.Placements.{target_by}
+use Rattle.graft_model.specs.OperatorRows.{placement}
+use Rattle.graft_model.specs.Parts.{Place, World}
 use Rattle.graft_model.specs.Setups.{Setup, PeeringSetup, IsSetup, routers_in, peerings_in, peering_numbers, rules_for}
-use Rattle.graft_steps.specs.declared.refusal.Outcome.{Outcome}
 use Rattle.graft_laws.specs.Keeps.{Reached}
-use Rattle.graft_laws.specs.Log.{grafts_of}
 use Rattle.graft_laws.proofs.First.{some_peering}
-use Rattle.graft_laws.proofs.Lists.{all_of}
-use Rattle.graft_laws.proofs.Placements.{CountsAlike, placed_alike}
 use Rattle.graft_laws.proofs.QuietSolves.{quiet_solves_is}
 use Rattle.even_meshes.specs.Meshes.{IsEven}
 use Rattle.even_meshes.specs.Worlds.{mesh_of}
@@ -34,6 +29,7 @@ use Rattle.even_meshes.proofs.Joined.{equal_tables}
 use Rattle.story_readings.specs.Reads.{AreAlike}
 use Rattle.story_readings.proofs.Reaching.{alike}
 use Rattle.one_answer.specs.Settled.{said_in, HasNoTimer, IsSettled, HaveOneLog, HaveOneSession, HaveOneAnswer}
+use Rattle.one_answer.proofs.Gifts.{placed_same}
 use Rattle.one_answer.proofs.Held.{Held, held}
 
 -- ---- lists
@@ -42,23 +38,14 @@ flat_same : {A B : Type 0} (f g : A → List B) (xs : List A) → AllByRecursion
 flat_same f g [] all = refl
 flat_same f g (x ∷ xs) all = ap (λ (ys : List _). ys ++ flat_map f xs) all.0 ∙ ap (λ (ys : List _). g x ++ ys) (flat_same f g xs all.1)
 
-all_in : (P : ℕ → Type 0) (from n : ℕ) → ((k : ℕ) → k < from + n → P k) → AllByRecursion P (range_with_len from n)
+pub all_in : (P : ℕ → Type 0) (from n : ℕ) → ((k : ℕ) → k < from + n → P k) → AllByRecursion P (range_with_len from n)
 all_in P from zero h = tt
 all_in P from (suc n) h = (h from (omega arith), all_in P (from + 1) n (λ k l. h k (omega (arith, l))))
-
--- ---- where sessions belong
-
--- the log alone says it
-placed_same : (setup : Setup) (w v : World) → HaveOneLog w v → (p : ℕ) → placement setup v.operator p ≡ placement setup w.operator p
-placed_same setup w v log p = placed_alike setup w.operator v.operator p (all_of (CountsAlike setup w.operator v.operator) (grafts_of setup p) (λ g. record {
-  accepted = ap (λ (o : Option Outcome). is_accepted o) (log.outcomes g.graft);
-  target = λ _. ap (λ (gift : Gift). target_by (slice_get setup.steps g.step) gift) (log.given g.graft);
-}))
 
 -- ---- what sessions bring in
 
 -- what a session with this config brings in, where this OPEN was got and these routes were heard
-abbrev route_by : Setup → ℕ → SessionConfig → Option open_type.OpenMsg → Routes → PrefixValue → SessionRoute
+abbrev pub route_by : Setup → ℕ → SessionConfig → Option open_type.OpenMsg → Routes → PrefixValue → SessionRoute
 route_by setup r config opened routes prefix = record {
   peering = config.peering;
   remote_as = config.remote_as;
@@ -163,7 +150,7 @@ module _ (setup : Setup) (w v : World) (ok : IsSetup setup) (timer : HasNoTimer 
   same_sessions : (prefix : PrefixValue) (r : ℕ) → r < routers_in setup → claims.session_routes setup v r prefix ≡ claims.session_routes setup w r prefix
   same_sessions prefix r l = flat_same _ _ (peering_numbers setup) (all_in _ 0 (peerings_in setup) (λ p k.
       let both = both_held p (omega (arith, k)) in
-      same_routes setup w v p both.peering both.one both.other (placed_same setup w v log p) r prefix l))
+      same_routes setup w v p both.peering both.one both.other (placed_same setup w v ok reached reached_other settled settled_other log p) r prefix l))
 
   same_best : (r : ℕ) (prefix : PrefixValue) → r < routers_in setup → map.get (v.router r).best prefix ≡ map.get (w.router r).best prefix
   same_best r prefix l = equal_tables setup prefix w v solves solves_other (even prefix) (same_sessions prefix) r l
@@ -173,5 +160,5 @@ module _ (setup : Setup) (w v : World) (ok : IsSetup setup) (timer : HasNoTimer 
     best = same_best;
     tellings = λ r q prefix l m ne.
         solves_other.tellings r q prefix l m ne ∙ ap (λ (b : Option Best). tell_in b) (same_best r prefix l) ∙ sym (solves.tellings r q prefix l m ne);
-    sessions = λ p l. (let both = both_held p l in one_session setup w v p both.peering both.one both.other (placed_same setup w v log p) same_best);
+    sessions = λ p l. (let both = both_held p l in one_session setup w v p both.peering both.one both.other (placed_same setup w v ok reached reached_other settled settled_other log p) same_best);
   }

@@ -3,3 +3,4 @@ pub mod Unsaid
 pub mod Words
 pub mod Held
 pub mod Joined
+pub mod Gifts

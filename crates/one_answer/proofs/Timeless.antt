@@ -50,7 +50,7 @@ module _ (p : Peering) where
   none_before : (before step lines : List Line) → lines ≡ before ++ step → HasNoHold lines → HasNoHold before
   none_before before step lines e h o k = h o (ap (got_open p) e ∙ open_kept before step o k)
 
-  no_hold : (lines : List Line) → HasNoHold lines → hold p lines ≡ 0
+  pub no_hold : (lines : List Line) → HasNoHold lines → hold p lines ≡ 0
   no_hold lines h = by_open (got_open p lines) refl where
     by_open : (o : Option open_type.OpenMsg) → got_open p lines ≡ o → smaller_hold p.first o ≡ 0
     by_open None e = refl

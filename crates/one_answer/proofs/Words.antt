@@ -8,6 +8,7 @@ use Rattle.std.proofs.lemmas.Bool.Decides.{nat_tests}
 use Rattle.std.proofs.lemmas.Grind.{flat_map-append}
 use Rattle.std.proofs.lemmas.Option.{same_Some}
 use Rattle.tcp_seq.specs.declared.segment.Way.TheVariants.{Home, Remote}
+use Rattle.session_value.specs.Fronts.{AreFirst}
 use Rattle.session_value.proofs.Ties.{emits_same, takes_same}
 use Rattle.graft_model.specs.Points.{at}
 use Rattle.graft_model.specs.Setups.{Setup, PeeringSetup, SayStep, IsSetup, beat_of, group_of, groups_in}
@@ -297,6 +298,14 @@ module _ (setup : Setup) (p : ℕ) (peering : PeeringSetup) where
 
   always_words : slice_get setup.peerings p ≡ Some peering → beat_of peering ≡ 0 → (w : World) → Reached setup w → Words w
   always_words known still w reached = carried setup Words (first_words known) (keeps_words known still) w reached
+
+  -- What the remote has said are the first of its words.
+  pub begins_said : slice_get setup.peerings p ≡ Some peering → beat_of peering ≡ 0 → (w : World) → Reached setup w
+      → AreFirst (w.far p).end.stream (said_in setup p peering)
+  begins_said known still w reached = record {
+    rest = flat_map bytes_at (w.says p) ++ unsaid p w.operator.issued 0 setup.steps;
+    is = sym (always_words known still w reached).words;
+  }
 
   -- In a settled world the remote has said all.
   pub all_said : IsSetup setup → slice_get setup.peerings p ≡ Some peering → beat_of peering ≡ 0 → (w : World) → Reached setup w → IsSettled setup w

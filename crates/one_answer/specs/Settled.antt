@@ -32,10 +32,9 @@ pub record IsSettled (setup : Setup) (w : World) : Type 0 where
   pub quiet : Quiet setup w
   pub last : w.operator.group + 1 ≡ groups_in setup
 
--- The operators have the same log: the same outcomes, and evacuate steps gave the same.
-pub record HaveOneLog (w v : World) : Type 0 where
-  pub outcomes : (k : ℕ) → v.operator.outcome k ≡ w.operator.outcome k
-  pub given : (k : ℕ) → v.operator.given k ≡ w.operator.given k
+-- The same became of each graft.
+abbrev pub HaveOneLog : World → World → Type 0
+HaveOneLog w v = (k : ℕ) → v.operator.outcome k ≡ w.operator.outcome k
 
 -- A peering's sessions, wherever they are: at the same router, in the same state, with the same routes heard and told.
 pub record HaveOneSession (setup : Setup) (w v : World) (p : ℕ) : Type 0 where

@@ -8,12 +8,13 @@ use settled_check::quiet_is_found;
 use still_grafts::still_worlds_have_no_graft_left;
 use world_runs::worlds_are_on_the_way;
 
-/// Behind seven rounds without an event no link holds a segment: a fault lets one wait for six turns at most.
+/// After seven rounds without an event no link holds a segment: a fault holds one back for at most six turns.
 pub fn silent_links_are_empty()
     ensures { SilentLinksAreEmpty }
 {}
 
-/// Where no event stands in the eight rounds behind a mark, and no session is stuck at the next one, nothing was left to do at it.
+/// If the eight rounds after a mark have no event, and no session is stuck at the next mark, nothing was left to do at
+/// the mark before those rounds.
 pub fn silent_worlds_are_quiet()
     ensures { SilentWorldsAreQuiet }
 {

@@ -1,4 +1,4 @@
-//! Rounds in which nothing happens: they follow upon nothing left to do alone.
+//! Rounds in which nothing happens: enough of them show that nothing was left to do.
 #![tactic(auto)]
 
 mod laws;

@@ -1,8 +1,8 @@
-//! Commands as they stand in lines.
+//! Commands, one a line.
 
-/// A command: `graftlab WORD.. < INPUT ! read N write N`. The input is a file, `N empty lines` or one that leads to a limit, `a stream past its
-/// limit` or `a full journal`. It may be left out, as may what fails: the calls, from 1, at which the source and the sink do. The word
-/// `*` stands for each of some counts of workers.
+/// A command: `graftlab WORD.. < INPUT ! read N write N`. The input is a file, `N empty lines`, or an input that leads
+/// to a limit: `a stream past its limit` or `a full journal`. It may be left out, and so may the numbers of the calls,
+/// counted from 1, at which the source and the sink fail. The word `*` stands for each of several numbers of workers.
 #[derive(Clone, Copy)]
 pub struct Case<'a> {
     pub words: &'a str,
@@ -11,27 +11,27 @@ pub struct Case<'a> {
     pub write_fails: u32,
 }
 
-/// What is told of a run beside its text.
+/// What is printed of a run beside its text.
 #[derive(Clone, Copy)]
 pub enum Shown {
     Nothing,
-    /// How many prefixes its remotes were told.
+    /// The number of prefixes that its remotes were told.
     Told,
     /// The stories, and what each remote received.
     All,
 }
 
-/// What ends a run whose input is made for it.
+/// The limit at which a run ends whose input is made for that.
 #[derive(Clone, Copy)]
 pub enum Limit {
     Stream,
     Journal,
 }
 
-/// A call that isn't reached.
+/// The number of a call that is never reached.
 const NEVER: u32 = u32::MAX;
 
-/// The number that stands behind a word of a text.
+/// Returns the number after a word of a text.
 fn number_behind(text: &str, word: &str) -> Option<u32> {
     let (_, behind) = text.split_once(word)?;
     let number = behind.split_whitespace().next()?;
@@ -50,13 +50,13 @@ impl<'a> Case<'a> {
         }
     }
 
-    /// Whether the command is done by each of some counts of workers.
+    /// Returns whether the command is run by each of several numbers of workers.
     pub fn is_by_each(&self) -> bool {
         self.words.ends_with(" *")
     }
 
-    /// What is told beside the text of its run: all that is seen, or of a drill how much its remotes were told, or nothing where that
-    /// depends on the order of the workers' turns.
+    /// Returns what is printed beside the text of its run: all that is seen; for a drill, how much its remotes were
+    /// told; or nothing, if that depends on the order of the workers' turns.
     pub fn shown(&self) -> Shown {
         if self.is_by_each() {
             return Shown::Nothing;
@@ -67,13 +67,13 @@ impl<'a> Case<'a> {
         Shown::All
     }
 
-    /// Of how many empty lines the input is, where it is no file.
+    /// Returns the number of empty lines of the input, if it is such an input.
     pub fn empty_lines(&self) -> Option<u32> {
         let number = self.input.strip_suffix(" empty lines")?;
         number.parse::<u32>().ok()
     }
 
-    /// The limit that the input leads to, where it is made for one.
+    /// Returns the limit to which the input leads, if it is made for one.
     pub fn limit(&self) -> Option<Limit> {
         match self.input {
             "a stream past its limit" => Some(Limit::Stream),
@@ -82,7 +82,7 @@ impl<'a> Case<'a> {
         }
     }
 
-    /// How many bytes the sink has room for: a run that ends at a limit has a long text.
+    /// Returns the number of bytes for which the sink has room. A run that ends at a limit has a long text.
     pub fn room(&self) -> usize {
         if self.limit().is_some() {
             4_194_304

@@ -11,7 +11,7 @@ use std::alloc::Global;
 use std::fmt::Write;
 use std::thread::Threads;
 
-/// The words behind the program's name, which single spaces part, with the number of workers in place of `*`.
+/// Returns the words after the program's name, separated by single spaces, with the number of workers in place of `*`.
 fn words_of(alloc: Global, line: &str, workers: &str) -> Result<Words, NoMemory> {
     let mut words = Words::new(alloc);
     for word in line.split(' ').skip(1) {
@@ -20,7 +20,7 @@ fn words_of(alloc: Global, line: &str, workers: &str) -> Result<Words, NoMemory>
     Ok(words)
 }
 
-/// What comes of a command. Nothing is known here of what the contract says of it.
+/// Returns the outcome of a command. Nothing is assumed here of its contract.
 fn finish_of<R: Threads + Sync + AllocGlobal>(
     rt: &R,
     words: &Words,
@@ -31,7 +31,7 @@ fn finish_of<R: Threads + Sync + AllocGlobal>(
     graft_main(rt, words, source, sink, gate)
 }
 
-/// What a command wrote, on lines of its own.
+/// Returns what a command wrote, on lines of its own.
 fn written_text(alloc: Global, written: &[u8]) -> Result<String, NoMemory> {
     let mut text = String::from_utf8_lossy(alloc, written)?;
     if !written.is_empty() && !written.ends_with(b"\n") {
@@ -40,7 +40,7 @@ fn written_text(alloc: Global, written: &[u8]) -> Result<String, NoMemory> {
     Ok(text)
 }
 
-/// Adds what is to be shown of a run, and whether each turn passed the gate.
+/// Appends what is to be shown of a run, and whether each turn passed the gate.
 fn push_run(
     text: &mut String,
     lab: &Lab,
@@ -56,7 +56,7 @@ fn push_run(
     Ok(())
 }
 
-/// What a command wrote, its status and the number of bytes that it wrote, and what is seen of its run.
+/// Returns what a command wrote, its status and the number of bytes that it wrote, and what is seen of its run.
 fn told(
     alloc: Global,
     finish: &Finish,
@@ -73,7 +73,7 @@ fn told(
     Ok(text)
 }
 
-/// Of a run that meets a limit: how it ended, its status, and whether each turn passed the gate.
+/// Returns the text for a run that meets a limit: how it ended, its status, and whether each turn passed the gate.
 fn told_of_limit(
     alloc: Global,
     finish: &Finish,
@@ -98,7 +98,8 @@ fn told_of_limit(
     Ok(text)
 }
 
-/// What comes of a case by a number of workers: what its command wrote, its status, and what is seen of its run.
+/// Returns the outcome of a case by a number of workers: what its command wrote, its status, and what is seen of its
+/// run.
 pub fn end_of<R: Threads + Sync + AllocGlobal>(
     rt: &R,
     case: &Case<'_>,

@@ -5,7 +5,8 @@ use lab_report::Lab;
 use std::array;
 use std::sync::atomic::{AtomicU64, Ordering};
 
-/// Counts how often each actor passes, of up to as many as a drill has: four routers, twelve far sides and the operator.
+/// A gate that counts how often each actor passes. It has room for the actors of a drill: four routers, twelve far
+/// sides and the operator.
 #[derive(Drop)]
 pub struct CountingGate {
     passes: [AtomicU64; 17],
@@ -18,7 +19,7 @@ impl CountingGate {
         }
     }
 
-    /// Whether each of so many actors passed in each of so many rounds, and nobody else.
+    /// Returns whether each of `actors` actors passed in each of `rounds` rounds, and no other actor did.
     fn all_passed(&self, actors: usize, rounds: u64) -> bool {
         for (actor, passes) in self.passes.iter().enumerate() {
             let due = if actor < actors { rounds } else { 0 };
@@ -29,7 +30,7 @@ impl CountingGate {
         actors <= self.passes.len()
     }
 
-    /// What the gate saw of a run: its actors are its routers, its far sides and the operator.
+    /// Returns the gate's verdict on a run, whose actors are its routers, its far sides and the operator.
     pub fn verdict(&self, lab: &Lab) -> &'static str {
         let actors = lab
             .tables

@@ -38,7 +38,7 @@ local_address = "192.0.2.6"
 
 "#;
 
-/// From so many events on a journal is full.
+/// Journal limit, in events.
 const FULL_JOURNAL: u64 = 4_194_304;
 
 /// A remote at the first of eight routers.
@@ -59,7 +59,7 @@ const ORIGIN: &str = "40010100";
 
 const NEXT_HOP: &str = "400304c0000201";
 
-/// So many octets 0, in hex.
+/// Returns `octets` zero octets, in hex.
 fn zeros(alloc: Global, octets: usize) -> Result<String, AllocError> {
     let mut hex = String::new(alloc);
     for _ in 0..octets {
@@ -68,8 +68,9 @@ fn zeros(alloc: Global, octets: usize) -> Result<String, AllocError> {
     Ok(hex)
 }
 
-/// A step whose UPDATE has 3,998 octets: a prefix /24 of this number, and an unknown transitive attribute of 3,949 octets that has the
-/// number in front. It is told on in 4,000 octets, with the home network's AS in its path.
+/// Appends a step whose UPDATE has 3,998 octets: a /24 prefix of this number, and an unknown transitive attribute of
+/// 3,949 octets that begins with the number. It is told to others in 4,000 octets, with the home network's AS in its
+/// path.
 fn push_long_say(
     text: &mut String,
     peering: &str,
@@ -84,8 +85,9 @@ fn push_long_say(
     write!(text, "d0630f6d{number:04x}{zeros}180a{number:04x}\"\n\n")
 }
 
-/// Two remotes that say 200 long UPDATEs each, to be told to a third. OPEN and KEEPALIVE have 48 octets in the stream to it, 261 UPDATEs of
-/// 4,000 octets fit behind them into 1,044,480, and one more doesn't: with it the stream would have 1,048,048.
+/// Returns an input with two remotes that say 200 long UPDATEs each, which are told to a third. OPEN and KEEPALIVE take
+/// 48 octets of the stream to it, 261 UPDATEs of 4,000 octets fit after them into 1,044,480, and one more doesn't: with
+/// it the stream would have 1,048,048.
 fn long_stream(alloc: Global) -> Result<String, AllocError> {
     let zeros = zeros(alloc, 3_947)?;
     let mut text = String::new(alloc);
@@ -97,7 +99,7 @@ fn long_stream(alloc: Global) -> Result<String, AllocError> {
     Ok(text)
 }
 
-/// 256 prefixes /24 of one /16, as an UPDATE has them, in hex.
+/// Returns the 256 /24 prefixes of one /16, in the wire format of an UPDATE, in hex.
 fn part_hex(alloc: Global, part: u32) -> Result<String, AllocError> {
     let mut hex = String::new(alloc);
     for place in 0..256u32 {
@@ -106,7 +108,7 @@ fn part_hex(alloc: Global, part: u32) -> Result<String, AllocError> {
     Ok(hex)
 }
 
-/// A group that announces 4,096 prefixes, or withdraws them: 16 UPDATEs, of 1,065 octets or of 1,047.
+/// Returns a group that announces 4,096 prefixes, or withdraws them: 16 UPDATEs, of 1,065 octets or of 1,047.
 fn group(alloc: Global, announces: bool) -> Result<String, AllocError> {
     let mut text = String::new(alloc);
     for part in 0..16 {
@@ -126,7 +128,7 @@ fn group(alloc: Global, announces: bool) -> Result<String, AllocError> {
     Ok(text)
 }
 
-/// Eight routers, with a remote at the first.
+/// Appends eight routers, with a remote at the first one.
 fn push_eight_routers(text: &mut String) -> Result<(), AllocError> {
     text.push_str("home_as = 65000\n\n")?;
     for place in 0..8u32 {
@@ -138,7 +140,8 @@ fn push_eight_routers(text: &mut String) -> Result<(), AllocError> {
     text.push_str(REMOTE)
 }
 
-/// Eight routers, and 60 groups that announce and withdraw 4,096 prefixes in turn. Some nine of them fill the journals.
+/// Returns an input with eight routers, and 60 groups that announce and withdraw 4,096 prefixes in turn. About nine of
+/// them fill the journals.
 fn long_journal(alloc: Global) -> Result<String, AllocError> {
     let announced = group(alloc, true)?;
     let withdrawn = group(alloc, false)?;
@@ -151,7 +154,7 @@ fn long_journal(alloc: Global) -> Result<String, AllocError> {
     Ok(text)
 }
 
-/// An input whose run ends at a limit.
+/// Returns an input whose run ends at a limit.
 pub fn input_to(alloc: Global, limit: Limit) -> Result<String, AllocError> {
     match limit {
         Limit::Stream => long_stream(alloc),
@@ -159,7 +162,7 @@ pub fn input_to(alloc: Global, limit: Limit) -> Result<String, AllocError> {
     }
 }
 
-/// Whether this number of events fills a journal, and is how many it has.
+/// Returns whether this number of events fills a journal, and equals the number that the journal has.
 fn is_full(number: &str, journal: u64) -> bool {
     match number.parse::<u64>() {
         Ok(events) => events >= FULL_JOURNAL && events == journal,
@@ -167,7 +170,8 @@ fn is_full(number: &str, journal: u64) -> bool {
     }
 }
 
-/// Adds the line of how a run ended. How many events fill the journals isn't worked out by hand: N stands for a number that it may be.
+/// Appends the line that says how a run ended. The number of events that fill the journals isn't worked out by hand: N
+/// stands for any number that is possible.
 pub fn push_end(text: &mut String, line: &str, lab: &Lab) -> Result<(), NoMemory> {
     match line.strip_prefix("result journal-full events ") {
         Some(number) if is_full(number, lab.journal.len() as u64) => {

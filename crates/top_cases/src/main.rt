@@ -1,6 +1,6 @@
-//! Reads commands, a line each, and prints how each one ends. What the top call's contract says is proved for all words and
-//! sources; these are commands as people type them, worked by hand, each status but 6, for too little memory, and each fault of a source and
-//! a sink.
+//! Reads commands, one a line, and prints how each one ends. The contract of the top call is proved for all words and
+//! sources. These are commands as people type them, worked out by hand, with each status but 6, for too little memory,
+//! and each fault of a source and a sink.
 #![tactic(auto)]
 
 mod case;
@@ -18,7 +18,7 @@ use std::rt::Files;
 use std::thread::Threads;
 use std::{fs, io};
 
-/// The text of a case's input: none, empty lines, one that leads to a limit, or a file.
+/// Returns the text of a case's input: none, empty lines, one that leads to a limit, or a file.
 fn input_of<R: Files + AllocGlobal>(rt: &R, case: &Case<'_>) -> Result<String> {
     if let Some(lines) = case.empty_lines() {
         return Ok("\n".repeat(rt.alloc(), lines as usize)?);
@@ -32,7 +32,8 @@ fn input_of<R: Files + AllocGlobal>(rt: &R, case: &Case<'_>) -> Result<String> {
     }
 }
 
-/// How a case ends. Where it is done by 1, 2, 4 and 8 workers, it is to end in the same way, and each other way is told.
+/// Returns how a case ends. If it is run by 1, 2, 4 and 8 workers, it must end in the same way each time; each other
+/// end is printed.
 fn ends_of<R: Threads + Sync + AllocGlobal>(
     rt: &R,
     case: &Case<'_>,

@@ -15,7 +15,7 @@ fn kind_of(message: &Message) -> &'static str {
     }
 }
 
-/// A line of a story: the message that was put, or the length and the type of the frame that was got.
+/// Appends a line of a story: the message that was put, or the length and the type of the frame that was got.
 fn push_line(text: &mut String, line: &Line) -> Result<(), NoMemory> {
     match line {
         Line::Put(message) => write!(text, " | put {}", kind_of(message))?,
@@ -28,7 +28,7 @@ fn push_line(text: &mut String, line: &Line) -> Result<(), NoMemory> {
     Ok(())
 }
 
-/// How many prefixes a line of a story announces to the remote, and how many it withdraws.
+/// Returns how many prefixes a line of a story announces to the remote, and how many it withdraws.
 fn told_by(line: &Line) -> (usize, usize) {
     match line {
         Line::Put(Message::UpdateMsg(update)) => (update.nlri.len(), update.withdrawn.len()),
@@ -36,7 +36,7 @@ fn told_by(line: &Line) -> (usize, usize) {
     }
 }
 
-/// How many prefixes were announced to all remotes of a run together, and how many were withdrawn.
+/// Appends how many prefixes were announced to all remotes of a run together, and how many were withdrawn.
 pub fn push_told(text: &mut String, lab: &Lab) -> Result<(), NoMemory> {
     let mut announced = 0_usize;
     let mut withdrawn = 0_usize;
@@ -54,7 +54,7 @@ pub fn push_told(text: &mut String, lab: &Lab) -> Result<(), NoMemory> {
     Ok(())
 }
 
-/// The stories of a run, and what each remote received, in hexadecimal.
+/// Appends the stories of a run, and what each remote received, in hexadecimal.
 pub fn push_seen(text: &mut String, lab: &Lab) -> Result<(), NoMemory> {
     for view in &lab.sessions {
         text.push_str("\nstory")?;

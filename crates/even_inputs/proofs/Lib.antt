@@ -1,0 +1,10 @@
+pub mod Lists
+pub mod Meds
+pub mod Timers
+pub mod Readings
+pub mod Announcing
+pub mod Fronts
+pub mod AllRead
+pub mod Joined
+pub mod Solved
+pub mod Worked

@@ -1,0 +1,4 @@
+pub mod PlainPeerings
+pub mod Noted
+pub mod Imports
+pub mod Policies
