@@ -24,7 +24,10 @@ CHAPTERS = [
       "graft_model/OperatorRows", "graft_model/Placements", "graft_model/Evacuations", "evacuation", "graft_model/Decisions",
       "graft_model", "graft_steps", "graft_runs"]),
     ("Claims", "What holds at every moment of a run, and where nothing is left to do: transparent, unchanged, made before broken, solved, emptied.",
-     ["graft_model/Claims", "graft_model/Quiet", "world_runs", "graft_laws", "one_answer", "even_meshes"]),
+     ["graft_model/Claims", "graft_model/Quiet", "world_runs", "graft_laws"]),
+    ("Answers", "The one answer of a settled run: when no session has a timer and MEDs are even, what is read of what remotes say, the tables for given "
+     "places of sessions, and the graft results of a sure input (RFC 4271, section 9.1.2.2 (c)).",
+     ["even_inputs/Laws", "one_answer", "even_inputs", "even_meshes", "sure_inputs", "sure_results", "lab_tables"]),
     ("Clocks", "The order of a journal.", ["run_clocks", "journal_merge"]),
     ("Marks", "What stands behind each round, and how a run goes on and ends.",
      ["run_marks", "lab_run/Ends", "lab_budgets", "settled_check", "world_nodes"]),

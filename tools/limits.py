@@ -4,7 +4,7 @@
     tools/limits.py [--only WORD] [--parts FILE] PROGRAM
 
 Each case is an input, the command that is done on it, and what is to come of it by docs/INPUT.md: the status, and lines that the
-program is to write. With --parts, PROGRAM check is done on each first part of a file as well: it is to write one line with status 0
+program is to write. With --parts, PROGRAM check is done on each first part of a file as well: it is to write two lines with status 0
 or 2. A case that ends otherwise is told, with the lines that it wrote, and the status is 1 then. --only does the cases whose
 names have a word in them.
 """
@@ -330,12 +330,17 @@ def is_told(line, lines):
     return len(numbers) == 1 and numbers[0] >= MOST_EVENTS
 
 
+def is_verdict(status, lines):
+    """Whether check wrote as many lines as it is to: two of an input, the second with its two tests, and else one."""
+    return len(lines) == 1 if status != 0 else len(lines) == 2 and re.fullmatch("even (yes|no) sure (yes|no)", lines[1]) is not None
+
+
 def try_case(program, case):
     """Does a case, and answers whether it ends as it is to."""
     begin = time.monotonic()
     status, lines, said = ended([program, *case.words], case.text)
     missing = [line for line in case.lines if not is_told(line, lines)]
-    is_sound = status == case.status and not said and not missing and (case.words != ["check"] or len(lines) == 1)
+    is_sound = status == case.status and not said and not missing and (case.words != ["check"] or is_verdict(status, lines))
     took = time.monotonic() - begin
     print(f"{'sound' if is_sound else 'WRONG'}: {case.name}: status {status}, {lines[0] if lines else ''} ({took:.1f} s)", flush=True)
     if not is_sound:
@@ -350,7 +355,7 @@ def try_parts(program, name):
     wrong = 0
     for size in range(len(text) + 1):
         status, lines, said = ended([program, "check"], text[:size])
-        is_sound = status in (0, 2) and len(lines) == 1 and not said and lines[0].startswith("ok " if status == 0 else "bad input: ")
+        is_sound = status in (0, 2) and is_verdict(status, lines) and not said and lines[0].startswith("ok " if status == 0 else "bad input: ")
         counts[status] += 1
         if not is_sound:
             wrong += 1
