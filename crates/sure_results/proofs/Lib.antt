@@ -4,3 +4,4 @@ pub mod Outcomes
 pub mod Opening
 pub mod Up
 pub mod Sure
+pub mod Worked
