@@ -26,6 +26,7 @@ use Rattle.real_rounds.proofs.Chain.{rounds_run}
 use Rattle.run_clocks.specs.Laws.{WaysAreClocked}
 use Rattle.silent_rounds.specs.Laws.{SilentWorldsAreQuiet}
 use Rattle.bounded_moves.specs.Laws.{MovesAreBounded}
+use Rattle.one_answer.specs.Laws.{SettledRunsHaveOneAnswer}
 use Rattle.even_inputs.specs.Laws.{SettledWorldsAreTheSolution}
 use Rattle.sure_results.specs.Laws.{SureLaboratoriesHaveResults}
 use Rattle.one_answer.specs.Settled.{IsSettled}
@@ -89,8 +90,9 @@ holds_along transparent unchanged made by_plan setup events w sound run = record
 }
 
 pub labs_tell : WayRan → RunsAreTransparent → AlwaysUnchanged → AlwaysMadeBefore → QuietSolves → AlwaysTransparent → WalksAreShort → WalksLeaveThere → EvacuationsGoByPlan → EmptiedAreLeft
-    → OneAtEachMark → RoundsAreReal → WaysAreClocked → SilentWorldsAreQuiet → MovesAreBounded → SettledWorldsAreTheSolution → SureLaboratoriesHaveResults → LabsTellOfRuns
-labs_tell way_ran transparent unchanged made_before solves always short leave by_plan left one rounds clocked silent bounded answer result lab a z sound alone ranged soon sure tells = record {
+    → OneAtEachMark → RoundsAreReal → WaysAreClocked → SilentWorldsAreQuiet → MovesAreBounded → SettledWorldsAreTheSolution → SettledRunsHaveOneAnswer
+    → SureLaboratoriesHaveResults → LabsTellOfRuns
+labs_tell way_ran transparent unchanged made_before solves always short leave by_plan left one rounds clocked silent bounded answer same result lab a z sound alone ranged soon sure tells = record {
   events = ran.events;
   entries_of = ran.entries_of;
   world = ran.world;
@@ -112,6 +114,7 @@ labs_tell way_ran transparent unchanged made_before solves always short leave by
   quiet = quiet;
   solves = solved;
   answers = λ settled. answer (setup_of lab.input) ran.world sound reached (at_end settled);
+  agrees = λ settled timeless even v there ended alike. same (setup_of lab.input) ran.world v sound timeless reached there (at_end settled) ended alike even;
   results = λ settled is. result (setup_of lab.input) ran.world sound (sure is) reached (at_end settled);
   forwards = λ settled. forwards_as_solved short leave (setup_of lab.input) ran.world lab sound (solved settled)
       (λ p there. always (setup_of lab.input) ran.events ran.world p sound ran.run there) observed;

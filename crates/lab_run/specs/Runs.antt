@@ -21,6 +21,7 @@ use Rattle.world_nodes.specs.Ways.{Stand, Begins}
 use Rattle.run_clocks.specs.Clocks.{AreClocked, clocked_in}
 use Rattle.real_rounds.specs.Whole.{RealRounds, round_by_round}
 use Rattle.graft_laws.specs.Ranges.{IsInRange}
+use Rattle.one_answer.specs.Laws.{IsTheOneAnswer}
 use Rattle.even_inputs.specs.Laws.{IsTheAnswer}
 use Rattle.sure_results.specs.Results.{IsSure, HasResults}
 use Rattle.sure_inputs.specs.Sure.{is_sure}
@@ -51,8 +52,9 @@ pub record HoldsAlong (setup : Setup) (events : List Event) : Type 0 where
 -- The claims hold along the journal, and along the events round by round. Where eight rounds behind a mark have no event, nothing is left to do at it.
 -- A session that is frozen has landed or come back four rounds later, where few items are in its source's channels. Where it is settled, nothing is
 -- left to do in the last world, and the tables solve the decision equations (RFC 4271, section 9.1) for the placement after the accepted grafts. What
--- became of the grafts tells where the sessions are; where no session has a timer and MEDs are even (RFC 4271, section 9.1.2.2 (c)), the tables and
--- sessions are those that the laboratory has for these places; and where the input is sure, its script alone tells what became of the grafts.
+-- became of the grafts tells where the sessions are; where no session has a timer and the input's MEDs are even (RFC 4271, section 9.1.2.2 (c)), the
+-- tables and sessions are those that the laboratory has for these places; where only the MEDs that are left at the end are even, they are those of every
+-- settled run in which the same became of the grafts; and where the input is sure, its script alone tells what became of the grafts.
 -- A packet from whichever router meets at most two routers, and leaves only where the session of that peering is placed; and what evacuate steps gave
 -- to a router is there, unless it was refused, though not for lack of room, or moved again.
 pub record RanIn (setup : Setup) (lab : Lab) : Type 0 where
@@ -74,6 +76,7 @@ pub record RanIn (setup : Setup) (lab : Lab) : Type 0 where
   pub quiet : lab.end ≡ Settled → Quiet setup world
   pub solves : lab.end ≡ Settled → Solves setup world
   pub answers : lab.end ≡ Settled → IsTheAnswer setup world
+  pub agrees : lab.end ≡ Settled → IsTheOneAnswer setup world
   pub results : lab.end ≡ Settled → is_sure lab.input ≡ true → HasResults setup world.operator
   pub forwards : lab.end ≡ Settled → Forwards lab setup world
   pub left : lab.end ≡ Settled → AreEmptied setup world.operator

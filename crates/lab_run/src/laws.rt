@@ -9,6 +9,7 @@ use graft_laws::{
     always_made_before_broken, always_transparent, always_unchanged, emptied_routers_are_left,
     evacuations_go_by_plan, quiet_solves,
 };
+use one_answer::settled_runs_have_one_answer;
 use real_rounds::rounds_are_real;
 use run_clocks::journals_are_clocked;
 use run_marks::marks_stand_for_one_world;
@@ -24,9 +25,10 @@ use world_runs::runs_are_transparent;
 /// along the rounds one after another, each peering is transparent; a refused graft changed no session, and a landing was made before its source's
 /// routes went; and each evacuate step gave by the plan. Where eight rounds behind a mark have no event, nothing was left to do at it; and a session
 /// that is frozen has landed or come back four rounds later, where few items are in its source's channels. Where the run is settled, its last world is
-/// quiet and solves the decision equations; where no session has a timer and MEDs are even, tables and sessions are those that the laboratory has for the
-/// places by the log, and where the laboratory is sure, the log has what the script says; a packet meets at most two routers and leaves where the session
-/// of its peering belongs, and what evacuate steps gave is where they gave it or was refused.
+/// quiet and solves the decision equations; where no session has a timer and the input's MEDs are even, tables and sessions are those that the laboratory
+/// has for the places by the log; where those left at the end are, they are those of every settled run with that log; where the laboratory is sure, the
+/// log has what the script says; a packet meets at most two routers and leaves where the session of its peering belongs, and what evacuate steps gave is
+/// where they gave it or was refused.
 pub(crate) fn labs_tell_of_runs()
     ensures { LabsTellOfRuns }
 {
@@ -45,5 +47,6 @@ pub(crate) fn labs_tell_of_runs()
     silent_worlds_are_quiet();
     moves_are_bounded();
     settled_worlds_are_the_solution();
+    settled_runs_have_one_answer();
     sure_laboratories_have_results();
 }

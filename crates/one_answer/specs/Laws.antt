@@ -7,6 +7,12 @@ use Rattle.even_meshes.specs.Meshes.{IsEven}
 use Rattle.even_meshes.specs.Worlds.{mesh_of}
 use Rattle.one_answer.specs.Settled.{HasNoTimer, IsSettled, HaveOneLog, HaveOneAnswer}
 
+-- Whatever other run of the laboratory is settled with the same log has the same tables and sessions, by whichever events and in whatever order: where no
+-- session has a timer, and routes of one neighbour AS have one MED for each prefix in what sessions have brought in.
+abbrev pub IsTheOneAnswer : Setup → World → Type 0
+IsTheOneAnswer setup w = HasNoTimer setup → ((prefix : PrefixValue) → IsEven (mesh_of setup w prefix))
+    → (v : World) → Reached setup v → IsSettled setup v → HaveOneLog w v → HaveOneAnswer setup w v
+
 -- Two runs of one laboratory, in which no session has a timer, are settled with the same log, and routes of one neighbour AS have one MED for each
 -- prefix. Then they have the same tables, whatever events led there and in whatever order.
 abbrev pub SettledRunsHaveOneAnswer : Type 0
