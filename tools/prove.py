@@ -64,7 +64,7 @@ def lay_out(name, room):
     (room / "crates.txt").write_text("".join(f"{LINE[each]}\n" for each in names))
     shutil.copy2(TOP / "HANDLES", room)
     for each in names:
-        without = None if each != name else shutil.ignore_patterns("out")
+        without = shutil.ignore_patterns("out" if each == name else "incremental")
         shutil.copytree(CRATES / each, room / "crates" / each, copy_function=linked, ignore=without)
 
 
